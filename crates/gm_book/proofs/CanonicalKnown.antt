@@ -1,24 +1,21 @@
 -- The names that the expressions of a canonical form can use: those of the schema and the rule, each with its number.
-use Rattle.std.proofs.Common.{◌≡◌, ℕ, zero, suc, ◌<◌, Bool, true, false, ◌||◌, cond, ltb, List, [], ◌∷◌, length, map, Option, Some, None, is_some, inl, inr, refl, sym, ap, subst, ◌∙◌, arith}
+use Rattle.std.proofs.Common.{◌≡◌, ℕ, ◌<◌, Bool, true, ltb, List, [], ◌∷◌, length, map, Some, refl, sym, ap, ◌∙◌, arith}
 use Rattle.std.specs.Prelude.{slice_get}
 use Rattle.std.specs.List.{position, position_or_len}
 use Rattle.std.specs.Str.{bytes_eq}
-use Rattle.std.proofs.lemmas.Bool.{cases_Bool, lt-ltb}
+use Rattle.std.proofs.lemmas.Bool.{lt-ltb}
 use Rattle.std.proofs.lemmas.Option.{slice_get_within}
-use Rattle.std.proofs.lemmas.Slice.Eq.{bytes_eq-Decides}
 use Rattle.gm_model.specs.declared.rule.Param.{Param}
-use Rattle.gm_model.specs.declared.schema.Embed.{Embed}
 use Rattle.gm_model.specs.declared.schema.Schema.{Schema}
-use Rattle.gm_model.specs.Names.{is_among}
-use Rattle.gm_model.specs.Rules.{Rule, RuleNode, Assignment}
+use Rattle.gm_model.specs.Rules.{Rule, Assignment}
 use Rattle.gm_model.specs.Symbols.{Mark}
-use Rattle.gm_parse.specs.Meaning.{Names, is_named}
+use Rattle.gm_parse.specs.Meaning.{Names}
 use Rattle.gm_expr.proofs.Canonical.{behind}
 use Rattle.gm_expr.specs.Writable.{left_name_of}
 use Rattle.gm_forms.specs.BookText.{ParamForm, RuleForm, nodes_of, node_in, name_if_left, names_for}
-use Rattle.gm_book.proofs.CanonicalForm.{AreNew, node_names, param_names, params_at, behind_param, form_at, IsWritable}
+use Rattle.gm_book.proofs.CanonicalForm.{AreNew, param_names, params_at, behind_param, form_at, IsWritable}
 use Rattle.gm_book.proofs.CanonicalRule.{assigned, nodes_again}
-use Rattle.gm_book.proofs.DifferentNames.{same_bytes, number_there, rest_differ}
+use Rattle.gm_book.proofs.DifferentNames.{number_there}
 
 -- ---- numbers of names that differ
 

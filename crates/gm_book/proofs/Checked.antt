@@ -1,21 +1,19 @@
 -- Where each expression of a rule was read without a fault, and its names outside of expressions are in order, there is no fault in it.
-use Rattle.std.proofs.Common.{◌≡◌, ℕ, ◌+◌, ◌<◌, ◌⊎◌, Bool, true, false, if◌then◌else◌, ◌||◌, inl, inr, List, [], ◌∷◌, ◌++◌, length, get_or, map, take, Option, Some, None, Result, Ok, Err, refl, sym, ap, subst, ◌∙◌}
+use Rattle.std.proofs.Common.{◌≡◌, ℕ, Bool, true, false, if◌then◌else◌, ◌||◌, inl, inr, List, [], ◌∷◌, ◌++◌, map, Option, Some, None, Result, Ok, Err, refl, sym, ap, subst, ◌∙◌}
 use Rattle.std.specs.List.{AllZip, Contains}
 use Rattle.std.specs.Option.{unwrap_or}
 use Rattle.std.specs.Str.{bytes_eq}
-use Rattle.std.specs.Prelude.{IfOk}
-use Rattle.std.specs.Result.{MatchResult, result_err}
+use Rattle.std.specs.Result.{MatchResult}
 use Rattle.std.proofs.lemmas.Bool.{cases_Bool}
 use Rattle.std.proofs.lemmas.List.Elements.{Contains-append_left, Contains-append_right, Contains-append_cases}
 use Rattle.gm_model.specs.declared.rule.Param.{Param}
-use Rattle.gm_model.specs.declared.rule.RuleTable.{RuleTable}
 use Rattle.gm_model.specs.declared.schema.Embed.{Embed}
-use Rattle.gm_model.specs.Names.{Mention, is_among}
-use Rattle.gm_model.specs.Rules.{Rule, RuleNode, Assignment, rule_of}
+use Rattle.gm_model.specs.Names.{is_among}
+use Rattle.gm_model.specs.Rules.{RuleNode, Assignment}
 use Rattle.gm_model.specs.Trees.{Tree}
 use Rattle.gm_text.specs.SchemaText.{names_in}
 use Rattle.gm_parse.specs.Meaning.{Names}
-use Rattle.gm_forms.specs.BookText.{SetForm, Item, NodeItem, LinkItem, RuleForm, names_of, names_for, nodes_in, nodes_of, assignments_in, sets_of, sets_in, kind_of_embed, param_of, MeansSet, MeansRule}
+use Rattle.gm_forms.specs.BookText.{SetForm, Item, NodeItem, LinkItem, RuleForm, names_of, names_for, nodes_in, nodes_of, assignments_in, sets_of, sets_in, kind_of_embed, node_in, param_of, MeansSet}
 use Rattle.gm_forms.proofs.Contained.{contains_cases, contains_none}
 use Rattle.gm_book.specs.declared.names.NameFault.{NameFault}
 use Rattle.gm_book.specs.declared.names.NameFault.TheVariants.{Twice, Unknown}
@@ -25,8 +23,7 @@ use Rattle.gm_book.proofs.Among.{own_name, same_name, or_true, among_items}
 use Rattle.gm_book.proofs.CanonicalForm.{AreNew}
 use Rattle.gm_book.proofs.DifferentNames.{new_mentions, not_both, rest_differ}
 use Rattle.gm_book.proofs.LeastFault.{NamesFault, rule_is_least}
-use Rattle.gm_book.proofs.LeastOf.{least_with_none}
-use Rattle.gm_book.proofs.ReadSets.{IsAssigned, zip_more}
+use Rattle.gm_book.proofs.ReadSets.{IsAssigned}
 use Rattle.gm_book.proofs.RuleFaults.{node_of_set, again_from, parts_of_one, there_in_one}
 use Rattle.gm_book.proofs.RuleNames.{rule_names_counted}
 
@@ -72,6 +69,14 @@ module _ (n : ℕ) (embeds : List Embed) (params : List Param) (names : Names) w
       | inl same ↦ (let e : name ≡ label = same_name name label same in sets_sound (sets_in rule.right label) node.sets all.0.sets fault (subst (λ (x : List ℕ). IsSetFault n embeds params names (sets_in rule.right x) fault) e h))
       | inr other ↦ nodes_sound labels nodes all.1 name (ap (λ b. b || is_among labels name) (sym other) ∙ among) fault h
     ]
+
+  pub node_sound : (rule : RuleForm) (name : List ℕ) (node : RuleNode) (sets : List Assignment) → node ≡ node_in rule (λ _. sets) name → AllZip (IsSoundSet n embeds params names) (sets_in rule.right name) sets → IsSoundNode n embeds params names rule name node
+  node_sound rule name node sets is all =
+      let same : sets ≡ node.sets = sym (ap (λ (made : RuleNode). made.sets) is) in
+      record {
+        sets = subst (AllZip (IsSoundSet n embeds params names) (sets_in rule.right name)) same all;
+        same = is ∙ ap (λ (made : List Assignment). node_in rule (λ _. made) name) same;
+      }
 
 -- what was read under the names that were lent
 module _ (n : ℕ) (embeds : List Embed) (rule : RuleForm) (params : List Param) (names : Names) (declared : params ≡ map param_of rule.params) (same : names ≡ names_for embeds rule) where
@@ -178,19 +183,10 @@ earlier_or (Some other) fault = go (is_before fault other) refl
     go true is = rw is refl
     go false is = rw is refl
 
-never_less : (old : Option NameFault) (fault : NameFault) → least_of old (Some fault) ≡ None → ⊥
+pub never_less : (old : Option NameFault) (fault : NameFault) → least_of old (Some fault) ≡ None → ⊥
 never_less None fault none = absurd cc
 never_less (Some other) fault none = go (is_before fault other) refl
   where
     go : (b : Bool) → is_before fault other ≡ b → ⊥
     go true is = let e : Some fault ≡ None = ap (λ b. if b then Some fault else Some other) (sym is) ∙ none in absurd cc
     go false is = let e : Some other ≡ None = ap (λ b. if b then Some fault else Some other) (sym is) ∙ none in absurd cc
-
--- one more table, where there is no fault so far
-module _ {X : Type 0} (R : RuleForm → Rule → Type 0) (form_of : X → RuleForm) (rules : List X) (i : ℕ) (rule default : X) (inside : i < length rules) (is : rule ≡ get_or rules i default) (tables new : List RuleTable) where
-  pub more_tables : (found : Result RuleTable NameFault) (old fault : Option NameFault) → fault ≡ least_of old (result_err found) → MatchResult found (λ table. new ≡ tables ++ table ∷ []) (λ _. new ≡ tables) → IfOk found (λ table. R (form_of rule) (rule_of table))
-      → (old ≡ None → AllZip R (map form_of (take i rules)) (map rule_of tables)) → fault ≡ None → AllZip R (map form_of (take (i + 1) rules)) (map rule_of new)
-  more_tables (Ok table) old fault said held means so_far none =
-      let before : old ≡ None = sym (least_with_none old) ∙ sym said ∙ none in
-      zip_more R form_of rule_of rules tables new i rule default table inside is (so_far before) means held
-  more_tables (Err found) old fault said held means so_far none = absurd (never_less old found (sym said ∙ none))

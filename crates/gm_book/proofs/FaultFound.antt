@@ -13,7 +13,6 @@ use Rattle.gm_model.specs.Symbols.{Symbol}
 use Rattle.gm_model.specs.Trees.{Tree}
 use Rattle.gm_text.specs.SchemaText.{names_in, is_again, schema_of, spell}
 use Rattle.gm_text.specs.SchemaText as schemas
-use Rattle.gm_parse.specs.declared.fault.ExprFault.TheVariants as exprs
 use Rattle.gm_parse.specs.Meaning.{Names, faults_in, tree_in}
 use Rattle.gm_parse.specs.Meaning as meaning
 use Rattle.gm_tree.specs.Building.{noted}
@@ -28,7 +27,7 @@ use Rattle.gm_book.specs.Values.{HasKind}
 use Rattle.gm_book.proofs.LeastFault.{least_joined, least_alone}
 use Rattle.gm_book.proofs.OneValue.{AreWithin}
 use Rattle.gm_book.proofs.RuleFaults.{least_in_rule, least_of_rule, least_behind, none_behind, least_of_all}
-use Rattle.gm_book.proofs.ValueFaults.{name_fault_is_least, no_fault_is_least, other_kind_is_least, no_set, least_of_sets, least_of_values}
+use Rattle.gm_book.proofs.ValueFaults.{first_is_least, no_fault_is_least, other_kind_is_least, no_set, least_of_sets, least_of_values}
 use Rattle.gm_book.proofs.ValuesWithin.{AreSetsWithin, IsPreWithin}
 
 abbrev pub HasLeast : (NameFault → Type 0) → Type 0
@@ -66,11 +65,11 @@ module _ (n : ℕ) (top : n ≤ 7) (embeds : List Embed) (params : List Param) (
       go None e = known_found (noted_none (faults_in names form) e)
       go (Some (meaning.UnknownAt place)) e = (
         Some (Unknown place),
-        name_fault_is_least n embeds params names top tokens within kind (exprs.Unknown place) (record { form = form; value = value; first = first_fault names form (meaning.UnknownAt place) e }) (Unknown place) refl,
+        first_is_least n embeds params names top tokens within kind (meaning.UnknownAt place) (Unknown place) refl (record { form = form; value = value; first = first_fault names form (meaning.UnknownAt place) e }),
       )
       go (Some (meaning.TwiceAt place)) e = (
         Some (Twice place),
-        name_fault_is_least n embeds params names top tokens within kind (exprs.Twice place) (record { form = form; value = value; first = first_fault names form (meaning.TwiceAt place) e }) (Twice place) refl,
+        first_is_least n embeds params names top tokens within kind (meaning.TwiceAt place) (Twice place) refl (record { form = form; value = value; first = first_fault names form (meaning.TwiceAt place) e }),
       )
 
   sets_found : (sets : List SetForm) → AreSetsWithin sets → AllByRecursion (IsSet n) sets → HasLeast (IsSetFault n embeds params names sets)

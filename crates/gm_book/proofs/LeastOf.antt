@@ -1,6 +1,7 @@
 -- Of two faults the one that counts first.
-use Rattle.std.proofs.Common.{◌≡◌, ℕ, ◌+◌, ◌*◌, ◌≤◌, Bool, true, false, ltb, eqb, inl, inr, Option, Some, None, refl, sym, ◌∙◌, arith}
+use Rattle.std.proofs.Common.{◌≡◌, ℕ, ◌+◌, ◌*◌, ◌<◌, ◌≤◌, Bool, true, false, ltb, eqb, inl, inr, List, ◌∷◌, length, get_or, map, drop, Option, Some, None, refl, sym, ap, ◌∙◌, arith}
 use Rattle.std.proofs.lemmas.Bool.{ltb-true, ltb-false, lt-ltb, le-ltb, eqb-true, eqb-false, cases_Bool}
+use Rattle.gm_book.proofs.Onward.{left_on}
 use Rattle.gm_forms.specs.BookText.{IsNotAfter, place_of, rank_of}
 use Rattle.gm_book.specs.declared.names.NameFault.{NameFault}
 use Rattle.gm_book.specs.declared.names.NameFault.TheVariants.{Twice, Unknown, WrongKind}
@@ -72,3 +73,12 @@ least_regrouped (Some a) (Some b) (Some c) = go (is_before b a) refl (is_before 
     go false p true q z r = rw (p, q) refl
     go false p false q true r = absurd (omega (arith, ltb-false _ _ (sym (before_order b a) ∙ p), ltb-false _ _ (sym (before_order c b) ∙ q), ltb-true _ _ (sym (before_order c a) ∙ r)))
     go false p false q false r = rw (p, q, r, p) refl
+
+-- ---- the least of a list, as a loop finds it
+
+module _ {X A : Type 0} (f : X → A) (pick : List A → Option NameFault) (xs : List X) (k : ℕ) (fault whole : Option NameFault) where
+  pub least_on : (x : X) (one rest later : Option NameFault) → k < length xs → x ≡ get_or xs k x → pick (f x ∷ map f (drop (k + 1) xs)) ≡ least_of one rest → later ≡ least_of fault one
+      → least_of fault (pick (map f (drop k xs))) ≡ whole → least_of later rest ≡ whole
+  least_on x one rest later inside is picks said so_far =
+      ap (λ (first : Option NameFault). least_of first rest) said ∙ least_regrouped fault one rest ∙ ap (least_of fault) (sym picks)
+      ∙ ap (λ ys. least_of fault (pick (map f ys))) (sym (left_on xs k x inside is)) ∙ so_far

@@ -6,11 +6,14 @@ use Rattle.std.proofs.lemmas.Grind.{flat_map-append}
 use Rattle.std.proofs.lemmas.List.{take_more, append-nil, length-take-le, length-map, get_or-map, drop_more}
 use Rattle.std.proofs.lemmas.List.Elements.{filter-append, All-from_recursion}
 use Rattle.std.proofs.lemmas.Bool.{ne_eqb, eq-eqb}
-use Rattle.std.proofs.lemmas.Option.{get_or_from_slice_get}
+use Rattle.std.proofs.lemmas.Option.{get_or_from_slice_get, slice_get_read, slice_get-map}
+use Rattle.std.specs.Option.{option_map, unwrap_or}
 use Rattle.gm_model.specs.declared.word.Letter.{Letter}
 use Rattle.gm_model.specs.declared.rule.Node.{Node}
+use Rattle.gm_model.specs.declared.schema.Embed.{Embed}
 use Rattle.gm_model.specs.declared.schema.Schema.{Schema}
-use Rattle.gm_model.specs.Rules.{Rule, RuleNode, node_of}
+use Rattle.gm_model.specs.Rules.{Rule, RuleNode, node_of, name_at}
+use Rattle.gm_expr.specs.ExprText.{embed_name}
 use Rattle.gm_book.specs.Canonical.{letter_text, letters_text, left_lines, right_line}
 use Rattle.gm_book.specs.Printing.{left_line}
 
@@ -104,3 +107,19 @@ mapped_more g f xs k d start text after within before last =
 pub each_at : {X Y : Type 0} (P : Y → Type 0) (g : X → Y) (xs : List X) (k : ℕ) (d : X) → k < length xs → AllByRecursion P (map g xs) → P (g (get_or xs k d))
 each_at P g xs k d within all =
     subst P (get_or-map g xs k d (g d) within) (All-from_recursion P (map g xs) all k (g d) (omega (arith, length-map xs g, within)))
+
+-- ---- parts of a line
+
+-- one part more behind what was put since the start
+pub put_more : (start before put text a b : List ℕ) → before ≡ start ++ put → text ≡ before ++ a → a ≡ b → text ≡ start ++ (put ++ b)
+put_more start before put text a b begun is same = is ∙ ap (λ first. first ++ a) begun ∙ append_assoc start put a ∙ ap (λ part. start ++ (put ++ part)) same
+
+-- the name of a node by its number
+pub node_named : (nodes : List Node) (k : ℕ) (node : Node) → k < length nodes → node ≡ get_or nodes k node → node.name ≡ name_at (map node_of nodes) k
+node_named nodes k node inside is =
+    let there : slice_get (map node_of nodes) k ≡ Some (node_of node) = slice_get-map node_of nodes k ∙ ap (option_map node_of) (slice_get_read nodes (length nodes) k node refl inside is) in
+    sym (ap (λ (found : Option RuleNode). unwrap_or (option_map (λ (n : RuleNode). n.name) found) []) there)
+
+-- and that of an embedding
+pub embed_named : (embeds : List Embed) (k : ℕ) (embed : Embed) → k < length embeds → embed ≡ get_or embeds k embed → embed.name ≡ embed_name embeds k
+embed_named embeds k embed inside is = sym (ap (λ (found : Option Embed). unwrap_or (option_map (λ (e : Embed). e.name) found) []) (slice_get_read embeds (length embeds) k embed refl inside is))

@@ -1,6 +1,5 @@
 -- The least fault of an expression, of assignments and of a rule's expressions.
 use Rattle.std.proofs.Common.{◌≡◌, ◌≤◌, ℕ, ◌⊎◌, inl, inr, List, [], ◌∷◌, ◌++◌, map, Option, Some, None, refl, sym, ap, subst, ◌∙◌, arith}
-use Rattle.std.proofs.lemmas.List.{append-nil}
 use Rattle.std.proofs.lemmas.List.Elements.{Contains-append_left, Contains-append_right, Contains-append_cases}
 use Rattle.std.specs.List.{Contains}
 use Rattle.gm_model.specs.declared.rule.Param.{Param}
@@ -8,16 +7,14 @@ use Rattle.gm_model.specs.declared.schema.Embed.{Embed}
 use Rattle.gm_model.specs.declared.value.Kind.{Kind}
 use Rattle.gm_model.specs.Kinds.{tree_kind, param_kinds}
 use Rattle.gm_model.specs.Trees.{Tree}
-use Rattle.gm_parse.specs.declared.fault.ExprFault.{ExprFault}
-use Rattle.gm_parse.specs.declared.fault.ExprFault.TheVariants as faults
 use Rattle.gm_parse.specs.Meaning as meaning
 use Rattle.gm_parse.specs.Meaning.{Names, UnknownAt, TwiceAt, faults_in, tree_in}
-use Rattle.gm_forms.specs.BookText.{ExprToken, SetForm, Item, NodeItem, LinkItem, RuleForm, IsNotAfter, fault_in_value, first_place, assignments_in, kind_of_embed, names_for, param_of}
+use Rattle.gm_forms.specs.BookText.{ExprToken, SetForm, Item, RuleForm, IsNotAfter, fault_in_value, first_place, assignments_in, kind_of_embed, names_for, param_of}
 use Rattle.gm_forms.proofs.Contained.{contains_cases, contains_here, contains_behind, contains_none}
 use Rattle.gm_book.specs.declared.names.NameFault.{NameFault}
-use Rattle.gm_book.specs.declared.names.NameFault.TheVariants.{Twice, Unknown, WrongKind}
+use Rattle.gm_book.specs.declared.names.NameFault.TheVariants.{WrongKind}
 use Rattle.gm_book.specs.FirstNameFault.{fault_of, IsLeast, least_of, IsFaultOfExpr, IsOtherKind, IsValueFault, IsSetFault, IsAssignedFault, IsPreFault, IsFaultOfValues}
-use Rattle.gm_book.specs.Values.{HasKind, IsOfNames, IsValueRead, HasFirstFault, IsReadFault}
+use Rattle.gm_book.specs.Values.{HasKind, IsValueRead, HasFirstFault}
 use Rattle.gm_book.proofs.LeastFault.{least_joined}
 use Rattle.gm_book.proofs.LeastOf.{not_after, order_of}
 use Rattle.gm_book.proofs.OneValue.{AreWithin, one_tree, no_fault_of_other, first_of_other}
@@ -34,7 +31,7 @@ module _ (n : ℕ) (embeds : List Embed) (params : List Param) (names : Names) (
   abbrev IsFault : NameFault → Type 0
   IsFault fault = IsValueFault n embeds params names tokens kind fault
 
-  first_is_least : (first : meaning.NameFault) (fault : NameFault) → fault_of fault ≡ fault_in_value first → HasFirstFault n names tokens first → IsLeast IsFault (Some fault)
+  pub first_is_least : (first : meaning.NameFault) (fault : NameFault) → fault_of fault ≡ fault_in_value first → HasFirstFault n names tokens first → IsLeast IsFault (Some fault)
   first_is_least first fault is has = (inl (has.form, has.value, first, has.first.there, is), others)
     where
       others : (f : NameFault) → IsFault f → IsNotAfter (fault_of fault) (fault_of f)
@@ -44,11 +41,6 @@ module _ (n : ℕ) (embeds : List Embed) (params : List Param) (names : Names) (
       others f (inr other) =
           let none : faults_in names has.form ≡ [] = no_fault_of_other n names top tokens within other.form has.form other.value has.value other.known in
           absurd (contains_none first (subst (λ (faults : List meaning.NameFault). Contains faults first) none has.first.there))
-
-  pub name_fault_is_least : (fault : ExprFault) → IsReadFault n names tokens fault → (found : NameFault) → IsOfNames fault found → IsLeast IsFault (Some found)
-  name_fault_is_least (faults.Unknown place) has found is = subst (λ (f : NameFault). IsLeast IsFault (Some f)) (sym is) (first_is_least (UnknownAt place) (Unknown place) refl has)
-  name_fault_is_least (faults.Twice place) has found is = subst (λ (f : NameFault). IsLeast IsFault (Some f)) (sym is) (first_is_least (TwiceAt place) (Twice place) refl has)
-  name_fault_is_least faults.OutOfMemory has found is = absurd is
 
   module _ (tree : Tree) (read : IsValueRead n names tokens tree) where
     known : (f : NameFault) → IsFaultOfExpr n names tokens f → ⊥
@@ -123,14 +115,10 @@ module _ (n : ℕ) (embeds : List Embed) (params : List Param) (names : Names) w
     pub least_of_both : (first others : Option NameFault) → IsLeast (OfSets front) first → IsLeast (OfSets behind) others → IsLeast (OfSets (front ++ behind)) (least_of first others)
     least_of_both first others p q = least_joined {P = OfSets front} {Q = OfSets behind} {R = OfSets (front ++ behind)} both_cases both_front both_behind first others p q
 
-  item_first : (item : Item) (items : List Item) → assignments_in (item ∷ items) ≡ assignments_in (item ∷ []) ++ assignments_in items
-  item_first (NodeItem node word hook sets) items = ap (λ (ss : List SetForm). ss ++ assignments_in items) (sym (append-nil sets))
-  item_first (LinkItem from label to) items = refl
-
-  pub least_of_items : (item : Item) (items : List Item) (first others : Option NameFault) → IsLeast (IsAssignedFault n embeds params names (item ∷ [])) first → IsLeast (IsAssignedFault n embeds params names items) others
-      → IsLeast (IsAssignedFault n embeds params names (item ∷ items)) (least_of first others)
-  least_of_items item items first others p q =
-      subst (λ (sets : List SetForm). IsLeast (OfSets sets) (least_of first others)) (sym (item_first item items)) (least_of_both (assignments_in (item ∷ [])) (assignments_in items) first others p q)
+  pub least_of_items : (sets : List SetForm) (item : Item) (items : List Item) (first others : Option NameFault) → assignments_in (item ∷ items) ≡ sets ++ assignments_in items → IsLeast (OfSets sets) first
+      → IsLeast (IsAssignedFault n embeds params names items) others → IsLeast (IsAssignedFault n embeds params names (item ∷ items)) (least_of first others)
+  least_of_items sets item items first others is p q =
+      subst (λ (all : List SetForm). IsLeast (OfSets all) (least_of first others)) (sym is) (least_of_both sets (assignments_in items) first others p q)
 
 -- ---- of a rule
 

@@ -11,8 +11,6 @@ use Rattle.gm_parse.specs.Forms.{Form}
 use Rattle.gm_parse.specs.Meaning as meaning
 use Rattle.gm_parse.specs.Meaning.{Names, UnknownAt, TwiceAt, faults_in, tree_in, IsFirstFault}
 use Rattle.gm_forms.specs.BookText.{ExprToken, IsValue}
-use Rattle.gm_book.specs.declared.names.NameFault.{NameFault}
-use Rattle.gm_book.specs.declared.names.NameFault.TheVariants.{Twice, Unknown}
 
 -- the tree has the kind, where one is needed
 abbrev pub HasKind : List Embed → List Param → Option Kind → Tree → Type 0
@@ -37,9 +35,3 @@ abbrev pub IsReadFault : ℕ → Names → List ExprToken → ExprFault → Type
 IsReadFault n names tokens (faults.Unknown place) = HasFirstFault n names tokens (UnknownAt place)
 IsReadFault n names tokens (faults.Twice place) = HasFirstFault n names tokens (TwiceAt place)
 IsReadFault n names tokens faults.OutOfMemory = Unit {0}
-
--- the fault of an expression is this one of the rules' names
-abbrev pub IsOfNames : ExprFault → NameFault → Type 0
-IsOfNames (faults.Unknown place) found = found ≡ Unknown place
-IsOfNames (faults.Twice place) found = found ≡ Twice place
-IsOfNames faults.OutOfMemory found = ⊥

@@ -1,6 +1,6 @@
 //! The book of a schema and of rules that are written in a text. Each expression of a book without a
 //! fault is built once.
-ghost use Rattle.std.specs.Prelude.{◌≡◌, ◌++◌, ◌∷◌, [], map, None, IfOk, IfErr, OnOk, MatchResult};
+ghost use Rattle.std.specs.Prelude.{◌≡◌, [], map, None, IfOk, IfErr, OnOk, MatchResult};
 ghost use Rattle.std.specs.List.{AllByRecursion, AllZip};
 ghost use Rattle.std.specs.Result.{result_err};
 ghost use Rattle.gm_model.specs.Maps.{IsSchema};
@@ -9,7 +9,7 @@ ghost use Rattle.gm_forms.specs.BookText.{MeansRule, with_name};
 ghost use Rattle.gm_forms.specs.Forms.{IsRuleIn, AreRulesIn, rule_form_of, forms_of};
 ghost use Rattle.gm_forms.specs.Held.{names_held};
 ghost use Rattle.gm_book.specs.Building.{HasNoFaultInRules, IsFaultOfNames, IsSoundRule};
-ghost use Rattle.gm_book.specs.FirstNameFault.{IsLeast, least_of, IsFaultInRule, IsRuleFault, IsFaultBehind};
+ghost use Rattle.gm_book.specs.FirstNameFault.{IsLeast, IsFaultInRule, IsRuleFault, IsFaultBehind};
 ghost use Rattle.gm_book.specs.Fitting.{IsFitting, HasExprs};
 
 use crate::fault::BookFault;
@@ -93,55 +93,51 @@ fn named_table<'t>(
     }
 }
 
-/// The tables of the rules, and their first fault, where there is one.
-#[derive(Drop)]
-struct Tables {
-    tables: Vec<RuleTable>,
-    fault: Option<NameFault>,
-}
-
-impl Tables {
-    /// Takes in the table of a further rule, or its first fault.
-    fn take(&mut self, found: Result<RuleTable, NameFault>) -> Result<(), OutOfMemory>
-        ensures tables { OnOk result (MatchResult found (λ table. self.new.tables.items ≡ self.old.tables.items ++ table ∷ []) (λ _. self.new.tables.items ≡ self.old.tables.items)) }
-        ensures fault { OnOk result (self.new.fault ≡ least_of self.old.fault (result_err found)) }
-    {
-        match found {
-            Ok(table) => {
-                self.tables.push(table)?;
-                Ok(())
-            }
-            Err(fault) => {
-                self.fault = earlier(self.fault, Some(fault));
-                Ok(())
-            }
+/// The tables of the rules, which stand behind rules with these names, or the first of their faults.
+fn read_tables_behind<'t>(
+    alloc: Global,
+    names: &mut IndexSet<NameKey<'t>>,
+    text: &'t [u8],
+    schema: &Schema,
+    rules: &[RuleForm],
+) -> Result<Result<Vec<RuleTable>, NameFault>, OutOfMemory>
+    requires within { AllByRecursion (IsRuleIn text.now) rules.now }
+    requires schema { IsSchema schema.now }
+    requires fits { AllByRecursion (IsFitting schema.now.dim) (map (rule_form_of text.now) rules.now) }
+    requires exprs { AllByRecursion (HasExprs schema.now.dim) (map (rule_form_of text.now) rules.now) }
+    ensures tables { IfOk result (λ read. IfOk read (λ tables. AllZip (MeansRule schema.now.dim schema.now.embeds) (map (rule_form_of text.now) rules.now) (map rule_of tables.items))) }
+    ensures fault { IfOk result (λ read. IsLeast (IsFaultBehind schema.now.dim schema.now.embeds (names_held names.old) (map (rule_form_of text.now) rules.now)) (result_err read)) }
+{
+    let mut tables = Vec::new(alloc);
+    let mut first = None;
+    for rule in rules {
+        match named_table(alloc, names, text, schema, rule)? {
+            Ok(table) => tables.push(table)?,
+            Err(fault) => first = earlier(first, Some(fault)),
         }
+    }
+    match first {
+        Some(fault) => Ok(Err(fault)),
+        None => Ok(Ok(tables)),
     }
 }
 
+/// The tables of the rules, or the first of their faults.
 fn read_tables(
     alloc: Global,
     text: &[u8],
     schema: &Schema,
     rules: &[RuleForm],
-) -> Result<Tables, OutOfMemory>
+) -> Result<Result<Vec<RuleTable>, NameFault>, OutOfMemory>
     requires within { AllByRecursion (IsRuleIn text.now) rules.now }
     requires schema { IsSchema schema.now }
     requires fits { AllByRecursion (IsFitting schema.now.dim) (map (rule_form_of text.now) rules.now) }
     requires exprs { AllByRecursion (HasExprs schema.now.dim) (map (rule_form_of text.now) rules.now) }
-    ensures tables { IfOk result (λ made. made.fault ≡ None → AllZip (MeansRule schema.now.dim schema.now.embeds) (map (rule_form_of text.now) rules.now) (map rule_of made.tables.items)) }
-    ensures fault { IfOk result (λ made. IsLeast (IsFaultBehind schema.now.dim schema.now.embeds [] (map (rule_form_of text.now) rules.now)) made.fault) }
+    ensures tables { IfOk result (λ read. IfOk read (λ tables. AllZip (MeansRule schema.now.dim schema.now.embeds) (map (rule_form_of text.now) rules.now) (map rule_of tables.items))) }
+    ensures fault { IfOk result (λ read. IsLeast (IsFaultBehind schema.now.dim schema.now.embeds [] (map (rule_form_of text.now) rules.now)) (result_err read)) }
 {
     let mut names = IndexSet::new(alloc);
-    let mut made = Tables {
-        tables: Vec::new(alloc),
-        fault: None,
-    };
-    for rule in rules {
-        let found = named_table(alloc, &mut names, text, schema, rule)?;
-        made.take(found)?;
-    }
-    Ok(made)
+    read_tables_behind(alloc, &mut names, text, schema, rules)
 }
 
 /// The book of the rules over the schema. A fault is the first of the rules' names.
@@ -162,13 +158,12 @@ pub(crate) fn build(
     ensures sound { IfOk result (λ _. HasNoFaultInRules schema.dim schema.embeds (forms_of text.now forms.items)) }
     ensures fault { IfErr result (IsFaultOfNames schema.dim schema.embeds (forms_of text.now forms.items)) }
 {
-    let Tables { tables, fault } = read_tables(alloc, text, &schema, &forms)?;
-    if let Some(fault) = fault {
-        return Err(BookFault::from(fault));
+    match read_tables(alloc, text, &schema, &forms)? {
+        Ok(tables) => Ok(Book {
+            version,
+            schema,
+            rules: Items::new(tables),
+        }),
+        Err(fault) => Err(BookFault::from(fault)),
     }
-    Ok(Book {
-        version,
-        schema,
-        rules: Items::new(tables),
-    })
 }

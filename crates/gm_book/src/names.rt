@@ -1,15 +1,14 @@
 //! The first fault of the names of rules.
 //!
 //! The least place counts. So no pass ends the others, and each answers its own least fault.
-ghost use Rattle.std.specs.Prelude.{◌≡◌, [], not, map, IfOk, OnOk};
+ghost use Rattle.std.specs.Prelude.{◌≡◌, [], map, IfOk, OnOk};
 ghost use Rattle.std.specs.List.{AllByRecursion};
 ghost use Rattle.gm_model.specs.Maps.{IsSchema};
-ghost use Rattle.gm_model.specs.Names.{is_among};
 ghost use Rattle.gm_forms.specs.BookText.{with_name};
 ghost use Rattle.gm_model.specs.Tokens.{bytes_of};
-ghost use Rattle.gm_forms.specs.Forms.{IsIn, IsSetIn, set_form_of, IsItemIn, IsParamIn, IsRuleIn, AreRulesIn, mention_of, item_of, param_form_of, rule_form_of, forms_of};
+ghost use Rattle.gm_forms.specs.Forms.{IsIn, IsSetIn, set_form_of, IsItemIn, IsParamIn, IsRuleIn, mention_of, item_of, param_form_of, rule_form_of};
 ghost use Rattle.gm_forms.specs.Held.{names_held};
-ghost use Rattle.gm_book.specs.FirstNameFault.{least_of, again_at, place_at, with_item, again_in, with_items, least_again, unknown_at, unknown_in, least_unknown, side_least, least_param, embed_names, least_set, set_in, least_assigned, rank_at, is_before, rule_least, IsLeast, IsFaultInRule, IsRuleFault, IsFaultBehind, IsLeastFault};
+ghost use Rattle.gm_book.specs.FirstNameFault.{least_of, again_at, place_at, with_items, least_again, unknown_at, least_unknown, side_least, least_param, embed_names, least_set, least_assigned, rank_at, is_before, rule_least, IsLeast, IsFaultInRule};
 ghost use Rattle.gm_book.specs.Fitting.{IsFitting, HasExprs};
 
 use crate::values::{embed_number, values_fault};
@@ -33,31 +32,24 @@ pub(crate) enum NameFault {
 }
 
 impl NameFault {
-    fn place(self) -> usize
-        ensures { result ≡ place_at self }
+    /// Where it stands, and its rank among the faults that stand there.
+    fn place_and_rank(self) -> (usize, u8)
+        ensures place { result.0 ≡ place_at self }
+        ensures rank { result.1 ≡ rank_at self }
     {
         match self {
-            NameFault::Twice { place }
-            | NameFault::Unknown { place }
-            | NameFault::WrongKind { place } => place,
-        }
-    }
-
-    /// The order in which faults at one place count.
-    fn rank(self) -> u8
-        ensures { result ≡ rank_at self }
-    {
-        match self {
-            NameFault::Twice { .. } => 0,
-            NameFault::Unknown { .. } => 1,
-            NameFault::WrongKind { .. } => 2,
+            NameFault::Twice { place } => (place, 0),
+            NameFault::Unknown { place } => (place, 1),
+            NameFault::WrongKind { place } => (place, 2),
         }
     }
 
     fn is_before(self, other: NameFault) -> bool
         ensures { result ≡ is_before self other }
     {
-        self.place() < other.place() || self.place() == other.place() && self.rank() < other.rank()
+        let (place, rank) = self.place_and_rank();
+        let (other_place, other_rank) = other.place_and_rank();
+        place < other_place || place == other_place && rank < other_rank
     }
 }
 
@@ -80,15 +72,6 @@ pub(crate) fn earlier(fault: Option<NameFault>, other: Option<NameFault>) -> Opt
     }
 }
 
-/// Takes the name into the table. Whether it is new there.
-fn insert<'t>(table: &mut IndexSet<NameKey<'t>>, name: &'t [u8]) -> Result<bool, OutOfMemory>
-    ensures held { OnOk result (names_held table.new ≡ with_name (names_held table.old) name.now) }
-    ensures added { IfOk result (λ added. added ≡ not (is_among (names_held table.old) name.now)) }
-{
-    let (_, added) = table.insert_full(NameKey { bytes: name })?;
-    Ok(added)
-}
-
 /// Takes the name into the table. A fault is that it was there.
 pub(crate) fn take_in<'t>(
     table: &mut IndexSet<NameKey<'t>>,
@@ -100,25 +83,9 @@ pub(crate) fn take_in<'t>(
     ensures fault { IfOk result (λ fault. fault ≡ again_at (names_held table.old) (mention_of text.now name.now)) }
 {
     let place = name.start;
-    if insert(table, bytes_in(text, name))? {
-        return Ok(None);
-    }
-    Ok(Some(NameFault::Twice { place }))
-}
-
-fn take_in_item<'t>(
-    table: &mut IndexSet<NameKey<'t>>,
-    text: &'t [u8],
-    item: &Item,
-) -> Result<Option<NameFault>, OutOfMemory>
-    requires { IsItemIn text.now item.now }
-    ensures held { OnOk result (names_held table.new ≡ with_item (names_held table.old) (item_of text.now item.now)) }
-    ensures fault { IfOk result (λ fault. fault ≡ again_in (names_held table.old) (item_of text.now item.now)) }
-{
-    match item {
-        Item::Node { name, .. } => take_in(table, text, name),
-        Item::Link { .. } => Ok(None),
-    }
+    let bytes = bytes_in(text, name);
+    let (_, added) = table.insert_full(NameKey { bytes })?;
+    Ok((!added).then_some(NameFault::Twice { place }))
 }
 
 /// Takes the names of the nodes into the table. The fault is the first name that was there.
@@ -133,7 +100,9 @@ pub(crate) fn take_in_nodes<'t>(
 {
     let mut fault = None;
     for item in items {
-        fault = earlier(fault, take_in_item(table, text, item)?);
+        if let Item::Node { name, .. } = item {
+            fault = earlier(fault, take_in(table, text, name)?);
+        }
     }
     Ok(fault)
 }
@@ -151,51 +120,48 @@ fn unknown(table: &IndexSet<NameKey<'_>>, text: &[u8], name: &Token) -> Option<N
     }
 }
 
-fn unknown_end(table: &IndexSet<NameKey<'_>>, text: &[u8], item: &Item) -> Option<NameFault>
-    requires { IsItemIn text.now item.now }
-    ensures { result ≡ unknown_in (names_held table.now) (item_of text.now item.now) }
-{
-    match item {
-        Item::Node { .. } => None,
-        Item::Link { from, to, .. } => {
-            earlier(unknown(table, text, from), unknown(table, text, to))
-        }
-    }
-}
-
+/// The first end of a link that is no node of the table.
 fn first_unknown(table: &IndexSet<NameKey<'_>>, text: &[u8], items: &[Item]) -> Option<NameFault>
     requires { AllByRecursion (IsItemIn text.now) items.now }
     ensures { result ≡ least_unknown (names_held table.now) (map (item_of text.now) items.now) }
 {
     let mut fault = None;
     for item in items {
-        fault = earlier(fault, unknown_end(table, text, item));
+        if let Item::Link { from, to, .. } = item {
+            let ends = earlier(unknown(table, text, from), unknown(table, text, to));
+            fault = earlier(fault, ends);
+        }
     }
     fault
 }
 
-fn side_fault(alloc: Global, text: &[u8], items: &[Item]) -> Result<Option<NameFault>, OutOfMemory>
+/// The first fault of the names in the items of a side.
+fn side_fault<'t>(
+    table: &mut IndexSet<NameKey<'t>>,
+    text: &'t [u8],
+    items: &[Item],
+) -> Result<Option<NameFault>, OutOfMemory>
     requires { AllByRecursion (IsItemIn text.now) items.now }
     ensures { IfOk result (λ fault. fault ≡ side_least (map (item_of text.now) items.now)) }
 {
-    let mut table = IndexSet::new(alloc);
-    let again = take_in_nodes(&mut table, text, items)?;
-    Ok(earlier(again, first_unknown(&table, text, items)))
+    table.clear();
+    let again = take_in_nodes(table, text, items)?;
+    Ok(earlier(again, first_unknown(table, text, items)))
 }
 
 /// The first parameter with the name of an earlier one.
-fn params_fault(
-    alloc: Global,
-    text: &[u8],
+fn params_fault<'t>(
+    table: &mut IndexSet<NameKey<'t>>,
+    text: &'t [u8],
     params: &[ParamForm],
 ) -> Result<Option<NameFault>, OutOfMemory>
     requires { AllByRecursion (IsParamIn text.now) params.now }
     ensures { IfOk result (λ fault. fault ≡ least_param [] (map (param_form_of text.now) params.now)) }
 {
-    let mut table = IndexSet::new(alloc);
+    table.clear();
     let mut fault = None;
     for param in params {
-        fault = earlier(fault, take_in(&mut table, text, &param.name)?);
+        fault = earlier(fault, take_in(table, text, &param.name)?);
     }
     Ok(fault)
 }
@@ -212,44 +178,29 @@ fn unknown_embed(schema: &Schema, text: &[u8], name: &Token) -> Option<NameFault
     }
 }
 
-fn sets_fault(
-    alloc: Global,
-    text: &[u8],
+fn sets_fault<'t>(
+    table: &mut IndexSet<NameKey<'t>>,
+    text: &'t [u8],
     schema: &Schema,
     sets: &[SetForm],
 ) -> Result<Option<NameFault>, OutOfMemory>
     requires { AllByRecursion (IsSetIn text.now) sets.now }
     ensures { IfOk result (λ fault. fault ≡ least_set (embed_names schema.now) [] (map (set_form_of text.now) sets.now)) }
 {
-    let mut table = IndexSet::new(alloc);
+    table.clear();
     let mut fault = None;
     for set in sets {
-        let again = take_in(&mut table, text, &set.embed)?;
+        let again = take_in(table, text, &set.embed)?;
         let unknown = unknown_embed(schema, text, &set.embed);
         fault = earlier(fault, earlier(again, unknown));
     }
     Ok(fault)
 }
 
-fn item_sets_fault(
-    alloc: Global,
-    text: &[u8],
-    schema: &Schema,
-    item: &Item,
-) -> Result<Option<NameFault>, OutOfMemory>
-    requires { IsItemIn text.now item.now }
-    ensures { IfOk result (λ fault. fault ≡ set_in (embed_names schema.now) (item_of text.now item.now)) }
-{
-    match item {
-        Item::Node { sets, .. } => sets_fault(alloc, text, schema, sets.as_slice()),
-        Item::Link { .. } => Ok(None),
-    }
-}
-
 /// The first fault of the names after `with`.
-fn assigned_fault(
-    alloc: Global,
-    text: &[u8],
+fn assigned_fault<'t>(
+    table: &mut IndexSet<NameKey<'t>>,
+    text: &'t [u8],
     schema: &Schema,
     items: &[Item],
 ) -> Result<Option<NameFault>, OutOfMemory>
@@ -258,12 +209,31 @@ fn assigned_fault(
 {
     let mut fault = None;
     for item in items {
-        fault = earlier(fault, item_sets_fault(alloc, text, schema, item)?);
+        if let Item::Node { sets, .. } = item {
+            fault = earlier(fault, sets_fault(table, text, schema, sets.as_slice())?);
+        }
     }
     Ok(fault)
 }
 
+/// The first fault of the rule's names outside of expressions. One table serves for all of them.
 #[tactic(auto, unfolding(crate::specs::FirstNameFault::rule_least))]
+fn find_names_fault<'t>(
+    table: &mut IndexSet<NameKey<'t>>,
+    text: &'t [u8],
+    schema: &Schema,
+    rule: &RuleForm,
+) -> Result<Option<NameFault>, OutOfMemory>
+    requires { IsRuleIn text.now rule.now }
+    ensures { IfOk result (λ fault. fault ≡ rule_least (embed_names schema.now) (rule_form_of text.now rule.now)) }
+{
+    let params = params_fault(table, text, rule.params.as_slice())?;
+    let left = side_fault(table, text, rule.left.as_slice())?;
+    let right = side_fault(table, text, rule.right.as_slice())?;
+    let sets = assigned_fault(table, text, schema, rule.right.as_slice())?;
+    Ok(earlier(params, earlier(sets, earlier(left, right))))
+}
+
 pub(crate) fn rule_names_fault(
     alloc: Global,
     text: &[u8],
@@ -273,11 +243,8 @@ pub(crate) fn rule_names_fault(
     requires { IsRuleIn text.now rule.now }
     ensures { IfOk result (λ fault. fault ≡ rule_least (embed_names schema.now) (rule_form_of text.now rule.now)) }
 {
-    let params = params_fault(alloc, text, rule.params.as_slice())?;
-    let left = side_fault(alloc, text, rule.left.as_slice())?;
-    let right = side_fault(alloc, text, rule.right.as_slice())?;
-    let sets = assigned_fault(alloc, text, schema, rule.right.as_slice())?;
-    Ok(earlier(params, earlier(sets, earlier(left, right))))
+    let mut table = IndexSet::new(alloc);
+    find_names_fault(&mut table, text, schema, rule)
 }
 
 /// The first fault in the rule, its expressions included.

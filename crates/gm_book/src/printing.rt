@@ -1,11 +1,9 @@
 //! The canonical text of a book.
-ghost use Rattle.std.specs.Prelude.{◌≡◌, ◌++◌, ◌∷◌, ◌<◌, ◌==◌, if◌then◌else◌, [], length, nat_eq, All, OnOk, IfOk, map, filter, codes, decimal};
+ghost use Rattle.std.specs.Prelude.{◌≡◌, ◌++◌, ◌∷◌, ◌<◌, ◌==◌, [], length, nat_eq, All, OnOk, IfOk, map, filter, codes, decimal};
 ghost use Rattle.std.specs.List.{flat_map, list_any};
-ghost use Rattle.gm_model.specs.Rules.{assignment_of, rule_of, node_of, name_at};
-ghost use Rattle.gm_model.specs.Trees.{tree_of};
+ghost use Rattle.gm_model.specs.Rules.{assignment_of, rule_of, node_of};
 ghost use Rattle.gm_text.specs.SchemaText as schemas;
-ghost use Rattle.gm_expr.specs.ExprText.{embed_name, IsNamed};
-ghost use Rattle.gm_book.specs.Canonical.{canonical, param_text, params_text, rule_lines, left_lines, set_text, right_line, right_lines, pre_line, link_line, letters_text, letter_text};
+ghost use Rattle.gm_book.specs.Canonical.{canonical, param_text, params_text, rule_lines, left_lines, set_text, right_line, pre_line, link_line, letters_text, letter_text};
 ghost use Rattle.gm_book.specs.Printing.{CanBePrinted, NamesItsNodes, HasNamedExprs, AreNamed, AreEndsNodes, left_line, is_left};
 
 use gm_expr::print_expr;
@@ -40,54 +38,18 @@ fn print_rule(text: &mut Text, schema: &Schema, rule: &RuleTable) -> Result<(), 
     requires exprs { HasNamedExprs schema.now (rule_of rule.now) }
     ensures { OnOk result (text.new ≡ text.old ++ rule_lines schema.now (rule_of rule.now)) }
 {
-    print_head(text, rule)?;
-    print_left(text, rule)?;
-    print_right(text, schema, rule)?;
-    print_pre(text, schema, rule)
-}
-
-fn print_head(text: &mut Text, rule: &RuleTable) -> Result<(), OutOfMemory>
-    ensures { OnOk result (text.new ≡ text.old ++ (codes "rule " ++ rule.now.name ++ params_text rule.now.params)) }
-{
+    let nodes = rule.nodes.as_slice();
     text.put(b"rule ")?;
     text.put(rule.name.bytes())?;
-    print_params(text, rule.params.as_slice())
-}
-
-fn print_left(text: &mut Text, rule: &RuleTable) -> Result<(), OutOfMemory>
-    requires { NamesItsNodes (rule_of rule.now) }
-    ensures { OnOk result (text.new ≡ text.old ++ (codes "\nleft\n" ++ left_lines rule.now.hooks 0 (map node_of rule.now.nodes) ++ flat_map (link_line (map node_of rule.now.nodes)) rule.now.left_links)) }
-{
-    let nodes = rule.nodes.as_slice();
+    print_params(text, rule.params.as_slice())?;
     text.put(b"\nleft\n")?;
     print_left_nodes(text, nodes, rule.hooks.as_slice())?;
-    print_links(text, nodes, rule.left_links.as_slice())
-}
-
-fn print_right(text: &mut Text, schema: &Schema, rule: &RuleTable) -> Result<(), OutOfMemory>
-    requires numbers { NamesItsNodes (rule_of rule.now) }
-    requires exprs { HasNamedExprs schema.now (rule_of rule.now) }
-    ensures { OnOk result (text.new ≡ text.old ++ (codes "right\n" ++ right_lines schema.now (rule_of rule.now) ++ flat_map (link_line (map node_of rule.now.nodes)) rule.now.right_links)) }
-{
+    print_links(text, nodes, rule.left_links.as_slice())?;
     text.put(b"right\n")?;
     print_right_nodes(text, schema, rule, true)?;
     print_right_nodes(text, schema, rule, false)?;
-    print_links(text, rule.nodes.as_slice(), rule.right_links.as_slice())
-}
-
-/// Nothing, where the rule has no precondition.
-fn print_pre(text: &mut Text, schema: &Schema, rule: &RuleTable) -> Result<(), OutOfMemory>
-    requires { HasNamedExprs schema.now (rule_of rule.now) }
-    ensures { OnOk result (text.new ≡ text.old ++ pre_line schema.now (rule_of rule.now)) }
-{
-    match &rule.pre {
-        Some(pre) => {
-            text.put(b"pre ")?;
-            print_expr(text, schema, rule, pre)?;
-            text.put(b"\n")
-        }
-        None => Ok(()),
-    }
+    print_links(text, nodes, rule.right_links.as_slice())?;
+    print_pre(text, schema, rule)
 }
 
 /// Nothing, where there is no parameter.
@@ -99,18 +61,11 @@ fn print_params(text: &mut Text, params: &[Param]) -> Result<(), OutOfMemory>
     };
     text.put(b"(")?;
     print_param(text, first)?;
-    print_more_params(text, others)?;
-    text.put(b")")
-}
-
-fn print_more_params(text: &mut Text, params: &[Param]) -> Result<(), OutOfMemory>
-    ensures { OnOk result (text.new ≡ text.old ++ flat_map (λ param. codes ", " ++ param_text param) params.now) }
-{
-    for param in params {
+    for param in others {
         text.put(b", ")?;
         print_param(text, param)?;
     }
-    Ok(())
+    text.put(b")")
 }
 
 fn print_param(text: &mut Text, param: &Param) -> Result<(), OutOfMemory>
@@ -195,59 +150,27 @@ fn print_sets(
     requires { AreNamed schema.now (rule_of rule.now) (map assignment_of sets.now) }
     ensures { OnOk result (text.new ≡ text.old ++ flat_map (set_text schema.now (rule_of rule.now)) (map assignment_of sets.now)) }
 {
+    let embeds = schema.embeds.as_slice();
     for set in sets {
-        print_set(text, schema, rule, set)?;
+        text.put(b" with ")?;
+        text.put(embeds[usize::from(set.embed)].name.bytes())?;
+        text.put(b" = ")?;
+        print_expr(text, schema, rule, &set.expr)?;
     }
     Ok(())
 }
 
-fn print_set(
-    text: &mut Text,
-    schema: &Schema,
-    rule: &RuleTable,
-    set: &Set,
-) -> Result<(), OutOfMemory>
-    requires embed { set.now.embed < length schema.now.embeds }
-    requires expr { IsNamed schema.now (rule_of rule.now) (tree_of set.now.expr) }
-    ensures { OnOk result (text.new ≡ text.old ++ set_text schema.now (rule_of rule.now) (assignment_of set.now)) }
-{
-    text.put(b" with ")?;
-    print_embed_name(text, schema, set.embed)?;
-    text.put(b" = ")?;
-    print_expr(text, schema, rule, &set.expr)
-}
-
-fn print_embed_name(text: &mut Text, schema: &Schema, embed: u8) -> Result<(), OutOfMemory>
-    requires { embed < length schema.now.embeds }
-    ensures { OnOk result (text.new ≡ text.old ++ embed_name schema.now.embeds embed) }
-{
-    text.put(schema.embeds.as_slice()[usize::from(embed)].name.bytes())
-}
-
+/// The name of a node and its word.
 fn print_word(text: &mut Text, name: &Name, word: &Word) -> Result<(), OutOfMemory>
     ensures { OnOk result (text.new ≡ text.old ++ (name.now ++ codes " <" ++ letters_text word.now ++ codes ">")) }
 {
     text.put(name.bytes())?;
     text.put(b" <")?;
-    print_letters(text, word)?;
-    text.put(b">")
-}
-
-fn print_letters(text: &mut Text, word: &Word) -> Result<(), OutOfMemory>
-    ensures { OnOk result (text.new ≡ text.old ++ letters_text word.now) }
-{
     for place in 0..word.len() {
-        text.put(gap_before(place))?;
+        text.put(if place == 0 { b"" } else { b" " })?;
         print_letter(text, word.letter(place))?;
     }
-    Ok(())
-}
-
-/// One blank, but none before the first place.
-fn gap_before(place: u8) -> &'static [u8]
-    ensures { result.now ≡ (if place == 0 then [] else codes " ") }
-{
-    if place == 0 { b"" } else { b" " }
+    text.put(b">")
 }
 
 fn print_letter(text: &mut Text, letter: Letter) -> Result<(), OutOfMemory>
@@ -264,26 +187,27 @@ fn print_links(text: &mut Text, nodes: &[Node], links: &[Link]) -> Result<(), Ou
     ensures { OnOk result (text.new ≡ text.old ++ flat_map (link_line (map node_of nodes.now)) links.now) }
 {
     for link in links {
-        print_link(text, nodes, *link)?;
+        text.put(nodes[usize::from(link.from)].name.bytes())?;
+        text.put(b" -")?;
+        text.number(u64::from(link.label))?;
+        text.put(b"- ")?;
+        text.put(nodes[usize::from(link.to)].name.bytes())?;
+        text.put(b"\n")?;
     }
     Ok(())
 }
 
-fn print_link(text: &mut Text, nodes: &[Node], link: Link) -> Result<(), OutOfMemory>
-    requires { AreEndsNodes (length nodes.now) link }
-    ensures { OnOk result (text.new ≡ text.old ++ link_line (map node_of nodes.now) link) }
+/// Nothing, where the rule has no precondition.
+fn print_pre(text: &mut Text, schema: &Schema, rule: &RuleTable) -> Result<(), OutOfMemory>
+    requires { HasNamedExprs schema.now (rule_of rule.now) }
+    ensures { OnOk result (text.new ≡ text.old ++ pre_line schema.now (rule_of rule.now)) }
 {
-    print_name(text, nodes, link.from)?;
-    text.put(b" -")?;
-    text.number(u64::from(link.label))?;
-    text.put(b"- ")?;
-    print_name(text, nodes, link.to)?;
-    text.put(b"\n")
-}
-
-fn print_name(text: &mut Text, nodes: &[Node], node: u8) -> Result<(), OutOfMemory>
-    requires { node < length nodes.now }
-    ensures { OnOk result (text.new ≡ text.old ++ name_at (map node_of nodes.now) node) }
-{
-    text.put(nodes[node as usize].name.bytes())
+    match &rule.pre {
+        Some(pre) => {
+            text.put(b"pre ")?;
+            print_expr(text, schema, rule, pre)?;
+            text.put(b"\n")
+        }
+        None => Ok(()),
+    }
 }

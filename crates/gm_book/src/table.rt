@@ -7,11 +7,11 @@ ghost use Rattle.gm_model.specs.Names.{IsName};
 ghost use Rattle.gm_model.specs.Rules.{assignment_of, node_of, rule_of};
 ghost use Rattle.gm_model.specs.Trees.{tree_of};
 ghost use Rattle.gm_tree.specs.FirstNames.{first_names};
-ghost use Rattle.gm_forms.specs.BookText.{nodes_of, number_of, word_in, links_in, hooks_in, kind_of_embed, node_in, sets_in, param_of, IsPre};
+ghost use Rattle.gm_forms.specs.BookText.{nodes_of, number_of, word_in, links_in, hooks_in, node_in, sets_in, param_of, IsPre};
 ghost use Rattle.gm_forms.specs.Forms.{IsIn, IsSetIn, IsItemIn, IsParamIn, IsPreIn, IsRuleIn, mention_of, value_of, set_form_of, item_of, param_form_of, rule_form_of};
 ghost use Rattle.gm_forms.specs.Held.{names_at, names_held};
 ghost use Rattle.gm_book.specs.Building.{IsKnownSet, HasKnownSets, IsSoundSet, IsSoundNode, IsSoundPre, IsSoundRule, AreSoundValues};
-ghost use Rattle.gm_book.specs.FirstNameFault.{embed_names, rule_least, IsValueFault, IsSetFault, IsAssignedFault, IsPreFault, IsFaultOfValues, IsFaultInRule};
+ghost use Rattle.gm_book.specs.FirstNameFault.{embed_names, rule_least, IsSetFault, IsAssignedFault, IsPreFault, IsFaultOfValues, IsFaultInRule};
 ghost use Rattle.gm_book.specs.Fitting.{IsFitting, HasExprs};
 
 use crate::names::{NameFault, bytes_in, take_in_nodes};
@@ -59,19 +59,12 @@ fn params(alloc: Global, text: &[u8], forms: &[ParamForm]) -> Result<Vec<Param>,
 {
     let mut params = Vec::new(alloc);
     for form in forms {
-        params.push(param(text, form))?;
+        params.push(Param {
+            name: Name::new(bytes_in(text, &form.name)).unwrap(),
+            kind: form.kind,
+        })?;
     }
     Ok(params)
-}
-
-fn param(text: &[u8], form: &ParamForm) -> Param
-    requires { IsParamIn text.now form.now }
-    ensures { result ≡ param_of (param_form_of text.now form.now) }
-{
-    Param {
-        name: Name::new(bytes_in(text, &form.name)).unwrap(),
-        kind: form.kind,
-    }
 }
 
 fn links(
@@ -138,20 +131,21 @@ fn word_of(text: &[u8], items: &[Item], name: &[u8]) -> Option<Word>
     None
 }
 
-/// A node without assignments.
-fn node(alloc: Global, text: &[u8], rule: &RuleForm, name: &[u8]) -> Node
+/// The node with the name and with these assignments.
+fn node(text: &[u8], rule: &RuleForm, name: &[u8], sets: Vec<Set>) -> Node
     requires within { IsRuleIn text.now rule.now }
     requires good { IsName name.now }
-    ensures { node_of result ≡ node_in (rule_form_of text.now rule.now) (λ node. []) name.now }
+    ensures { node_of result ≡ node_in (rule_form_of text.now rule.now) (λ node. map assignment_of sets.items) name.now }
 {
     Node {
         name: Name::new(name).unwrap(),
         left: word_of(text, rule.left.as_slice(), name),
         right: word_of(text, rule.right.as_slice(), name),
-        sets: Items::new(Vec::new(alloc)),
+        sets: Items::new(sets),
     }
 }
 
+/// The rule's nodes, without assignments.
 fn nodes(
     alloc: Global,
     text: &[u8],
@@ -164,7 +158,7 @@ fn nodes(
 {
     let mut nodes = Vec::new(alloc);
     for name in names {
-        nodes.push(node(alloc, text, rule, name.bytes))?;
+        nodes.push(node(text, rule, name.bytes, Vec::new(alloc)))?;
     }
     Ok(nodes)
 }
@@ -203,29 +197,7 @@ pub(crate) fn parts_of(alloc: Global, text: &[u8], rule: &RuleForm) -> Result<Pa
     numbered_parts(alloc, text, rule, names.as_slice())
 }
 
-/// An assignment of an embedding that is known, or the first fault of its expression.
-fn set(
-    alloc: Global,
-    text: &[u8],
-    env: &Env<'_>,
-    form: &SetForm,
-) -> Result<Result<Set, NameFault>, OutOfMemory>
-    requires within { IsSetIn text.now form.now }
-    requires known { IsKnownSet env.now.schema.now.dim (first_names env.now.schema.now env.now.params.now env.now.nodes.now) (set_form_of text.now form.now) }
-    ensures { IfOk result (λ read. MatchResult read (λ set. IsSoundSet env.now.schema.now.dim env.now.schema.now.embeds env.now.params.now (first_names env.now.schema.now env.now.params.now env.now.nodes.now) (set_form_of text.now form.now) (assignment_of set)) (λ fault. IsValueFault env.now.schema.now.dim env.now.schema.now.embeds env.now.params.now (first_names env.now.schema.now env.now.params.now env.now.nodes.now) (value_of text.now form.now.value) (kind_of_embed env.now.schema.now.embeds (mention_of text.now form.now.embed).name) fault)) }
-{
-    let name = bytes_in(text, &form.embed);
-    let number = embed_number(env.schema, name);
-    let kind = kind_needed(env.schema, name);
-    match checked_value(alloc, text, env, &form.value, kind)? {
-        Ok(expr) => Ok(Ok(Set {
-            embed: number.unwrap_or(0) as u8,
-            expr,
-        })),
-        Err(fault) => Ok(Err(fault)),
-    }
-}
-
+/// The assignments, all of embeddings that are known, or the first fault of one's expression.
 fn sets(
     alloc: Global,
     text: &[u8],
@@ -238,8 +210,14 @@ fn sets(
 {
     let mut sets = Vec::new(alloc);
     for form in forms {
-        match set(alloc, text, env, form)? {
-            Ok(set) => sets.push(set)?,
+        let name = bytes_in(text, &form.embed);
+        let number = embed_number(env.schema, name);
+        let kind = kind_needed(env.schema, name);
+        match checked_value(alloc, text, env, &form.value, kind)? {
+            Ok(expr) => sets.push(Set {
+                embed: number.unwrap_or(0) as u8,
+                expr,
+            })?,
             Err(fault) => return Ok(Err(fault)),
         }
     }
@@ -273,28 +251,6 @@ fn sets_of(
     Ok(Ok(Vec::new(alloc)))
 }
 
-/// The node with the name, and its assignments, or a fault of their expressions.
-fn assigned_node(
-    alloc: Global,
-    text: &[u8],
-    env: &Env<'_>,
-    rule: &RuleForm,
-    name: &[u8],
-) -> Result<Result<Node, NameFault>, OutOfMemory>
-    requires within { IsRuleIn text.now rule.now }
-    requires good { IsName name.now }
-    requires known { AllByRecursion (HasKnownSets env.now.schema.now.dim (first_names env.now.schema.now env.now.params.now env.now.nodes.now)) (rule_form_of text.now rule.now).right }
-    ensures { IfOk result (λ read. MatchResult read (λ node. IsSoundNode env.now.schema.now.dim env.now.schema.now.embeds env.now.params.now (first_names env.now.schema.now env.now.params.now env.now.nodes.now) (rule_form_of text.now rule.now) name.now (node_of node)) (IsSetFault env.now.schema.now.dim env.now.schema.now.embeds env.now.params.now (first_names env.now.schema.now env.now.params.now env.now.nodes.now) (sets_in (rule_form_of text.now rule.now).right name.now))) }
-{
-    match sets_of(alloc, text, env, rule.right.as_slice(), name)? {
-        Ok(sets) => Ok(Ok(Node {
-            sets: Items::new(sets),
-            ..node(alloc, text, rule, name)
-        })),
-        Err(fault) => Ok(Err(fault)),
-    }
-}
-
 /// The rule's nodes with their assignments, or a fault of their expressions.
 fn assigned(
     alloc: Global,
@@ -310,8 +266,8 @@ fn assigned(
 {
     let mut nodes = Vec::new(alloc);
     for name in names {
-        match assigned_node(alloc, text, env, rule, name.bytes)? {
-            Ok(node) => nodes.push(node)?,
+        match sets_of(alloc, text, env, rule.right.as_slice(), name.bytes)? {
+            Ok(sets) => nodes.push(node(text, rule, name.bytes, sets))?,
             Err(fault) => return Ok(Err(fault)),
         }
     }
@@ -383,66 +339,36 @@ fn read_values(
     }
 }
 
-/// What a rule says of its nodes by their numbers.
-struct Arcs {
-    left_links: Vec<Link>,
-    right_links: Vec<Link>,
-    hooks: Vec<u8>,
-}
-
-fn arcs_of(
+/// The table of the rule, whose nodes get their numbers in `names`, or a fault of its expressions.
+fn numbered_table<'t>(
     alloc: Global,
-    text: &[u8],
-    rule: &RuleForm,
-    names: &IndexSet<NameKey<'_>>,
-) -> Result<Arcs, OutOfMemory>
-    requires within { IsRuleIn text.now rule.now }
-    requires few { length (names_held names.now) ≤ 32 }
-    ensures left { IfOk result (λ arcs. arcs.left_links.items ≡ links_in (names_held names.now) (rule_form_of text.now rule.now).left) }
-    ensures right { IfOk result (λ arcs. arcs.right_links.items ≡ links_in (names_held names.now) (rule_form_of text.now rule.now).right) }
-    ensures hooks { IfOk result (λ arcs. arcs.hooks.items ≡ hooks_in (names_held names.now) (rule_form_of text.now rule.now).left) }
-{
-    Ok(Arcs {
-        left_links: links(alloc, names, text, rule.left.as_slice())?,
-        right_links: links(alloc, names, text, rule.right.as_slice())?,
-        hooks: hooks(alloc, names, text, rule.left.as_slice())?,
-    })
-}
-
-/// The table of the rule, whose nodes have their numbers in `names`, or a fault of its expressions.
-fn numbered_table(
-    alloc: Global,
-    text: &[u8],
+    text: &'t [u8],
     schema: &Schema,
     rule: &RuleForm,
-    names: &IndexSet<NameKey<'_>>,
+    names: &mut IndexSet<NameKey<'t>>,
 ) -> Result<Result<RuleTable, NameFault>, OutOfMemory>
+    requires empty { names_held names.old ≡ [] }
     requires within { IsRuleIn text.now rule.now }
-    requires numbered { names_held names.now ≡ nodes_of (rule_form_of text.now rule.now) }
-    requires good { AllByRecursion IsName (names_held names.now) }
     requires schema { IsSchema schema.now }
     requires fits { IsFitting schema.now.dim (rule_form_of text.now rule.now) }
     requires exprs { HasExprs schema.now.dim (rule_form_of text.now rule.now) }
     requires sound { rule_least (embed_names schema.now) (rule_form_of text.now rule.now) ≡ None }
     ensures { IfOk result (λ read. MatchResult read (λ table. IsSoundRule schema.now.dim schema.now.embeds (rule_form_of text.now rule.now) (rule_of table)) (IsFaultInRule schema.now.dim schema.now.embeds (rule_form_of text.now rule.now))) }
 {
+    take_in_rule(names, text, rule)?;
+    let left_links = links(alloc, names, text, rule.left.as_slice())?;
+    let right_links = links(alloc, names, text, rule.right.as_slice())?;
+    let hooks = hooks(alloc, names, text, rule.left.as_slice())?;
     match read_values(alloc, text, schema, rule, names.as_slice())? {
-        Ok(Values { params, nodes, pre }) => {
-            let Arcs {
-                left_links,
-                right_links,
-                hooks,
-            } = arcs_of(alloc, text, rule, names)?;
-            Ok(Ok(RuleTable {
-                name: Name::new(bytes_in(text, &rule.name)).unwrap(),
-                params: Items::new(params),
-                nodes: Items::new(nodes),
-                left_links: Items::new(left_links),
-                right_links: Items::new(right_links),
-                hooks: Items::new(hooks),
-                pre,
-            }))
-        }
+        Ok(Values { params, nodes, pre }) => Ok(Ok(RuleTable {
+            name: Name::new(bytes_in(text, &rule.name)).unwrap(),
+            params: Items::new(params),
+            nodes: Items::new(nodes),
+            left_links: Items::new(left_links),
+            right_links: Items::new(right_links),
+            hooks: Items::new(hooks),
+            pre,
+        })),
         Err(fault) => Ok(Err(fault)),
     }
 }
@@ -463,6 +389,5 @@ pub(crate) fn table(
     ensures { IfOk result (λ read. MatchResult read (λ table. IsSoundRule schema.now.dim schema.now.embeds (rule_form_of text.now rule.now) (rule_of table)) (IsFaultInRule schema.now.dim schema.now.embeds (rule_form_of text.now rule.now))) }
 {
     let mut names = IndexSet::new(alloc);
-    take_in_rule(&mut names, text, rule)?;
-    numbered_table(alloc, text, schema, rule, &names)
+    numbered_table(alloc, text, schema, rule, &mut names)
 }

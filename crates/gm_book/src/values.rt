@@ -1,5 +1,5 @@
 //! The expressions of a rule read, and the faults of their names and kinds.
-ghost use Rattle.std.specs.Prelude.{◌≡◌, ◌↔◌, ◌∷◌, [], bytes_eq, map, Some, IfOk, IfErr, IsTrue};
+ghost use Rattle.std.specs.Prelude.{◌≡◌, ◌↔◌, bytes_eq, map, Some, IfOk, IfErr, IsTrue};
 ghost use Rattle.std.specs.List.{AllByRecursion, position};
 ghost use Rattle.std.specs.Option.{option_map};
 ghost use Rattle.std.specs.Result.{result_err};
@@ -11,10 +11,10 @@ ghost use Rattle.gm_parse.specs.Answers.{IsInRangeOf};
 ghost use Rattle.gm_parse.specs.Meaning.{IsUnsigned};
 ghost use Rattle.gm_tree.specs.FirstNames.{first_names};
 ghost use Rattle.gm_forms.specs.Forms.{IsSpanIn, IsSetIn, IsItemIn, IsPreIn, IsRuleIn, value_of, set_form_of, item_of, rule_form_of};
-ghost use Rattle.gm_forms.specs.BookText.{IsExpr, IsSet, IsItem, IsPre, first_place, kind_of_embed};
+ghost use Rattle.gm_forms.specs.BookText.{IsExpr, IsSet, IsItem, IsPre, kind_of_embed};
 ghost use Rattle.gm_book.specs.FirstNameFault.{IsLeast, embed_names, IsValueFault, IsSetFault, IsAssignedFault, IsPreFault, IsFaultOfValues};
 ghost use Rattle.gm_book.specs.Fitting.{IsFitting, HasExprs};
-ghost use Rattle.gm_book.specs.Values.{HasKind, IsOfNames, IsValueRead, IsReadFault};
+ghost use Rattle.gm_book.specs.Values.{HasKind, IsValueRead, IsReadFault};
 
 use crate::names::{NameFault, bytes_in, earlier};
 use crate::table::{Parts, parts_of};
@@ -50,14 +50,6 @@ pub(crate) fn read_value(
     read_expr(alloc, &mut lexer, env)
 }
 
-/// The place of the first token in the span.
-fn first_of(text: &[u8], value: &Span) -> usize
-    requires { IsSpanIn text.now value.now }
-    ensures { result ≡ first_place (value_of text.now value.now) }
-{
-    next_place(&Lexer::at(text, value.start))
-}
-
 /// Whether the expression has the kind, where one is needed.
 fn has_kind(env: &Env<'_>, expr: &Expr, kind: Option<Kind>) -> bool
     ensures { IsTrue result ↔ HasKind env.now.schema.now.embeds env.now.params.now kind (tree_of expr.now) }
@@ -65,17 +57,6 @@ fn has_kind(env: &Env<'_>, expr: &Expr, kind: Option<Kind>) -> bool
     match kind {
         Some(_) => type_expr(env.schema, env.params, expr) == kind,
         None => true,
-    }
-}
-
-/// The fault of an expression as one of the rules' names.
-fn of_names(fault: ExprFault) -> Result<NameFault, OutOfMemory>
-    ensures { IfOk result (IsOfNames fault) }
-{
-    match fault {
-        ExprFault::Unknown { place } => Ok(NameFault::Unknown { place }),
-        ExprFault::Twice { place } => Ok(NameFault::Twice { place }),
-        ExprFault::OutOfMemory => Err(OutOfMemory),
     }
 }
 
@@ -101,13 +82,12 @@ pub(crate) fn checked_value(
                 return Ok(Ok(expr));
             }
             drop(expr);
-            let place = first_of(text, value);
+            let place = next_place(&Lexer::at(text, value.start));
             Ok(Err(NameFault::WrongKind { place }))
         }
-        Err(fault) => {
-            let fault = of_names(fault)?;
-            Ok(Err(fault))
-        }
+        Err(ExprFault::Unknown { place }) => Ok(Err(NameFault::Unknown { place })),
+        Err(ExprFault::Twice { place }) => Ok(Err(NameFault::Twice { place })),
+        Err(ExprFault::OutOfMemory) => Err(OutOfMemory),
     }
 }
 
@@ -158,23 +138,7 @@ fn sets_fault(
     Ok(fault)
 }
 
-/// The first fault of the expressions that are assigned on the node.
-fn item_fault(
-    alloc: Global,
-    text: &[u8],
-    env: &Env<'_>,
-    item: &Item,
-) -> Result<Option<NameFault>, OutOfMemory>
-    requires within { IsItemIn text.now item.now }
-    requires exprs { IsItem env.now.schema.now.dim Right (item_of text.now item.now) }
-    ensures { IfOk result (IsLeast (IsAssignedFault env.now.schema.now.dim env.now.schema.now.embeds env.now.params.now (first_names env.now.schema.now env.now.params.now env.now.nodes.now) (item_of text.now item.now ∷ []))) }
-{
-    match item {
-        Item::Node { sets, .. } => sets_fault(alloc, text, env, sets.as_slice()),
-        Item::Link { .. } => Ok(None),
-    }
-}
-
+/// The first fault of the expressions that are assigned on nodes.
 fn items_fault(
     alloc: Global,
     text: &[u8],
@@ -187,7 +151,9 @@ fn items_fault(
 {
     let mut fault = None;
     for item in items {
-        fault = earlier(fault, item_fault(alloc, text, env, item)?);
+        if let Item::Node { sets, .. } = item {
+            fault = earlier(fault, sets_fault(alloc, text, env, sets.as_slice())?);
+        }
     }
     Ok(fault)
 }

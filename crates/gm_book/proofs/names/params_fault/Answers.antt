@@ -16,7 +16,7 @@ abbrev blank : ParamForm
 blank = record { name = record { kind = Name; start = 0; end = 0 }; kind = Int }
 
 pub loop-param-init : goal.loop-param-init
-loop-param-init c = ap (λ keys. least_param (names_at keys) (map (param_form_of c.args.text.now) c.args.params.now)) c.new-table.ensures.empty
+loop-param-init c = ap (λ keys. least_param (names_at keys) (map (param_form_of c.args.text.now) c.args.params.now)) c.clear.ensures.empty
 
 pub take_in-requires : goal.take_in-requires
 take_in-requires c = each_on (IsParamIn c.args.text.now) c.args.params.now c.loop-param.param-index _ blank c.requires c.loop-param-test.true refl

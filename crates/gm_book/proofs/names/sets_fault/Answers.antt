@@ -10,7 +10,7 @@ use Rattle.gm_book.proofs.Onward.{left_on, each_on, none_on}
 use Rattle.gm_book.proofs.names.sets_fault.Goals as goal
 
 pub loop-set-init : goal.loop-set-init
-loop-set-init c = ap (λ keys. least_set (embed_names c.args.schema.now) (names_at keys) (map (set_form_of c.args.text.now) c.args.sets.now)) c.new-table.ensures.empty
+loop-set-init c = ap (λ keys. least_set (embed_names c.args.schema.now) (names_at keys) (map (set_form_of c.args.text.now) c.args.sets.now)) c.clear.ensures.empty
 
 pub take_in-requires : goal.take_in-requires
 take_in-requires c = (each_on (IsSetIn c.args.text.now) c.args.sets.now c.loop-set.set-index c.set-item.result c.set-item.result c.requires c.loop-set-test.true c.set-item.is).0

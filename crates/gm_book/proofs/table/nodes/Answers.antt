@@ -15,7 +15,8 @@ node-requires-clause-good c = good_at c.args.names.now c.loop-name.name-index _ 
 pub loop-name-preserved : goal.loop-name-preserved
 loop-name-preserved c =
     seen_more (λ (key : NameKey). key.bytes.now) (node_in (rule_form_of c.args.text.now c.args.rule.now) (λ node. [])) c.args.names.now c.loop-name.name-index _ _ c.loop-name-test.true refl
-    node_of c.loop-name.nodes.items c.push.new.self.items c.node.result c.loop-name.invariant c.node.ensures c.in_ok-push.ensures.items
+    node_of c.loop-name.nodes.items c.push.new.self.items c.node.result c.loop-name.invariant
+    (rw c.new.ensures.items at c.node.ensures) c.in_ok-push.ensures.items
 
 pub returns : goal.returns
 returns c = c.loop-name.invariant ∙ ap (λ names. map (node_in (rule_form_of c.args.text.now c.args.rule.now) (λ node. [])) (names_at names)) (take_all c.loop-name.name-index c.args.names.now c.loop-name-test.false)

@@ -1,12 +1,12 @@
-use Rattle.std.proofs.Common.{◌≡◌, List, map, Option, Result, sym, ap, subst, ◌∙◌, rules}
-use Rattle.std.specs.List.{AllZip}
+use Rattle.std.proofs.Common.{◌≡◌, ◌≤◌, ℕ, List, length, map, Result, sym, ap, subst, ◌∙◌, rules}
+use Rattle.std.specs.List.{AllByRecursion, AllZip}
 use Rattle.std.specs.Option.{option_map}
 use Rattle.std.specs.Prelude.{IfOk}
-use Rattle.gm_model.specs.declared.rule.Node.{Node}
 use Rattle.gm_model.specs.Rules.{node_of}
 use Rattle.gm_model.specs.Trees.{tree_of}
-use Rattle.gm_forms.specs.BookText.{param_of, nodes_of, links_in, hooks_in, names_for}
-use Rattle.gm_forms.specs.Forms.{rule_form_of}
+use Rattle.gm_forms.specs.declared.form.Item.{Item}
+use Rattle.gm_forms.specs.BookText.{RuleForm, param_of, nodes_of, links_in, hooks_in, names_for}
+use Rattle.gm_forms.specs.Forms.{IsItemIn, rule_form_of}
 use Rattle.gm_book.specs.declared.names.NameFault.{NameFault}
 use Rattle.gm_book.specs.declared.table.Values.{Values}
 use Rattle.gm_book.specs.Building.{AreSoundValues}
@@ -14,8 +14,8 @@ use Rattle.gm_book.proofs.Checked.{at_ok, at_err, nodes_mean, rule_sound, values
 use Rattle.gm_book.proofs.ReadSets.{IsAssigned, means_rule}
 use Rattle.gm_book.proofs.table.numbered_table.Goals as goal
 
-pub returns-in_ok-left_links-in-Ok : goal.returns-in_ok-left_links-in-Ok
-returns-in_ok-left_links-in-Ok c =
+pub returns-in-Ok : goal.returns-in-Ok
+returns-in-Ok c =
     let form = rule_form_of c.args.text.now c.args.rule.now in
     let schema = c.args.schema.now in
     let read = c.in-Ok.field-0 in
@@ -38,3 +38,23 @@ pub returns-in-Err : goal.returns-in-Err
 returns-in-Err c =
     let schema = c.args.schema.now in
     values_fault_there schema.dim schema.embeds (rule_form_of c.args.text.now c.args.rule.now) c.in-Err.fault (at_err _ _ c.in_ok-params.field-0 c.in-Err.fault c.in-Err.is c.in_ok-params.ensures.values)
+
+-- what is asked of the items of a side, which are lent, and of the names in the table
+asked : (text : List ℕ) (items lent : List Item) (names : List (List ℕ)) (form : RuleForm) → lent ≡ items → AllByRecursion (IsItemIn text) items → names ≡ nodes_of form → length (nodes_of form) ≤ 32
+    → AllByRecursion (IsItemIn text) lent × (length names ≤ 32)
+asked text items lent names form same within is few = (subst (AllByRecursion (IsItemIn text)) (sym same) within, subst (λ (ns : List (List ℕ)). length ns ≤ 32) (sym is) few)
+
+pub links-requires : goal.links-requires
+links-requires c =
+    let (within, few) = asked c.args.text.now c.args.rule.now.left.items c.as_slice.result.now _ (rule_form_of c.args.text.now c.args.rule.now) c.as_slice.ensures.value c.requires.within.2 c.in_ok-take_in_rule.ensures.nodes c.requires.fits.nodes in
+    record { within = within; few = few }
+
+pub links-requires-2 : goal.links-requires-2
+links-requires-2 c =
+    let (within, few) = asked c.args.text.now c.args.rule.now.right.items c.as_slice-2.result.now _ (rule_form_of c.args.text.now c.args.rule.now) c.as_slice-2.ensures.value c.requires.within.3 c.in_ok-take_in_rule.ensures.nodes c.requires.fits.nodes in
+    record { within = within; few = few }
+
+pub hooks-requires : goal.hooks-requires
+hooks-requires c =
+    let (within, few) = asked c.args.text.now c.args.rule.now.left.items c.as_slice-3.result.now _ (rule_form_of c.args.text.now c.args.rule.now) c.as_slice-3.ensures.value c.requires.within.2 c.in_ok-take_in_rule.ensures.nodes c.requires.fits.nodes in
+    record { within = within; few = few }

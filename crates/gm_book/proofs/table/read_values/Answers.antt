@@ -1,8 +1,6 @@
-use Rattle.std.proofs.Common.{◌≡◌, ℕ, List, [], map, Option, Result, inl, inr, sym, ap, subst, ◌∙◌}
-use Rattle.std.specs.List.{AllByRecursion, AllZip}
+use Rattle.std.proofs.Common.{◌≡◌, ℕ, List, [], map, sym, ap, subst, ◌∙◌}
+use Rattle.std.specs.List.{AllByRecursion}
 use Rattle.std.specs.Option.{option_map}
-use Rattle.std.specs.Result.{MatchResult}
-use Rattle.gm_model.specs.declared.expr.Expr.{Expr}
 use Rattle.gm_model.specs.declared.rule.Node.{Node}
 use Rattle.gm_model.specs.declared.rule.Param.{Param}
 use Rattle.gm_model.specs.declared.schema.Schema.{Schema}
@@ -14,9 +12,7 @@ use Rattle.gm_tree.specs.FirstNames.{first_names}
 use Rattle.gm_forms.specs.BookText.{RuleForm, names_for, param_of, nodes_of, node_in}
 use Rattle.gm_forms.specs.Forms.{rule_form_of}
 use Rattle.gm_forms.specs.Held.{names_at}
-use Rattle.gm_book.specs.declared.names.NameFault.{NameFault}
-use Rattle.gm_book.specs.Building.{HasKnownSets, IsSoundNode, IsSoundPre}
-use Rattle.gm_book.specs.FirstNameFault.{IsAssignedFault, IsPreFault}
+use Rattle.gm_book.specs.Building.{HasKnownSets}
 use Rattle.gm_book.specs.Fitting.{IsFitting}
 use Rattle.gm_book.proofs.Checked.{at_ok, at_err, embed_there, values_of, set_fault_in, pre_fault_in}
 use Rattle.gm_book.proofs.ReadSets.{all_known}

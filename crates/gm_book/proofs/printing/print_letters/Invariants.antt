@@ -1,6 +1,0 @@
-use Rattle.std.proofs.Common.{◌≡◌, ◌++◌, take}
-use Rattle.gm_book.specs.Canonical.{letters_text}
-use Rattle.gm_book.proofs.printing.print_letters.Given as goal
-
-abbrev pub invariant-loop-place : goal.invariant-loop-place
-invariant-loop-place l = l.text ≡ l.fn.text ++ letters_text (take l.place l.word)
