@@ -6,6 +6,7 @@ pub mod FirstFault
 mod Grammar
 mod Held
 mod HeldStats
+mod Hooks
 mod Indices
 mod Leads
 mod Limits

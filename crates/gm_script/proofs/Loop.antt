@@ -13,7 +13,7 @@ use Rattle.gm_script.specs.Faults.{of_text, IsFaultOf, Says, unless}
 use Rattle.gm_script.specs.Reading.{HeldStat, Held, Stop, been_of, sight_of, symbol_at, next_spot, passed_in, hold, hold_head, hold_number, hold_vector, taken, taken_at, finished, read_from, ended_by, put_first, nothing, stats_of, Fails, IsStray, ◌>>=◌, IsInText}
 use Rattle.gm_text.specs.Cursor.{Cursor}
 use Rattle.gm_text.specs.Lexing.{rest_of}
-use Rattle.gm_script.specs.SoFar.{behind, Holds, IsSoFar}
+use Rattle.gm_script.specs.SoFar.{behind, Holds, Adds, IsSoFar}
 use Rattle.gm_script.specs.declared.fault.ScriptFault.{ScriptFault}
 use Rattle.gm_script.specs.declared.fault.ScriptFault.TheVariants as faults
 use Rattle.gm_script.specs.declared.reader.TextFault.{TextFault}
@@ -95,7 +95,7 @@ behind_fails before (texts.Text place) read e = rw e refl
 behind_fails before (texts.Limit what place) read e = rw e refl
 behind_fails before (texts.Twice place) read e = rw e refl
 
-fails_on : {X Y : Type 0} (fault : TextFault) (read : Result X Stop) (more : X → Result Y Stop) → Fails fault read → Fails fault (read >>= more)
+pub fails_on : {X Y : Type 0} (fault : TextFault) (read : Result X Stop) (more : X → Result Y Stop) → Fails fault read → Fails fault (read >>= more)
 fails_on texts.OutOfMemory read more e = tt
 fails_on (texts.Text place) read more e = rw e refl
 fails_on (texts.Limit what place) read more e = rw e refl
@@ -145,7 +145,7 @@ module _ (text : List ℕ) (rules : List Rule) where
     -- ---- a fault of the text
 
     module _ (held : Held) (items : List Item) (compared : Result (List Stat) ScriptFault) (so_far : IsSoFar n text rules held items compared) (fault : TextFault) where
-      fails : Fails fault (read_from n text held items) → IsFaultOf text n rules (of_text fault)
+      pub fails : Fails fault (read_from n text held items) → IsFaultOf text n rules (of_text fault)
       fails e = stats.fault_is n so_far.low text rules fault (subst (Fails fault) so_far.read (behind_fails so_far.before fault (read_from n text held items) e))
 
     pub stray_fails : (held : Held) (cursor : Cursor) (compared : Result (List Stat) ScriptFault) → IsSoFar n text rules held (rest_of cursor) compared → (fault : TextFault) → IsStray cursor fault → IsFaultOf text n rules (of_text fault)
@@ -166,15 +166,11 @@ module _ (text : List ℕ) (rules : List Rule) where
 
     -- ---- a token, and the end
 
-    -- a further statement is compared, if there is one
-    abbrev pub Adds : Option HeldStat → Result (List Stat) ScriptFault → Result (List Stat) ScriptFault → Type 0
-    Adds stat old new = (helds : List HeldStat) → Holds text rules old helds → Holds text rules new (helds ++ put_first stat [])
-
-    pub adds_none : (compared : Result (List Stat) ScriptFault) → Adds None compared compared
+    pub adds_none : (compared : Result (List Stat) ScriptFault) → Adds text rules None compared compared
     adds_none compared helds holds = rw (append-nil helds) holds
 
     pub goes_on : (held next : Held) (token : Token) (items : List Item) (old new : Result (List Stat) ScriptFault) → IsInText text token → IsSoFar n text rules held (Lexed token ∷ items) old
-        → taken_at n (sight_of (symbol_at text token)) token held ≡ Ok next → Adds (ended_by held.spot (sight_of (symbol_at text token)) held.stat) old new → IsSoFar n text rules next items new
+        → taken_at n (sight_of (symbol_at text token)) token held ≡ Ok next → Adds text rules (ended_by held.spot (sight_of (symbol_at text token)) held.stat) old new → IsSoFar n text rules next items new
     goes_on held next token items old new inside so_far e adds =
         let stat = ended_by held.spot (sight_of (symbol_at text token)) held.stat in
         let step : read_from n text held (Lexed token ∷ items) ≡ (read_from n text next items >>= λ others. Ok (put_first stat others)) = rw e refl in
@@ -194,7 +190,7 @@ module _ (text : List ℕ) (rules : List Rule) where
       pub holds : Holds text rules compared helds
 
     pub ends : (held : Held) (place : ℕ) (last : Option HeldStat) (old new : Result (List Stat) ScriptFault) → IsSoFar n text rules held (EndAt place ∷ []) old
-        → finished place held ≡ Ok last → Adds last old new → IsDone new
+        → finished place held ≡ Ok last → Adds text rules last old new → IsDone new
     ends held place last old new so_far e adds =
         let step : read_from n text held (EndAt place ∷ []) ≡ Ok (put_first last []) = rw e refl in
         record { low = so_far.low; helds = so_far.before ++ put_first last []; read = sym so_far.read ∙ ap (behind so_far.before) step; holds = adds so_far.before so_far.holds }

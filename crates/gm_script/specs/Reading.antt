@@ -454,6 +454,13 @@ nothing = record { spot = spots.Start; begun = 0; within = false; stat = new_sta
 abbrev pub stats_of : ℕ → List ℕ → Result (List HeldStat) Stop
 stats_of n text = read_from n text nothing (items_of text)
 
+-- from the one lexer to the other tokens were read that end no statement and name no rule
+pub record ReadsOn (held next : Held) (old new : Cursor) : Type 0 where
+  pub text : new.text ≡ old.text
+  pub goes_on : old.place ≤ new.place
+  pub same : (n : ℕ) → read_from n old.text next (rest_of new) ≡ read_from n old.text held (rest_of old)
+  pub name : next.stat.name ≡ held.stat.name
+
 -- ---- what a reader of the code answers
 
 -- what the code says is passed

@@ -1,11 +1,11 @@
 -- What was read of a text so far, and the statements that were compared.
-use Rattle.std.specs.Prelude.{◌≡◌, ◌≤◌, ℕ, List, ◌++◌, Result, Ok, Err}
+use Rattle.std.specs.Prelude.{◌≡◌, ◌≤◌, ℕ, List, [], ◌++◌, Option, Result, Ok, Err}
 use Rattle.gm_model.specs.declared.script.Stat.{Stat}
 use Rattle.gm_model.specs.Rules.{Rule}
 use Rattle.gm_model.specs.Tokens.{Item}
 use Rattle.gm_script.specs.Comparing.{stats_for}
 use Rattle.gm_script.specs.Faults.{Compares}
-use Rattle.gm_script.specs.Reading.{HeldStat, Held, Stop, read_from, stats_of, IsInText}
+use Rattle.gm_script.specs.Reading.{HeldStat, Held, Stop, put_first, read_from, stats_of, IsInText}
 use Rattle.gm_script.specs.declared.fault.ScriptFault.{ScriptFault}
 
 -- what all come to, where these have ended before
@@ -16,6 +16,10 @@ behind before (Err stop) = Err stop
 -- what was compared is what the statements that are held come to
 abbrev pub Holds : List ℕ → List Rule → Result (List Stat) ScriptFault → List HeldStat → Type 0
 Holds text rules compared helds = Compares (λ (stats : List Stat). stats) compared (stats_for text rules helds)
+
+-- a further statement is compared, if there is one
+abbrev pub Adds : List ℕ → List Rule → Option HeldStat → Result (List Stat) ScriptFault → Result (List Stat) ScriptFault → Type 0
+Adds text rules stat old new = (helds : List HeldStat) → Holds text rules old helds → Holds text rules new (helds ++ put_first stat [])
 
 -- these statements have ended before what is held, and are compared
 pub record IsSoFar (n : ℕ) (text : List ℕ) (rules : List Rule) (held : Held) (items : List Item) (compared : Result (List Stat) ScriptFault) : Type 0 where

@@ -14,19 +14,26 @@ use crate::values::params_of;
 use gm_model::{Items, Line, RuleTable, Stat};
 use std::alloc::Global;
 use std::marker::Model;
+use std::mem;
 
 /// The bytes of the shortest line, `apply a`, and a blank behind it.
 const LEAST_LINE_BYTES: usize = 8;
 
 /// The statement of the rule with this index.
-fn stat_of_rule(draft: Draft, index: u16, rule: &RuleTable) -> Result<Stat, ScriptFault>
-    ensures { Compares (λ stat. stat) result (comparing.stat_of_rule draft index (Some (rule_of rule.now))) }
+fn stat_of_rule(
+    alloc: Global,
+    draft: &mut Draft,
+    index: u16,
+    rule: &RuleTable,
+) -> Result<Stat, ScriptFault>
+    ensures { Compares (λ stat. stat) result (comparing.stat_of_rule draft.old index (Some (rule_of rule.now))) }
 {
     let place = draft.place;
     if draft.hook_count() != rule.hooks.as_slice().len() {
         return Err(ScriptFault::HookCount { place });
     }
-    let Some(params) = params_of(draft.values, rule.params.as_slice()) else {
+    let values = mem::replace(&mut draft.values, Vec::new(alloc));
+    let Some(params) = params_of(values, rule.params.as_slice()) else {
         return Err(ScriptFault::Params { place });
     };
     let params = Items::new(params);
@@ -38,39 +45,51 @@ fn stat_of_rule(draft: Draft, index: u16, rule: &RuleTable) -> Result<Stat, Scri
         },
         _ => Stat::Apply(Line {
             rule: index,
-            hooks: Items::new(draft.hooks),
+            hooks: Items::new(mem::replace(&mut draft.hooks, Vec::new(alloc))),
             params,
         }),
     })
 }
 
-fn named_stat(bytes: &[u8], draft: Draft, rules: &RulesByName<'_>) -> Result<Stat, ScriptFault>
-    requires in_text { IsInText bytes.now draft.name }
-    ensures { Compares (λ stat. stat) result (comparing.named_stat bytes.now (map rule_of rules.now) draft) }
+fn named_stat(
+    alloc: Global,
+    bytes: &[u8],
+    draft: &mut Draft,
+    rules: &RulesByName<'_>,
+) -> Result<Stat, ScriptFault>
+    requires in_text { IsInText bytes.now draft.old.name }
+    ensures { Compares (λ stat. stat) result (comparing.named_stat bytes.now (map rule_of rules.now) draft.old) }
 {
     let name = draft.name;
     match rules.index_of(&bytes[name.start..name.end]) {
-        Some(index) => stat_of_rule(draft, index, &rules.as_slice()[index as usize]),
+        Some(index) => stat_of_rule(alloc, draft, index, &rules.as_slice()[index as usize]),
         None => Err(ScriptFault::UnknownRule { place: name.start }),
     }
 }
 
-fn stat_of(bytes: &[u8], draft: Draft, rules: &RulesByName<'_>) -> Result<Stat, ScriptFault>
-    requires in_text { IsInText bytes.now draft.name }
-    ensures { Compares (λ stat. stat) result (stat_for bytes.now (map rule_of rules.now) draft) }
+/// The statement that is written, whose hooks and values are held no longer.
+fn stat_of(
+    alloc: Global,
+    bytes: &[u8],
+    draft: &mut Draft,
+    rules: &RulesByName<'_>,
+) -> Result<Stat, ScriptFault>
+    requires in_text { IsInText bytes.now draft.old.name }
+    ensures { Compares (λ stat. stat) result (stat_for bytes.now (map rule_of rules.now) draft.old) }
 {
     match draft.head {
         Head::Undo => Ok(Stat::Undo),
         Head::Redo => Ok(Stat::Redo),
         Head::Group => Ok(Stat::Group),
         Head::End => Ok(Stat::End),
-        Head::Apply | Head::Each => named_stat(bytes, draft, rules),
+        Head::Apply | Head::Each => named_stat(alloc, bytes, draft, rules),
     }
 }
 
 /// What comparing statements with a book came to so far: they themselves, or the first disagreement.
 #[derive(Drop)]
 pub(crate) struct Compared {
+    alloc: Global,
     stats: Vec<Stat>,
     fault: Option<ScriptFault>,
 }
@@ -95,27 +114,29 @@ impl Compared {
         // Behind each line but the last stands a byte at least that parts it from the next `apply`.
         let most = (length / LEAST_LINE_BYTES + 1).min(MOST_LINES);
         Ok(Compared {
+            alloc,
             stats: Vec::with_capacity(alloc, most)?,
             fault: None,
         })
     }
 
-    /// Compares a further statement. Behind one that disagrees none is kept.
+    /// Compares a further statement, whose hooks and values are held no longer. Behind one that
+    /// disagrees none is kept.
     pub(crate) fn add(
         &mut self,
         bytes: &[u8],
-        draft: Draft,
+        draft: &mut Draft,
         rules: &RulesByName<'_>,
     ) -> Result<(), ScriptFault>
-        requires in_text { IsInText bytes.now draft.name }
+        requires in_text { IsInText bytes.now draft.old.name }
         ensures ok { (before : List HeldStat) → Compares (λ stats. stats) self.old (stats_for bytes.now (map rule_of rules.now) before)
-            → OnOk result (Compares (λ stats. stats) self.new (stats_for bytes.now (map rule_of rules.now) (before ++ draft ∷ []))) }
+            → OnOk result (Compares (λ stats. stats) self.new (stats_for bytes.now (map rule_of rules.now) (before ++ draft.old ∷ []))) }
         ensures err { IfErr result (λ fault. fault ≡ ScriptFault.OutOfMemory) }
     {
         if self.fault.is_some() {
             return Ok(());
         }
-        match stat_of(bytes, draft, rules) {
+        match stat_of(self.alloc, bytes, draft, rules) {
             Ok(stat) => self.stats.push(stat)?,
             Err(fault) => self.fault = Some(fault),
         }
@@ -127,7 +148,7 @@ impl Compared {
         ensures stats { IfOk result (λ stats. self ≡ Ok stats.items) }
         ensures fault { IfErr result (λ fault. self ≡ Err fault) }
     {
-        let Compared { stats, fault } = self;
+        let Compared { stats, fault, .. } = self;
         match fault {
             None => Ok(stats),
             Some(fault) => Err(fault),

@@ -1,21 +1,29 @@
 //! What a script says so far, as its tokens are read one after another.
-ghost use Rattle.std.specs.Prelude.{◌≡◌, ◌-◌, ◌<◌, ◌≤◌, ℕ, Some, None, OnOk, IfErr, if◌then◌else◌};
+ghost use Rattle.std.specs.Prelude.{◌≡◌, ◌-◌, ◌<◌, ◌≤◌, ℕ, Some, None, IsTrue, map, OnOk, IfErr, if◌then◌else◌};
 ghost use Rattle.gm_model.specs.declared.token.Token.{Token};
+ghost use Rattle.gm_model.specs.Rules.{rule_of};
 ghost use Rattle.gm_text.specs.SchemaText.{LimitOf};
 ghost use Rattle.gm_text.specs.ValueText as numbers;
 ghost use Rattle.gm_script.specs.Comparing as comparing;
 ghost use Rattle.gm_script.specs.Reading as reading;
-ghost use Rattle.gm_script.specs.Reading.{Gives, passed_of};
+ghost use Rattle.gm_script.specs.Reading.{Gives, IsInText, passed_of};
+ghost use Rattle.gm_script.specs.SoFar.{Adds};
 
+use crate::comparing::Compared;
+use crate::fault::ScriptFault;
+use crate::rules::RulesByName;
 use crate::sight::{Head, Sight};
 use crate::spot::Spot;
 use gm_model::{LimitKind, MOST_NAMES, Mask, Token, Value};
 use gm_text::with_label;
-use std::alloc::{AllocFailed, Global};
+use std::alloc::{AllocError, AllocFailed, Global};
 use std::marker::Model;
-use std::mem;
 
 const MOST_NAME_BYTES: usize = 32;
+
+/// What the first hook of a statement makes room for. The C library's blocks have no fewer bytes, and
+/// few rules have more hooks.
+const FIRST_HOOKS: usize = 4;
 
 pub(crate) const MOST_LINES: usize = 100_000;
 
@@ -29,6 +37,16 @@ pub(crate) enum TextFault {
     /// The label at the place was mentioned before in its orbit.
     Twice { place: usize },
     OutOfMemory,
+}
+
+impl From<AllocError> for TextFault {
+    ghost use Rattle.gm_script.specs.declared.reader.TextFault.TheVariants as faults;
+
+    ghost from_gives = { λ _ fault. fault ≡ faults.OutOfMemory };
+
+    fn from(_error: AllocError) -> TextFault {
+        TextFault::OutOfMemory
+    }
 }
 
 impl<T: Drop> From<AllocFailed<T>> for TextFault {
@@ -62,18 +80,30 @@ impl Model for Draft {
 }
 
 impl Draft {
-    /// The statement whose first word is this token.
-    fn new(alloc: Global, head: Head, token: Token) -> Draft
-        ensures { result ≡ reading.new_stat head token }
+    /// No statement that is written.
+    fn new(alloc: Global) -> Draft
+        ensures { result ≡ reading.new_stat Head.Apply reading.no_token }
     {
         Draft {
-            place: token.start,
-            head,
-            name: token,
+            place: 0,
+            head: Head::Apply,
+            name: NO_TOKEN,
             hooks: Vec::new(alloc),
             labels: Mask { bits: 0 },
             values: Vec::new(alloc),
         }
+    }
+
+    /// The statement whose first word is this token, in the place of another.
+    fn begin(&mut self, head: Head, token: Token)
+        ensures { self.new ≡ reading.new_stat head token }
+    {
+        self.place = token.start;
+        self.head = head;
+        self.name = token;
+        self.hooks.clear();
+        self.labels = Mask { bits: 0 };
+        self.values.clear();
     }
 
     /// How many hooks it gives at a time.
@@ -121,26 +151,31 @@ impl Reader {
             spot: Spot::Start,
             begun: 0,
             within: false,
-            stat: Draft::new(alloc, Head::Apply, NO_TOKEN),
+            stat: Draft::new(alloc),
             x: 0,
             y: 0,
             z: 0,
         }
     }
 
-    /// The statement that ends where this is seen next, if one does. It is held no longer, and what
-    /// is read next is the same.
-    pub(crate) fn end_stat(&mut self, sight: Sight) -> Option<Draft>
-        ensures ended { result ≡ reading.ended_by self.old.spot sight self.old.stat }
+    /// Compares the statement that ends where this is seen next, if one does. It is held no longer,
+    /// and what is read next is the same.
+    pub(crate) fn end_stat(
+        &mut self,
+        bytes: &[u8],
+        sight: Sight,
+        rules: &RulesByName<'_>,
+        compared: &mut Compared,
+    ) -> Result<(), ScriptFault>
+        requires in_text { IsInText bytes.now self.old.stat.name }
+        ensures added { OnOk result (Adds bytes.now (map rule_of rules.now) (reading.ended_by self.old.spot sight self.old.stat) compared.old compared.new) }
         ensures next { (top : ℕ) (token : Token) → reading.taken_at top sight token self.new ≡ reading.taken_at top sight token self.old }
+        ensures err { IfErr result (λ fault. fault ≡ ScriptFault.OutOfMemory) }
     {
         match (sight, self.spot) {
-            (Sight::Begins(_), Spot::Start | Spot::Apply | Spot::Over) => None,
-            (Sight::Begins(_), _) => {
-                let none = Draft::new(self.alloc, Head::Apply, NO_TOKEN);
-                Some(mem::replace(&mut self.stat, none))
-            }
-            _ => None,
+            (Sight::Begins(_), Spot::Start | Spot::Apply | Spot::Over) => Ok(()),
+            (Sight::Begins(_), _) => compared.add(bytes, &mut self.stat, rules),
+            _ => Ok(()),
         }
     }
 
@@ -160,6 +195,28 @@ impl Reader {
         self.hold(top, sight, token)?;
         self.spot = spot;
         Ok(())
+    }
+
+    /// Whether a hook can stand next.
+    pub(crate) fn takes_hooks(&self) -> bool
+        ensures { IsTrue result → self.now.spot ≡ Spot.Rule }
+    {
+        self.spot == Spot::Rule
+    }
+
+    /// Reads a token that is a number, where a hook can stand.
+    pub(crate) fn take_hook(&mut self, hook: u32, token: Token) -> Result<(), TextFault>
+        requires spot { self.old.spot ≡ Spot.Rule }
+        ensures ok { OnOk result (self.new ≡ reading.with_hook hook self.old) }
+        ensures taken { (n : ℕ) → Gives (λ _. self.new) result (reading.taken_at n (Sight.Number hook) token self.old) }
+    {
+        if hook >= MOST_NAMES {
+            return Err(TextFault::Limit {
+                what: LimitKind::DartName,
+                place: token.start,
+            });
+        }
+        self.hook(hook)
     }
 
     /// The last statement, if there is one, where the text ends at this place.
@@ -239,7 +296,7 @@ impl Reader {
             Head::End => false,
             _ => self.within,
         };
-        self.stat = Draft::new(self.alloc, head, token);
+        self.stat.begin(head, token);
     }
 
     fn name(&mut self, name: Token)
@@ -283,6 +340,9 @@ impl Reader {
         ensures ok { OnOk result (self.new ≡ reading.with_hook hook self.old) }
         ensures err { IfErr result (λ fault. fault ≡ TextFault.OutOfMemory) }
     {
+        if self.stat.hooks.is_empty() {
+            self.stat.hooks = Vec::with_capacity(self.alloc, FIRST_HOOKS)?;
+        }
         self.stat.hooks.push(hook)?;
         Ok(())
     }

@@ -2,15 +2,16 @@
 //!
 //! The reader knows the grammar and its limits alone. Each statement is compared with the book as
 //! soon as it is whole, and where one disagrees, the text is read on: a fault of the text comes first.
-ghost use Rattle.std.specs.Prelude.{◌≡◌, ◌∷◌, [], length, map, OnOk, IfOk, IfErr, MatchOption};
+ghost use Rattle.std.specs.Prelude.{◌≡◌, ◌∷◌, ℕ, [], length, map, OnOk, IfOk, IfErr, MatchOption};
 ghost use Rattle.gm_model.specs.Rules.{rule_of};
 ghost use Rattle.gm_model.specs.Tokens.{EndAt};
 ghost use Rattle.gm_text.specs.Lexing.{rest_of};
 ghost use Rattle.gm_script.specs.ScriptText.{ScriptText};
 ghost use Rattle.gm_script.specs.Faults.{IsFaultOf};
 ghost use Rattle.gm_script.specs.FirstRules.{first_rules};
-ghost use Rattle.gm_script.specs.Reading.{nothing, IsNext, IsStray};
+ghost use Rattle.gm_script.specs.Reading.{nothing, read_from, IsNext, IsStray, Fails, ReadsOn};
 ghost use Rattle.gm_script.specs.SoFar.{IsSoFar};
+ghost use Rattle.gm_script.specs.declared.spot.Spot.{Spot};
 
 use crate::comparing::Compared;
 use crate::fault::ScriptFault;
@@ -18,7 +19,7 @@ use crate::reader::{Reader, TextFault};
 use crate::rules::RulesByName;
 use crate::sight::sight_of;
 use gm_model::{Book, Dim, Items, Script, Stat};
-use gm_text::{Lexer, Token};
+use gm_text::{Lexer, Token, TokenKind};
 use std::alloc::Global;
 
 fn next_token(lexer: &mut Lexer<'_>) -> Result<Option<Token>, TextFault>
@@ -32,6 +33,35 @@ fn next_token(lexer: &mut Lexer<'_>) -> Result<Option<Token>, TextFault>
         Ok(found) => Ok(found),
         Err(fault) => Err(TextFault::Text { place: fault.place }),
     }
+}
+
+/// Reads the hooks that stand next, as long as they are small numbers with one blank before them.
+fn read_hooks(lexer: &mut Lexer<'_>, reader: &mut Reader) -> Result<(), TextFault>
+    requires spot { reader.old.spot ≡ Spot.Rule }
+    ensures ok { OnOk result (ReadsOn reader.old reader.new lexer.old lexer.new) }
+    ensures err { IfErr result (λ fault. (n : ℕ) → Fails fault (read_from n lexer.old.text reader.old (rest_of lexer.old))) }
+{
+    while let Some(number) = lexer.small_number() {
+        let token = Token {
+            kind: TokenKind::Number,
+            start: number.place,
+            end: lexer.place(),
+        };
+        reader.take_hook(number.value, token)?;
+    }
+    Ok(())
+}
+
+/// The same where hooks can stand, and elsewhere nothing.
+// Each hook that isn't read as a token by itself saves some 200 instructions.
+fn read_hooks_there(lexer: &mut Lexer<'_>, reader: &mut Reader) -> Result<(), TextFault>
+    ensures ok { OnOk result (ReadsOn reader.old reader.new lexer.old lexer.new) }
+    ensures err { IfErr result (λ fault. (n : ℕ) → Fails fault (read_from n lexer.old.text reader.old (rest_of lexer.old))) }
+{
+    if reader.takes_hooks() {
+        return read_hooks(lexer, reader);
+    }
+    Ok(())
 }
 
 /// Reads the text to its end, and compares each statement but the last.
@@ -51,10 +81,9 @@ fn read_tokens(
     let mut lexer = Lexer::new(bytes);
     while let Some(token) = next_token(&mut lexer)? {
         let sight = sight_of(&lexer, &token);
-        if let Some(stat) = reader.end_stat(sight) {
-            compared.add(bytes, stat, rules)?;
-        }
+        reader.end_stat(bytes, sight, rules, compared)?;
         reader.take(top, sight, token)?;
+        read_hooks_there(&mut lexer, reader)?;
     }
     Ok(())
 }
@@ -71,8 +100,8 @@ fn finish(
     ensures script { IfOk result (λ stats. ScriptText bytes.now dim (map rule_of rules.now) stats.items) }
     ensures fault { IfErr result (IsFaultOf bytes.now dim (map rule_of rules.now)) }
 {
-    if let Some(last) = reader.finish(bytes.len())? {
-        compared.add(bytes, last, rules)?;
+    if let Some(mut last) = reader.finish(bytes.len())? {
+        compared.add(bytes, &mut last, rules)?;
     }
     compared.finish()
 }

@@ -1,7 +1,8 @@
 use Rattle.std.proofs.Common.{length, map}
 use Rattle.std.proofs.lemmas.Result.{err_from_is_err_and}
 use Rattle.gm_model.specs.Rules.{rule_of}
-use Rattle.gm_script.proofs.Loop.{end_fails, Adds, adds_none, ends, done_script, done_fault}
+use Rattle.gm_script.specs.SoFar.{Adds}
+use Rattle.gm_script.proofs.Loop.{end_fails, adds_none, ends, done_script, done_fault}
 use Rattle.gm_script.proofs.reading.finish.Goals as goal
 use Rattle.gm_script.proofs.reading.finish.Goals.{in-Some+in_ok-add, in_default}
 
@@ -12,7 +13,7 @@ returns-in_err-last-clause-fault c =
 
 pub returns-clause-script : goal.returns-clause-script
 returns-clause-script c =
-    let adds : Adds c.args.bytes.now (map rule_of c.args.rules.now) c.args.dim c.in_ok-last.field-0 c.args.compared c.match-branch-2.compared =
+    let adds : Adds c.args.bytes.now (map rule_of c.args.rules.now) c.in_ok-last.field-0 c.args.compared c.match-branch-2.compared =
     elim c.match-branch-2.branch [
       | in-Some+in_ok-add w ↦ rw (w.compared-is, w.in-Some.is) w.in_ok-add.ensures.ok
       | in_default w ↦ rw (w.compared-is, w.in_default.is) (adds_none c.args.bytes.now (map rule_of c.args.rules.now) c.args.dim c.args.compared)
@@ -23,7 +24,7 @@ returns-clause-script c =
 
 pub returns-clause-fault : goal.returns-clause-fault
 returns-clause-fault c =
-    let adds : Adds c.args.bytes.now (map rule_of c.args.rules.now) c.args.dim c.in_ok-last.field-0 c.args.compared c.match-branch-2.compared =
+    let adds : Adds c.args.bytes.now (map rule_of c.args.rules.now) c.in_ok-last.field-0 c.args.compared c.match-branch-2.compared =
     elim c.match-branch-2.branch [
       | in-Some+in_ok-add w ↦ rw (w.compared-is, w.in-Some.is) w.in_ok-add.ensures.ok
       | in_default w ↦ rw (w.compared-is, w.in_default.is) (adds_none c.args.bytes.now (map rule_of c.args.rules.now) c.args.dim c.args.compared)

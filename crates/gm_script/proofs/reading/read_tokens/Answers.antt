@@ -4,9 +4,9 @@ use Rattle.gm_model.specs.Rules.{rule_of}
 use Rattle.gm_model.specs.Tokens.{EndAt}
 use Rattle.gm_text.specs.Lexing.{rest_of}
 use Rattle.gm_script.specs.Reading.{IsNext, sight_of, symbol_at, taken_at}
-use Rattle.gm_script.proofs.Loop.{starts, stray_fails, token_fails, Adds, adds_none, goes_on}
+use Rattle.gm_script.proofs.Hooks.{reads_on, hooks_fail}
+use Rattle.gm_script.proofs.Loop.{starts, stray_fails, token_fails, goes_on}
 use Rattle.gm_script.proofs.reading.read_tokens.Goals as goal
-use Rattle.gm_script.proofs.reading.read_tokens.Goals.{in-Some-end_stat+in_ok-add, in_default-end_stat}
 
 pub loop-token-init : goal.loop-token-init
 loop-token-init c = record {
@@ -29,6 +29,19 @@ returns-in_err-take-clause-fault c =
     (token_fails c.args.bytes.now (map rule_of c.args.rules.now) c.args.dim c.loop-token.reader c.in-Some.token (rest_of c.next_token.new.lexer) c.loop-token.compared (rw next.items at c.loop-token.invariant.so_far)
     c.in_err-take.field-0.0 (rw (c.top-top.ensures.value, c.end_stat.ensures.next c.args.dim c.in-Some.token, seen) at c.in_err-take.ensures))
 
+pub returns-in_err-read_hooks_there-clause-fault : goal.returns-in_err-read_hooks_there-clause-fault
+returns-in_err-read_hooks_there-clause-fault c =
+    let p = err_from_is_err_and c.from_residual-in_err-read_hooks_there.result c.from_residual-in_err-read_hooks_there.ensures.1 in
+    let next : IsNext c.loop-token.lexer c.in-Some.token c.next_token.new.lexer = rw c.in-Some.is at c.in_ok-token.ensures.found in
+    let text : c.next_token.new.lexer.text ≡ c.args.bytes.now = c.in_ok-token.ensures.text ∙ c.loop-token.invariant.text in
+    let seen : c.sight_of-sight.result ≡ sight_of (symbol_at c.args.bytes.now c.in-Some.token) = rw text at c.sight_of-sight.ensures in
+    let by_top : taken_at c.top-top.result c.sight_of-sight.result c.in-Some.token c.loop-token.reader ≡ Ok c.take.new.self = sym (c.end_stat.ensures.next c.top-top.result c.in-Some.token) ∙ c.in_ok-take.ensures in
+    let taken : taken_at c.args.dim c.sight_of-sight.result c.in-Some.token c.loop-token.reader ≡ Ok c.take.new.self = rw c.top-top.ensures.value at by_top in
+    let so_far =
+    goes_on c.args.bytes.now (map rule_of c.args.rules.now) c.args.dim c.loop-token.reader c.take.new.self c.in-Some.token (rest_of c.next_token.new.lexer) c.loop-token.compared c.end_stat.new.compared
+    (record { order = next.order; within = rw c.loop-token.invariant.text at next.within }) (rw next.items at c.loop-token.invariant.so_far) (rw seen at taken) (rw seen at c.in_ok-end_stat.ensures.added) in
+    rw (p.1, p.2) (hooks_fail c.args.bytes.now (map rule_of c.args.rules.now) c.args.dim c.take.new.self c.next_token.new.lexer text c.end_stat.new.compared so_far c.in_err-read_hooks_there.field-0.0 c.in_err-read_hooks_there.ensures.err)
+
 pub loop-token-preserved : goal.loop-token-preserved
 loop-token-preserved c =
     let next : IsNext c.loop-token.lexer c.in-Some.token c.next_token.new.lexer = rw c.in-Some.is at c.in_ok-token.ensures.found in
@@ -36,16 +49,13 @@ loop-token-preserved c =
     let seen : c.sight_of-sight.result ≡ sight_of (symbol_at c.args.bytes.now c.in-Some.token) = rw text at c.sight_of-sight.ensures in
     let by_top : taken_at c.top-top.result c.sight_of-sight.result c.in-Some.token c.loop-token.reader ≡ Ok c.take.new.self = sym (c.end_stat.ensures.next c.top-top.result c.in-Some.token) ∙ c.in_ok-take.ensures in
     let taken : taken_at c.args.dim c.sight_of-sight.result c.in-Some.token c.loop-token.reader ≡ Ok c.take.new.self = rw c.top-top.ensures.value at by_top in
-    let adds : Adds c.args.bytes.now (map rule_of c.args.rules.now) c.args.dim c.end_stat.result c.loop-token.compared c.match-end_stat.compared =
-    elim c.match-end_stat.branch [
-      | in-Some-end_stat+in_ok-add w ↦ rw (w.compared-is, w.in-Some-end_stat.is) w.in_ok-add.ensures.ok
-      | in_default-end_stat w ↦ rw (w.compared-is, w.in_default-end_stat.is) (adds_none c.args.bytes.now (map rule_of c.args.rules.now) c.args.dim c.loop-token.compared)
-    ] in
+    let further = c.in_ok-read_hooks_there.ensures.ok in
     record {
-      text = text;
+      text = further.text ∙ text;
       so_far =
-          goes_on c.args.bytes.now (map rule_of c.args.rules.now) c.args.dim c.loop-token.reader c.take.new.self c.in-Some.token (rest_of c.next_token.new.lexer) c.loop-token.compared c.match-end_stat.compared
-          (record { order = next.order; within = rw c.loop-token.invariant.text at next.within }) (rw next.items at c.loop-token.invariant.so_far) (rw seen at taken) (rw (c.end_stat.ensures.ended, seen) at adds);
+          reads_on c.args.bytes.now (map rule_of c.args.rules.now) c.args.dim c.take.new.self c.next_token.new.lexer text c.end_stat.new.compared (
+          goes_on c.args.bytes.now (map rule_of c.args.rules.now) c.args.dim c.loop-token.reader c.take.new.self c.in-Some.token (rest_of c.next_token.new.lexer) c.loop-token.compared c.end_stat.new.compared
+          (record { order = next.order; within = rw c.loop-token.invariant.text at next.within }) (rw next.items at c.loop-token.invariant.so_far) (rw seen at taken) (rw seen at c.in_ok-end_stat.ensures.added)) c.read_hooks_there.new.reader c.read_hooks_there.new.lexer further;
     }
 
 pub returns-clause-so_far : goal.returns-clause-so_far
