@@ -73,7 +73,8 @@ pub fn apply<L: Ledger>(
     };
     let (applied, changes) = ready(alloc, &reading, scratch, steps)?;
     reserve(arena, applied)?;
-    changes.commit(arena, steps);
+    let left = changes.commit(arena, steps);
+    scratch.keep_slots(left);
     let (slots, turns) = found.into_rows();
     scratch.keep_rows(slots, turns);
     Ok(applied)

@@ -36,7 +36,7 @@ impl<'a, 'm> Reading<'a, 'm> {
         for embed in 0..self.plan.schema().embeds.as_slice().len() as u8 {
             self.give_values(&mut pending, embed, scratch, steps)?;
         }
-        Ok(pending.into_changes(steps)?)
+        Ok(pending.into_changes(scratch.lend_slots(alloc), steps)?)
     }
 
     /// Gives each deciding instance of the embedding the value of its expression.

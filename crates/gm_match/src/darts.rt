@@ -6,21 +6,21 @@ use gm_arena::{Arena, Slot, Steps};
 use gm_model::MOST_NODES;
 use std::sync::ledger::Ledger;
 
-/// The slots of the darts that the hooks name, in their order. What stands behind them in the array
-/// means nothing.
+/// Writes the slots of the darts that the hooks name into the array, in their order. What stands
+/// behind them means nothing.
 pub(crate) fn hook_darts<L: Ledger>(
     arena: &Arena,
     hooks: &[u32],
+    slots: &mut [Slot; MOST_NODES],
     steps: &mut Steps<L>,
-) -> Result<[Slot; MOST_NODES], MatchFault>
+) -> Result<(), MatchFault>
     requires few { length hooks.now ≤ 32 }
     ensures darts { MatchResult result
-        (λ slots. AreHookSlots arena.now hooks.now (take (length hooks.now) slots))
+        (λ _. AreHookSlots arena.now hooks.now (take (length hooks.now) slots.new))
         (IsNoDart arena.now hooks.now) }
     ensures cost { steps.new ≤ steps.old + length hooks.now }
     ensures least { steps.old ≤ steps.new }
 {
-    let mut slots = [Slot { at: 0 }; MOST_NODES];
     for (index, name) in hooks.iter().enumerate() {
         let Some(slot) = arena.slot_of(*name, steps) else {
             return Err(MatchFault::NoDart { index: index as u8 });
@@ -28,5 +28,5 @@ pub(crate) fn hook_darts<L: Ledger>(
         prove!((slot.at as usize) < arena.bound());
         slots[index] = slot;
     }
-    Ok(slots)
+    Ok(())
 }

@@ -14,7 +14,8 @@ use crate::candidates::candidate;
 use crate::darts::hook_darts;
 use crate::fault::MatchFault;
 use crate::repeats::take_once;
-use gm_arena::{Arena, Steps};
+use gm_arena::{Arena, Slot, Steps};
+use gm_model::MOST_NODES;
 use gm_plan::{Instances, Plan};
 use gm_walk::Scratch;
 use std::alloc::Global;
@@ -50,7 +51,8 @@ pub fn find<L: Ledger>(
     ensures room { scratch.new.bound ≡ scratch.old.bound }
 {
     prove!(hooks.len() == plan.rule().hooks.as_slice().len());
-    let darts = hook_darts(arena, hooks, steps)?;
+    let mut darts = [Slot { at: 0 }; MOST_NODES];
+    hook_darts(arena, hooks, &mut darts, steps)?;
     if hooks.is_empty() {
         return Ok(Instances::new(Vec::new(alloc), Vec::new(alloc), 1, 0));
     }

@@ -52,19 +52,28 @@ impl<'a> Model for Changes<'a> {
 
 impl<'a> Pending<'a, '_> {
     /// The changes that make the arena the result. Each embedding was asked for, and each of its
-    /// deciding instances has a value.
-    pub fn into_changes<L: Ledger>(self, steps: &mut Steps<L>) -> Result<Changes<'a>, OutOfMemory>
+    /// deciding instances has a value. The vector is taken for its room alone, and the commit gives it
+    /// back.
+    pub fn into_changes<L: Ledger>(
+        self,
+        slots: Vec<Slot>,
+        steps: &mut Steps<L>,
+    ) -> Result<Changes<'a>, OutOfMemory>
         requires given { AllGiven self }
         ensures edits { IfOk result (λ edits. AreEditsOf self.entry edits) }
         ensures cost { (reached : ℕ) → IsReachedSumIn self.entry reached → steps.new ≤ steps.old + 6 * (self.entry.map.schema.dim + 1) * (length (rule_in self.entry).nodes * self.entry.placed.positions + reached + 1) }
         ensures least { steps.old ≤ steps.new }
     {
-        let changes = self.changes(steps);
+        let changes = self.changes(slots, steps);
         drop(self);
         changes
     }
 
-    fn changes<L: Ledger>(&self, steps: &mut Steps<L>) -> Result<Changes<'a>, OutOfMemory>
+    fn changes<L: Ledger>(
+        &self,
+        mut slots: Vec<Slot>,
+        steps: &mut Steps<L>,
+    ) -> Result<Changes<'a>, OutOfMemory>
         requires given { AllGiven self.now }
         ensures edits { IfOk result (λ edits. AreEditsOf self.now edits) }
         ensures cost { (reached : ℕ) → IsReachedSumIn self.now reached → steps.new ≤ steps.old + 6 * (self.now.map.schema.dim + 1) * (length (rule_in self.now).nodes * self.now.placed.positions + reached + 1) }
@@ -73,7 +82,7 @@ impl<'a> Pending<'a, '_> {
         let new_nodes = self.plan.added();
         let added = new_nodes as usize * self.found.positions() as usize;
         let rewrite = self.rewrite();
-        let slots = rewrite.left_slots(self.alloc, self.left_nodes(), new_nodes)?;
+        rewrite.left_slots(self.left_nodes(), new_nodes, &mut slots)?;
         let added_values = self.added_values(added, steps)?;
         let values = self.new_values()?;
         Ok(Changes {
@@ -106,6 +115,9 @@ fn nodes_that_go(plan: &Plan<'_>) -> [bool; MOST_NODES]
 {
     let rule = plan.rule();
     let mut goes = [false; MOST_NODES];
+    if plan.removed() == 0 {
+        return goes;
+    }
     for node in 0..rule.node_count() {
         goes[node as usize] = is_removed(rule, node);
     }

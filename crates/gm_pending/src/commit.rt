@@ -29,7 +29,9 @@ impl Changes<'_> {
     /// The darts that go leave before the new ones come, so that a full map can be rewritten: first
     /// the arcs that led to them are freed, then they are removed, then darts are added, then linked.
     /// An arc whose step is the same on both sides stays as it is. The values of old darts come last.
-    pub fn commit<L: Ledger>(self, arena: &mut Arena, steps: &mut Steps<L>)
+    ///
+    /// It gives back the vector that the changes were made with.
+    pub fn commit<L: Ledger>(self, arena: &mut Arena, steps: &mut Steps<L>) -> Vec<Slot>
         requires edits { AreEditsHere arena.old self }
         requires names { arena.old.next + self.added ≤ arena.old.reserved }
         requires room { self.added ≤ arena.old.spare + length self.removed }
@@ -55,6 +57,7 @@ impl Changes<'_> {
         add_darts(arena, added, &added_values, &mut slots, steps);
         rewrite.write(Arcs::Made, &slots, arena, steps);
         set_values(&values, arena, steps);
+        slots
     }
 }
 

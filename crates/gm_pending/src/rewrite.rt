@@ -1,4 +1,4 @@
-ghost use Rattle.std.specs.Prelude.{◌≡◌, ℕ, ◌+◌, ◌*◌, ◌<◌, ◌≤◌, ◌++◌, false, length, slice_index_or, IfOk, IsTrue};
+ghost use Rattle.std.specs.Prelude.{◌≡◌, ℕ, ◌+◌, ◌*◌, ◌<◌, ◌≤◌, ◌++◌, false, length, slice_index_or, OnOk, IsTrue};
 ghost use Rattle.std.specs.Vec.{vec_capacity};
 ghost use Rattle.gm_model.specs.declared.step.Step.{Step};
 ghost use Rattle.gm_pending.specs.Collected.{told_by, end_of, written_step, slot_in, left_slots_of, left_slots, made_in, AreSlots};
@@ -7,7 +7,6 @@ ghost use Rattle.gm_pending.specs.Written.{HasSlot, slot_of};
 use gm_arena::Slot;
 use gm_model::{MOST_LABELS, MOST_NODES, OutOfMemory, Step};
 use gm_plan::Instances;
-use std::alloc::Global;
 use std::marker::Model;
 
 /// Which arcs of an application are meant.
@@ -88,24 +87,25 @@ impl Rewrite<'_> {
         self.found.slot(node, position)
     }
 
-    /// The slots of so many left nodes, which are all, with room for those of the added ones behind
-    /// them.
+    /// Puts the slots of so many left nodes, which are all, in the place of what is in the vector, and
+    /// makes room for those of the added ones behind them.
     pub(crate) fn left_slots(
         &self,
-        alloc: Global,
         left: u8,
         added: u8,
-    ) -> Result<Vec<Slot>, OutOfMemory>
+        slots: &mut Vec<Slot>,
+    ) -> Result<(), OutOfMemory>
         requires { left ≡ self.now.placed.nodes }
-        ensures slots { IfOk result (λ slots. slots.items ≡ left_slots (told_by self.now)) }
-        ensures room { IfOk result (λ slots. length slots.items + added * self.now.placed.positions ≤ vec_capacity slots) }
+        ensures slots { OnOk result (slots.new.items ≡ left_slots (told_by self.now)) }
+        ensures room { OnOk result (length slots.new.items + added * self.now.placed.positions ≤ vec_capacity slots.new) }
     {
         let nodes = left as usize + added as usize;
-        let mut slots = Vec::with_capacity(alloc, nodes * self.positions() as usize)?;
+        slots.clear();
+        slots.reserve(nodes * self.positions() as usize)?;
         for node in 0..left {
-            self.put_left_slots(node, &mut slots);
+            self.put_left_slots(node, slots);
         }
-        Ok(slots)
+        Ok(())
     }
 
     /// Puts the slots of a left node behind the others, where there is room for them.

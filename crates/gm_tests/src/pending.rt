@@ -104,7 +104,9 @@ fn edits_of<'a, L: Ledger>(
             expect_same(rt, &pending.alpha(at, label, steps), &to);
         }
     }
-    pending.into_changes(steps).expect(rt, "memory")
+    pending
+        .into_changes(Vec::new(alloc), steps)
+        .expect(rt, "memory")
 }
 
 /// Applies the rule, whose new darts have these neighbours then, by name.

@@ -19,6 +19,8 @@ pub struct Scratch {
     /// Empty, or what was given back of what was lent for rows: it is kept for its room alone.
     slots: Vec<Slot>,
     turns: Vec<u32>,
+    /// Empty, or what was given back of what was lent for one list: it is kept for its room alone.
+    list: Vec<Slot>,
 }
 
 impl Model for Scratch {
@@ -47,6 +49,7 @@ impl Scratch {
             marks: Vec::new(alloc),
             slots: Vec::new(alloc),
             turns: Vec::new(alloc),
+            list: Vec::new(alloc),
         }
     }
 
@@ -69,6 +72,20 @@ impl Scratch {
     {
         self.slots = slots;
         self.turns = turns;
+    }
+
+    /// A vector with the room that it had when it was last given back. What is in it means nothing.
+    pub fn lend_slots(&mut self, alloc: Global) -> Vec<Slot>
+        ensures { self.new ≡ self.old }
+    {
+        mem::replace(&mut self.list, Vec::new(alloc))
+    }
+
+    /// Keeps the room of a vector for the next one that is lent.
+    pub fn keep_slots(&mut self, slots: Vec<Slot>)
+        ensures { self.new ≡ self.old }
+    {
+        self.list = slots;
     }
 
     /// Makes room for walks in the arena, and in any arena with no greater bound. A scratch that

@@ -69,50 +69,50 @@ returns-in_err-reserve-clause-no_more g c =
     let p = err_from_is_err_and c.from_residual-in_err-reserve.result c.from_residual-in_err-reserve.ensures.1 in
     rw p.1 (ForResult _ _ _ (c.in_ok-applied.ensures.ready c.args.hooks.now (readable_at _ _ c.requires.sound c.requires.schema c.rule.ensures.planned c.requires.params c.in_ok-found.ensures.answer)).room c.reserve.ensures.spare_most c.reserve.ensures.reserved_most)
 
-pub commit-requires-clause-edits : goal.commit-requires-clause-edits
-commit-requires-clause-edits g c = edits_there _ _ (readable_at _ _ c.requires.sound c.requires.schema c.rule.ensures.planned c.requires.params c.in_ok-found.ensures.answer) _ _ _ _ _ (c.in_ok-applied.ensures.ready c.args.hooks.now (readable_at _ _ c.requires.sound c.requires.schema c.rule.ensures.planned c.requires.params c.in_ok-found.ensures.answer)) c.reserve.new.arena c.in_ok-reserve.ensures.rows
+pub commit-left-requires-clause-edits : goal.commit-left-requires-clause-edits
+commit-left-requires-clause-edits g c = edits_there _ _ (readable_at _ _ c.requires.sound c.requires.schema c.rule.ensures.planned c.requires.params c.in_ok-found.ensures.answer) _ _ _ _ _ (c.in_ok-applied.ensures.ready c.args.hooks.now (readable_at _ _ c.requires.sound c.requires.schema c.rule.ensures.planned c.requires.params c.in_ok-found.ensures.answer)) c.reserve.new.arena c.in_ok-reserve.ensures.rows
 
-pub commit-requires-clause-names : goal.commit-requires-clause-names
-commit-requires-clause-names g c = names_reserved c.args.arena.now.next c.args.arena.now.reserved c.in_ok-applied.applied.added _ _ _ (new_is _ _ (readable_at _ _ c.requires.sound c.requires.schema c.rule.ensures.planned c.requires.params c.in_ok-found.ensures.answer) _ _ _ _ _ (c.in_ok-applied.ensures.ready c.args.hooks.now (readable_at _ _ c.requires.sound c.requires.schema c.rule.ensures.planned c.requires.params c.in_ok-found.ensures.answer))) (ap (λ m. m.next) c.in_ok-reserve.ensures.rows) c.in_ok-reserve.ensures.reserved
+pub commit-left-requires-clause-names : goal.commit-left-requires-clause-names
+commit-left-requires-clause-names g c = names_reserved c.args.arena.now.next c.args.arena.now.reserved c.in_ok-applied.applied.added _ _ _ (new_is _ _ (readable_at _ _ c.requires.sound c.requires.schema c.rule.ensures.planned c.requires.params c.in_ok-found.ensures.answer) _ _ _ _ _ (c.in_ok-applied.ensures.ready c.args.hooks.now (readable_at _ _ c.requires.sound c.requires.schema c.rule.ensures.planned c.requires.params c.in_ok-found.ensures.answer))) (ap (λ m. m.next) c.in_ok-reserve.ensures.rows) c.in_ok-reserve.ensures.reserved
 
-pub commit-requires-clause-room : goal.commit-requires-clause-room
-commit-requires-clause-room g c = room_reserved c.args.arena.now.spare c.in_ok-applied.applied.added c.in_ok-applied.applied.removed _ _ _ (new_is _ _ (readable_at _ _ c.requires.sound c.requires.schema c.rule.ensures.planned c.requires.params c.in_ok-found.ensures.answer) _ _ _ _ _ (c.in_ok-applied.ensures.ready c.args.hooks.now (readable_at _ _ c.requires.sound c.requires.schema c.rule.ensures.planned c.requires.params c.in_ok-found.ensures.answer))) (old_is _ _ (readable_at _ _ c.requires.sound c.requires.schema c.rule.ensures.planned c.requires.params c.in_ok-found.ensures.answer) _ _ _ _ _ (c.in_ok-applied.ensures.ready c.args.hooks.now (readable_at _ _ c.requires.sound c.requires.schema c.rule.ensures.planned c.requires.params c.in_ok-found.ensures.answer))) c.in_ok-reserve.ensures.spare
+pub commit-left-requires-clause-room : goal.commit-left-requires-clause-room
+commit-left-requires-clause-room g c = room_reserved c.args.arena.now.spare c.in_ok-applied.applied.added c.in_ok-applied.applied.removed _ _ _ (new_is _ _ (readable_at _ _ c.requires.sound c.requires.schema c.rule.ensures.planned c.requires.params c.in_ok-found.ensures.answer) _ _ _ _ _ (c.in_ok-applied.ensures.ready c.args.hooks.now (readable_at _ _ c.requires.sound c.requires.schema c.rule.ensures.planned c.requires.params c.in_ok-found.ensures.answer))) (old_is _ _ (readable_at _ _ c.requires.sound c.requires.schema c.rule.ensures.planned c.requires.params c.in_ok-found.ensures.answer) _ _ _ _ _ (c.in_ok-applied.ensures.ready c.args.hooks.now (readable_at _ _ c.requires.sound c.requires.schema c.rule.ensures.planned c.requires.params c.in_ok-found.ensures.answer))) c.in_ok-reserve.ensures.spare
 
 pub returns-clause-outcome : goal.returns-clause-outcome
-returns-clause-outcome g c = done _ _ (readable_at _ _ c.requires.sound c.requires.schema c.rule.ensures.planned c.requires.params c.in_ok-found.ensures.answer) _ _ _ _ _ (c.in_ok-applied.ensures.ready c.args.hooks.now (readable_at _ _ c.requires.sound c.requires.schema c.rule.ensures.planned c.requires.params c.in_ok-found.ensures.answer)) c.reserve.new.arena c.commit.new.arena c.in_ok-reserve.ensures.rows c.commit.ensures.unfolded
+returns-clause-outcome g c = done _ _ (readable_at _ _ c.requires.sound c.requires.schema c.rule.ensures.planned c.requires.params c.in_ok-found.ensures.answer) _ _ _ _ _ (c.in_ok-applied.ensures.ready c.args.hooks.now (readable_at _ _ c.requires.sound c.requires.schema c.rule.ensures.planned c.requires.params c.in_ok-found.ensures.answer)) c.reserve.new.arena c.commit-left.new.arena c.in_ok-reserve.ensures.rows c.commit-left.ensures.unfolded
 
 pub returns-clause-sound : goal.returns-clause-sound
 returns-clause-sound g c =
     applications_keep_sound_maps (application_of c.args.arena.now (rule_of c.args.plan.now.table) c.args.hooks.now c.args.params.now) _ _ _ c.reserve.ensures.lawful.schema c.requires.sound (accepted_for c.args.arena.now c.args.plan.now.schema (rule_of c.args.plan.now.table) c.requires.schema c.rule.ensures.planned) c.requires.params
-    (done _ _ (readable_at _ _ c.requires.sound c.requires.schema c.rule.ensures.planned c.requires.params c.in_ok-found.ensures.answer) _ _ _ _ _ (c.in_ok-applied.ensures.ready c.args.hooks.now (readable_at _ _ c.requires.sound c.requires.schema c.rule.ensures.planned c.requires.params c.in_ok-found.ensures.answer)) c.reserve.new.arena c.commit.new.arena c.in_ok-reserve.ensures.rows c.commit.ensures.unfolded)
+    (done _ _ (readable_at _ _ c.requires.sound c.requires.schema c.rule.ensures.planned c.requires.params c.in_ok-found.ensures.answer) _ _ _ _ _ (c.in_ok-applied.ensures.ready c.args.hooks.now (readable_at _ _ c.requires.sound c.requires.schema c.rule.ensures.planned c.requires.params c.in_ok-found.ensures.answer)) c.reserve.new.arena c.commit-left.new.arena c.in_ok-reserve.ensures.rows c.commit-left.ensures.unfolded)
 
 pub returns-clause-schema : goal.returns-clause-schema
-returns-clause-schema g c = c.commit.ensures.schema ∙ ap (λ m. m.schema) c.in_ok-reserve.ensures.rows
+returns-clause-schema g c = c.commit-left.ensures.schema ∙ ap (λ m. m.schema) c.in_ok-reserve.ensures.rows
 
 pub returns-clause-most : goal.returns-clause-most
-returns-clause-most g c most budget = within_done _ _ (readable_at _ _ c.requires.sound c.requires.schema c.rule.ensures.planned c.requires.params c.in_ok-found.ensures.answer) _ _ _ _ _ (c.in_ok-applied.ensures.ready c.args.hooks.now (readable_at _ _ c.requires.sound c.requires.schema c.rule.ensures.planned c.requires.params c.in_ok-found.ensures.answer)) c.reserve.ensures.lawful.schema most c.args.steps.now budget (c.in_ok-found.ensures.cost c.args.params.now) c.commit.new.steps c.commit.ensures.most
+returns-clause-most g c most budget = within_done _ _ (readable_at _ _ c.requires.sound c.requires.schema c.rule.ensures.planned c.requires.params c.in_ok-found.ensures.answer) _ _ _ _ _ (c.in_ok-applied.ensures.ready c.args.hooks.now (readable_at _ _ c.requires.sound c.requires.schema c.rule.ensures.planned c.requires.params c.in_ok-found.ensures.answer)) c.reserve.ensures.lawful.schema most c.args.steps.now budget (c.in_ok-found.ensures.cost c.args.params.now) c.commit-left.new.steps c.commit-left.ensures.most
 
 pub returns-clause-rises : goal.returns-clause-rises
 returns-clause-rises g c =
     let ready = c.in_ok-applied.ensures.ready c.args.hooks.now (readable_at _ _ c.requires.sound c.requires.schema c.rule.ensures.planned c.requires.params c.in_ok-found.ensures.answer) in
-    rises_to_the_end _ _ _ _ _ _ _ c.in_ok-found.ensures.least ready.rises ready.edited.rises c.commit.ensures.least
+    rises_to_the_end _ _ _ _ _ _ _ c.in_ok-found.ensures.least ready.rises ready.edited.rises c.commit-left.ensures.least
 
 pub returns-clause-spare : goal.returns-clause-spare
-returns-clause-spare g c = spare_then c.args.arena.now.spare c.in_ok-applied.applied.added c.in_ok-applied.applied.removed _ _ _ _ (new_is _ _ (readable_at _ _ c.requires.sound c.requires.schema c.rule.ensures.planned c.requires.params c.in_ok-found.ensures.answer) _ _ _ _ _ (c.in_ok-applied.ensures.ready c.args.hooks.now (readable_at _ _ c.requires.sound c.requires.schema c.rule.ensures.planned c.requires.params c.in_ok-found.ensures.answer))) (old_is _ _ (readable_at _ _ c.requires.sound c.requires.schema c.rule.ensures.planned c.requires.params c.in_ok-found.ensures.answer) _ _ _ _ _ (c.in_ok-applied.ensures.ready c.args.hooks.now (readable_at _ _ c.requires.sound c.requires.schema c.rule.ensures.planned c.requires.params c.in_ok-found.ensures.answer))) c.in_ok-reserve.ensures.spare c.commit.ensures.spare
+returns-clause-spare g c = spare_then c.args.arena.now.spare c.in_ok-applied.applied.added c.in_ok-applied.applied.removed _ _ _ _ (new_is _ _ (readable_at _ _ c.requires.sound c.requires.schema c.rule.ensures.planned c.requires.params c.in_ok-found.ensures.answer) _ _ _ _ _ (c.in_ok-applied.ensures.ready c.args.hooks.now (readable_at _ _ c.requires.sound c.requires.schema c.rule.ensures.planned c.requires.params c.in_ok-found.ensures.answer))) (old_is _ _ (readable_at _ _ c.requires.sound c.requires.schema c.rule.ensures.planned c.requires.params c.in_ok-found.ensures.answer) _ _ _ _ _ (c.in_ok-applied.ensures.ready c.args.hooks.now (readable_at _ _ c.requires.sound c.requires.schema c.rule.ensures.planned c.requires.params c.in_ok-found.ensures.answer))) c.in_ok-reserve.ensures.spare c.commit-left.ensures.spare
 
 pub returns-clause-reserved : goal.returns-clause-reserved
-returns-clause-reserved g c = c.commit.ensures.reserved ∙ c.in_ok-reserve.ensures.reserved
+returns-clause-reserved g c = c.commit-left.ensures.reserved ∙ c.in_ok-reserve.ensures.reserved
 
 pub returns-clause-spare_stays : goal.returns-clause-spare_stays
-returns-clause-spare_stays g c = spare_stays_then c.args.arena.now.count c.args.arena.now.spare _ _ _ _ _ _ (ap (λ m. m.count) c.in_ok-reserve.ensures.rows) c.in_ok-reserve.ensures.spare_stays c.commit.ensures.count c.commit.ensures.spare
+returns-clause-spare_stays g c = spare_stays_then c.args.arena.now.count c.args.arena.now.spare _ _ _ _ _ _ (ap (λ m. m.count) c.in_ok-reserve.ensures.rows) c.in_ok-reserve.ensures.spare_stays c.commit-left.ensures.count c.commit-left.ensures.spare
 
 pub returns-clause-reserved_stays : goal.returns-clause-reserved_stays
-returns-clause-reserved_stays g c = still_above _ _ _ c.in_ok-reserve.ensures.reserved_stays c.commit.ensures.reserved
+returns-clause-reserved_stays g c = still_above _ _ _ c.in_ok-reserve.ensures.reserved_stays c.commit-left.ensures.reserved
 
 pub returns-clause-least : goal.returns-clause-least
 returns-clause-least g c =
     let ready = c.in_ok-applied.ensures.ready c.args.hooks.now (readable_at _ _ c.requires.sound c.requires.schema c.rule.ensures.planned c.requires.params c.in_ok-found.ensures.answer) in
-    steps_of_darts _ _ _ _ _ _ _ _ _ c.in_ok-found.ensures.least ready.rises ready.edited.rises c.commit.ensures.least (new_is _ _ (readable_at _ _ c.requires.sound c.requires.schema c.rule.ensures.planned c.requires.params c.in_ok-found.ensures.answer) _ _ _ _ _ (c.in_ok-applied.ensures.ready c.args.hooks.now (readable_at _ _ c.requires.sound c.requires.schema c.rule.ensures.planned c.requires.params c.in_ok-found.ensures.answer))) (old_is _ _ (readable_at _ _ c.requires.sound c.requires.schema c.rule.ensures.planned c.requires.params c.in_ok-found.ensures.answer) _ _ _ _ _ (c.in_ok-applied.ensures.ready c.args.hooks.now (readable_at _ _ c.requires.sound c.requires.schema c.rule.ensures.planned c.requires.params c.in_ok-found.ensures.answer)))
+    steps_of_darts _ _ _ _ _ _ _ _ _ c.in_ok-found.ensures.least ready.rises ready.edited.rises c.commit-left.ensures.least (new_is _ _ (readable_at _ _ c.requires.sound c.requires.schema c.rule.ensures.planned c.requires.params c.in_ok-found.ensures.answer) _ _ _ _ _ (c.in_ok-applied.ensures.ready c.args.hooks.now (readable_at _ _ c.requires.sound c.requires.schema c.rule.ensures.planned c.requires.params c.in_ok-found.ensures.answer))) (old_is _ _ (readable_at _ _ c.requires.sound c.requires.schema c.rule.ensures.planned c.requires.params c.in_ok-found.ensures.answer) _ _ _ _ _ (c.in_ok-applied.ensures.ready c.args.hooks.now (readable_at _ _ c.requires.sound c.requires.schema c.rule.ensures.planned c.requires.params c.in_ok-found.ensures.answer)))
 
 pub returns-in_err-fit-clause-outcome : goal.returns-in_err-fit-clause-outcome
 returns-in_err-fit-clause-outcome g c =
@@ -257,7 +257,7 @@ pub returns-in_err-reserve-clause-room : goal.returns-in_err-reserve-clause-room
 returns-in_err-reserve-clause-room g c = still_above _ _ _ c.fit.ensures.kept (c.ready.ensures.room ∙ c.find.ensures.room)
 
 pub returns-clause-room : goal.returns-clause-room
-returns-clause-room g c = still_above _ _ _ c.fit.ensures.kept (ap (λ room. room.bound) c.keep_rows.ensures ∙ c.ready.ensures.room ∙ c.find.ensures.room)
+returns-clause-room g c = still_above _ _ _ c.fit.ensures.kept (ap (λ room. room.bound) (c.keep_rows.ensures ∙ c.keep_slots.ensures) ∙ c.ready.ensures.room ∙ c.find.ensures.room)
 
 pub returns-clause-no_more : goal.returns-clause-no_more
 returns-clause-no_more g c = tt

@@ -19,27 +19,27 @@ hook_darts-requires g c =
     let few = few_hooks c.args.plan.now.schema (rule_of c.args.plan.now.table) c.rule.ensures.planned in
     omega (arith, few, c.requires.hooks, c.rule.ensures.planned.within.nodes)
 
-pub returns-in_err-darts-clause-answer : goal.returns-in_err-darts-clause-answer
-returns-in_err-darts-clause-answer g c =
+pub returns-in_err-hook_darts-clause-answer : goal.returns-in_err-hook_darts-clause-answer
+returns-in_err-hook_darts-clause-answer g c =
     let m = c.args.arena.now in
     let rule = rule_of c.args.plan.now.table in
     let sound = sound_of m c.args.plan.now.schema rule c.requires.map c.requires.schema c.rule.ensures.planned in
     let p = err_from_is_err_and c.from_residual.result c.from_residual.ensures.1 in
-    rw (p.1, p.2) (dart_cause m rule sound c.args.hooks.now _ c.in_err-darts.ensures.darts)
+    rw (p.1, p.2) (dart_cause m rule sound c.args.hooks.now _ c.in_err-hook_darts.ensures.darts)
 
-pub returns-in_err-darts-clause-none_missed : goal.returns-in_err-darts-clause-none_missed
-returns-in_err-darts-clause-none_missed g c =
+pub returns-in_err-hook_darts-clause-none_missed : goal.returns-in_err-hook_darts-clause-none_missed
+returns-in_err-hook_darts-clause-none_missed g c =
     let m = c.args.arena.now in
     let rule = rule_of c.args.plan.now.table in
     let sound = sound_of m c.args.plan.now.schema rule c.requires.map c.requires.schema c.rule.ensures.planned in
-    λ place matched. absurd (dart_missed m rule sound c.args.hooks.now _ c.in_err-darts.ensures.darts place matched)
+    λ place matched. absurd (dart_missed m rule sound c.args.hooks.now _ c.in_err-hook_darts.ensures.darts place matched)
 
-pub returns-in_err-darts-clause-cost : goal.returns-in_err-darts-clause-cost
-returns-in_err-darts-clause-cost g c =
+pub returns-in_err-hook_darts-clause-cost : goal.returns-in_err-hook_darts-clause-cost
+returns-in_err-hook_darts-clause-cost g c =
     let m = c.args.arena.now in
     let rule = rule_of c.args.plan.now.table in
     let sound = sound_of m c.args.plan.now.schema rule c.requires.map c.requires.schema c.rule.ensures.planned in
-    missed_cost m rule sound c.args.hooks.now _ c.in_err-darts.ensures.darts c.requires.hooks _ _ c.in_err-darts.ensures.cost
+    missed_cost m rule sound c.args.hooks.now _ c.in_err-hook_darts.ensures.darts c.requires.hooks _ _ c.in_err-hook_darts.ensures.cost
 
 pub returns-then-is_empty-clause-answer : goal.returns-then-is_empty-clause-answer
 returns-then-is_empty-clause-answer g c =
@@ -56,17 +56,17 @@ returns-in_err-found-clause-cost g c =
     let m = c.args.arena.now in
     let rule = rule_of c.args.plan.now.table in
     let sound = sound_of m c.args.plan.now.schema rule c.requires.map c.requires.schema c.rule.ensures.planned in
-    let are = c.in_ok-darts.ensures.darts in
+    let are = c.in_ok-hook_darts.ensures.darts in
     let begun = begun_of m rule c.args.hooks.now _ sound c.bound.ensures.lawful (not_nil c.args.hooks.now c.is_empty.result c.is_empty.ensures c.if-is_empty.false) c.requires.hooks are in
     let make = subst (λ hs. (walk : List ℕ) → IsWalk (along_hook (as_map m) rule) (width rule) (slice_index hs 0) walk → c.candidate.new.steps ≤ c.hook_darts.new.steps + 6 * (m.schema.dim + 1) * (length rule.nodes * length walk)) are.names c.candidate.ensures.cost in
-    made_cost m rule _ begun _ _ _ c.in_ok-darts.ensures.cost make
+    made_cost m rule _ begun _ _ _ c.in_ok-hook_darts.ensures.cost make
 
 pub returns-in_err-meet_steps-clause-answer : goal.returns-in_err-meet_steps-clause-answer
 returns-in_err-meet_steps-clause-answer g c =
     let m = c.args.arena.now in
     let rule = rule_of c.args.plan.now.table in
     let sound = sound_of m c.args.plan.now.schema rule c.requires.map c.requires.schema c.rule.ensures.planned in
-    let are = c.in_ok-darts.ensures.darts in
+    let are = c.in_ok-hook_darts.ensures.darts in
     let begun = begun_of m rule c.args.hooks.now _ sound c.bound.ensures.lawful (not_nil c.args.hooks.now c.is_empty.result c.is_empty.ensures c.if-is_empty.false) c.requires.hooks are in
     let found = c.in_ok-found.found in
     let at = subst (λ hs. IsCandidateAt m rule hs found) are.names c.in_ok-found.ensures.candidate in
@@ -78,7 +78,7 @@ returns-in_err-meet_steps-clause-none_missed g c =
     let m = c.args.arena.now in
     let rule = rule_of c.args.plan.now.table in
     let sound = sound_of m c.args.plan.now.schema rule c.requires.map c.requires.schema c.rule.ensures.planned in
-    let are = c.in_ok-darts.ensures.darts in
+    let are = c.in_ok-hook_darts.ensures.darts in
     let begun = begun_of m rule c.args.hooks.now _ sound c.bound.ensures.lawful (not_nil c.args.hooks.now c.is_empty.result c.is_empty.ensures c.if-is_empty.false) c.requires.hooks are in
     let found = c.in_ok-found.found in
     let at = subst (λ hs. IsCandidateAt m rule hs found) are.names c.in_ok-found.ensures.candidate in
@@ -89,12 +89,12 @@ returns-in_err-meet_steps-clause-cost g c =
     let m = c.args.arena.now in
     let rule = rule_of c.args.plan.now.table in
     let sound = sound_of m c.args.plan.now.schema rule c.requires.map c.requires.schema c.rule.ensures.planned in
-    let are = c.in_ok-darts.ensures.darts in
+    let are = c.in_ok-hook_darts.ensures.darts in
     let begun = begun_of m rule c.args.hooks.now _ sound c.bound.ensures.lawful (not_nil c.args.hooks.now c.is_empty.result c.is_empty.ensures c.if-is_empty.false) c.requires.hooks are in
     let make = subst (λ hs. (walk : List ℕ) → IsWalk (along_hook (as_map m) rule) (width rule) (slice_index hs 0) walk → c.candidate.new.steps ≤ c.hook_darts.new.steps + 6 * (m.schema.dim + 1) * (length rule.nodes * length walk)) are.names c.candidate.ensures.cost in
     let found = c.in_ok-found.found in
     let at = subst (λ hs. IsCandidateAt m rule hs found) are.names c.in_ok-found.ensures.candidate in
-    tested_cost m rule _ begun found at _ _ _ _ c.in_ok-darts.ensures.cost make c.meet_steps.ensures.cost
+    tested_cost m rule _ begun found at _ _ _ _ c.in_ok-hook_darts.ensures.cost make c.meet_steps.ensures.cost
 
 pub take_once-requires-clause-nodes : goal.take_once-requires-clause-nodes
 take_once-requires-clause-nodes g c =
@@ -109,7 +109,7 @@ take_once-requires-clause-alone g c =
     let m = c.args.arena.now in
     let rule = rule_of c.args.plan.now.table in
     let sound = sound_of m c.args.plan.now.schema rule c.requires.map c.requires.schema c.rule.ensures.planned in
-    let are = c.in_ok-darts.ensures.darts in
+    let are = c.in_ok-hook_darts.ensures.darts in
     let begun = begun_of m rule c.args.hooks.now _ sound c.bound.ensures.lawful (not_nil c.args.hooks.now c.is_empty.result c.is_empty.ensures c.if-is_empty.false) c.requires.hooks are in
     let found = c.in_ok-found.found in
     let at = subst (λ hs. IsCandidateAt m rule hs found) are.names c.in_ok-found.ensures.candidate in
@@ -120,7 +120,7 @@ returns-in_err-take_once-clause-answer g c =
     let m = c.args.arena.now in
     let rule = rule_of c.args.plan.now.table in
     let sound = sound_of m c.args.plan.now.schema rule c.requires.map c.requires.schema c.rule.ensures.planned in
-    let are = c.in_ok-darts.ensures.darts in
+    let are = c.in_ok-hook_darts.ensures.darts in
     let begun = begun_of m rule c.args.hooks.now _ sound c.bound.ensures.lawful (not_nil c.args.hooks.now c.is_empty.result c.is_empty.ensures c.if-is_empty.false) c.requires.hooks are in
     let found = c.in_ok-found.found in
     let at = subst (λ hs. IsCandidateAt m rule hs found) are.names c.in_ok-found.ensures.candidate in
@@ -132,7 +132,7 @@ returns-in_err-take_once-clause-none_missed g c =
     let m = c.args.arena.now in
     let rule = rule_of c.args.plan.now.table in
     let sound = sound_of m c.args.plan.now.schema rule c.requires.map c.requires.schema c.rule.ensures.planned in
-    let are = c.in_ok-darts.ensures.darts in
+    let are = c.in_ok-hook_darts.ensures.darts in
     let begun = begun_of m rule c.args.hooks.now _ sound c.bound.ensures.lawful (not_nil c.args.hooks.now c.is_empty.result c.is_empty.ensures c.if-is_empty.false) c.requires.hooks are in
     let found = c.in_ok-found.found in
     let at = subst (λ hs. IsCandidateAt m rule hs found) are.names c.in_ok-found.ensures.candidate in
@@ -143,19 +143,19 @@ returns-in_err-take_once-clause-cost g c =
     let m = c.args.arena.now in
     let rule = rule_of c.args.plan.now.table in
     let sound = sound_of m c.args.plan.now.schema rule c.requires.map c.requires.schema c.rule.ensures.planned in
-    let are = c.in_ok-darts.ensures.darts in
+    let are = c.in_ok-hook_darts.ensures.darts in
     let begun = begun_of m rule c.args.hooks.now _ sound c.bound.ensures.lawful (not_nil c.args.hooks.now c.is_empty.result c.is_empty.ensures c.if-is_empty.false) c.requires.hooks are in
     let make = subst (λ hs. (walk : List ℕ) → IsWalk (along_hook (as_map m) rule) (width rule) (slice_index hs 0) walk → c.candidate.new.steps ≤ c.hook_darts.new.steps + 6 * (m.schema.dim + 1) * (length rule.nodes * length walk)) are.names c.candidate.ensures.cost in
     let found = c.in_ok-found.found in
     let at = subst (λ hs. IsCandidateAt m rule hs found) are.names c.in_ok-found.ensures.candidate in
-    tested_cost m rule _ begun found at _ _ _ _ c.in_ok-darts.ensures.cost make c.meet_steps.ensures.cost
+    tested_cost m rule _ begun found at _ _ _ _ c.in_ok-hook_darts.ensures.cost make c.meet_steps.ensures.cost
 
 pub returns-clause-answer : goal.returns-clause-answer
 returns-clause-answer g c =
     let m = c.args.arena.now in
     let rule = rule_of c.args.plan.now.table in
     let sound = sound_of m c.args.plan.now.schema rule c.requires.map c.requires.schema c.rule.ensures.planned in
-    let are = c.in_ok-darts.ensures.darts in
+    let are = c.in_ok-hook_darts.ensures.darts in
     let begun = begun_of m rule c.args.hooks.now _ sound c.bound.ensures.lawful (not_nil c.args.hooks.now c.is_empty.result c.is_empty.ensures c.if-is_empty.false) c.requires.hooks are in
     let found = c.in_ok-found.found in
     let at = subst (λ hs. IsCandidateAt m rule hs found) are.names c.in_ok-found.ensures.candidate in
@@ -166,21 +166,21 @@ returns-clause-cost g c =
     let m = c.args.arena.now in
     let rule = rule_of c.args.plan.now.table in
     let sound = sound_of m c.args.plan.now.schema rule c.requires.map c.requires.schema c.rule.ensures.planned in
-    let are = c.in_ok-darts.ensures.darts in
+    let are = c.in_ok-hook_darts.ensures.darts in
     let begun = begun_of m rule c.args.hooks.now _ sound c.bound.ensures.lawful (not_nil c.args.hooks.now c.is_empty.result c.is_empty.ensures c.if-is_empty.false) c.requires.hooks are in
     let make = subst (λ hs. (walk : List ℕ) → IsWalk (along_hook (as_map m) rule) (width rule) (slice_index hs 0) walk → c.candidate.new.steps ≤ c.hook_darts.new.steps + 6 * (m.schema.dim + 1) * (length rule.nodes * length walk)) are.names c.candidate.ensures.cost in
     let found = c.in_ok-found.found in
     let at = subst (λ hs. IsCandidateAt m rule hs found) are.names c.in_ok-found.ensures.candidate in
-    tested_cost m rule _ begun found at _ _ _ _ c.in_ok-darts.ensures.cost make c.meet_steps.ensures.cost
+    tested_cost m rule _ begun found at _ _ _ _ c.in_ok-hook_darts.ensures.cost make c.meet_steps.ensures.cost
 
 pub prove-unreachable-requires : goal.prove-unreachable-requires
 prove-unreachable-requires g c = c.if-prove.true (c.requires.hooks ∙ sym (ap length (c.as_slice.ensures ∙ ap (λ (table : RuleTable). table.hooks) c.rule.ensures.rule)))
 
-pub returns-in_err-darts-clause-least : goal.returns-in_err-darts-clause-least
-returns-in_err-darts-clause-least g c = c.hook_darts.ensures.least
+pub returns-in_err-hook_darts-clause-least : goal.returns-in_err-hook_darts-clause-least
+returns-in_err-hook_darts-clause-least g c = c.hook_darts.ensures.least
 
-pub returns-in_err-darts-clause-room : goal.returns-in_err-darts-clause-room
-returns-in_err-darts-clause-room g c = refl
+pub returns-in_err-hook_darts-clause-room : goal.returns-in_err-hook_darts-clause-room
+returns-in_err-hook_darts-clause-room g c = refl
 
 pub new-requires-then-is_empty-2-clause-slots : goal.new-requires-then-is_empty-2-clause-slots
 new-requires-then-is_empty-2-clause-slots g c = (0, sym (ap length c.new.ensures.items))
@@ -197,7 +197,7 @@ returns-then-is_empty-clause-none_missed g c = λ place matched. tt
 pub returns-then-is_empty-clause-cost : goal.returns-then-is_empty-clause-cost
 returns-then-is_empty-clause-cost g c =
     let none = is_nil c.args.hooks.now c.is_empty.result c.is_empty.ensures c.if-is_empty.true in
-    λ params k has. no_cost _ _ _ _ c.in_ok-darts.ensures.cost (ap length none)
+    λ params k has. no_cost _ _ _ _ c.in_ok-hook_darts.ensures.cost (ap length none)
 
 pub returns-then-is_empty-clause-least : goal.returns-then-is_empty-clause-least
 returns-then-is_empty-clause-least g c = c.hook_darts.ensures.least
@@ -206,10 +206,10 @@ pub returns-then-is_empty-clause-room : goal.returns-then-is_empty-clause-room
 returns-then-is_empty-clause-room g c = refl
 
 pub slice_bounds-darts-end : goal.slice_bounds-darts-end
-slice_bounds-darts-end g c = within_taken (length c.args.hooks.now) c.in_ok-darts.darts (as_many c.args.arena.now c.args.hooks.now _ c.in_ok-darts.ensures.darts)
+slice_bounds-darts-end g c = within_taken (length c.args.hooks.now) c.hook_darts.new.slots (as_many c.args.arena.now c.args.hooks.now _ c.in_ok-hook_darts.ensures.darts)
 
 pub slice_bounds-darts-end-2 : goal.slice_bounds-darts-end-2
-slice_bounds-darts-end-2 g c = sym (as_many c.args.arena.now c.args.hooks.now _ c.in_ok-darts.ensures.darts)
+slice_bounds-darts-end-2 g c = sym (as_many c.args.arena.now c.args.hooks.now _ c.in_ok-hook_darts.ensures.darts)
 
 pub candidate-requires-clause-matchable : goal.candidate-requires-clause-matchable
 candidate-requires-clause-matchable g c = record { lawful = c.bound.ensures.lawful; generalised = c.requires.map; schema = c.requires.schema; planned = c.rule.ensures.planned }
@@ -217,13 +217,13 @@ candidate-requires-clause-matchable g c = record { lawful = c.bound.ensures.lawf
 pub candidate-requires-clause-some : goal.candidate-requires-clause-some
 candidate-requires-clause-some g c =
     let some = not_nil c.args.hooks.now c.is_empty.result c.is_empty.ensures c.if-is_empty.false in
-    subst (λ n. 0 < n) (sym (as_many c.args.arena.now c.args.hooks.now _ c.in_ok-darts.ensures.darts)) some
+    subst (λ n. 0 < n) (sym (as_many c.args.arena.now c.args.hooks.now _ c.in_ok-hook_darts.ensures.darts)) some
 
 pub candidate-requires-clause-count : goal.candidate-requires-clause-count
-candidate-requires-clause-count g c = as_many c.args.arena.now c.args.hooks.now _ c.in_ok-darts.ensures.darts ∙ c.requires.hooks
+candidate-requires-clause-count g c = as_many c.args.arena.now c.args.hooks.now _ c.in_ok-hook_darts.ensures.darts ∙ c.requires.hooks
 
 pub candidate-requires-clause-live : goal.candidate-requires-clause-live
-candidate-requires-clause-live g c = c.in_ok-darts.ensures.darts.live
+candidate-requires-clause-live g c = c.in_ok-hook_darts.ensures.darts.live
 
 pub candidate-requires-clause-fits : goal.candidate-requires-clause-fits
 candidate-requires-clause-fits g c = c.requires.fits
@@ -274,4 +274,4 @@ returns-clause-room g c = c.take_once.ensures.room ∙ c.candidate.ensures.room
 pub prove-unreachable-requires-2 : goal.prove-unreachable-requires-2
 prove-unreachable-requires-2 g c =
     let some = not_nil c.args.hooks.now c.is_empty.result c.is_empty.ensures c.if-is_empty.false in
-    omega (arith, c.if-prove-2.true, c.bound.ensures.bound, first_below c.args.arena.now c.args.hooks.now c.in_ok-darts.darts c.bound.ensures.lawful c.in_ok-darts.ensures.darts some)
+    omega (arith, c.if-prove-2.true, c.bound.ensures.bound, first_below c.args.arena.now c.args.hooks.now c.hook_darts.new.slots c.bound.ensures.lawful c.in_ok-hook_darts.ensures.darts some)

@@ -1,8 +1,9 @@
-use Rattle.std.proofs.Common.{false, length, ap, ◌∙◌, inl, inr, arith}
+use Rattle.std.proofs.Common.{false, length, ap, sym, ◌∙◌, inl, inr, arith}
 use Rattle.std.proofs.lemmas.Bool.{cases_eq}
-use Rattle.std.proofs.lemmas.List.{get_or-set_same, get_or-set_other, length-set}
+use Rattle.std.proofs.lemmas.List.{get_or-set_same, get_or-replicate, get_or-set_other, length-set}
 use Rattle.gm_model.specs.declared.rule.RuleTable.{RuleTable}
 use Rattle.gm_model.specs.Rules.{rule_of, is_removed}
+use Rattle.gm_pending.proofs.Unremoved.{stays}
 use Rattle.gm_pending.proofs.changes.nodes_that_go.Goals as goal
 
 pub loop-node-preserved : goal.loop-node-preserved
@@ -20,6 +21,9 @@ loop-node-preserved c = record {
 
 pub returns-clause-goes : goal.returns-clause-goes
 returns-clause-goes c x h = c.loop-node.invariant.told x (omega (arith, c.loop-node-test.false, c.loop-node.auto.node-end, c.node_count-node-end.ensures, ap (λ (t : RuleTable). length (rule_of t).nodes) c.rule-rule.ensures.rule))
+
+pub returns-then-removed-eq0-clause-goes : goal.returns-then-removed-eq0-clause-goes
+returns-then-removed-eq0-clause-goes c x h = get_or-replicate 32 x false false (omega (arith, h, c.rule-rule.ensures.planned.within.nodes)) ∙ sym (stays (rule_of c.args.plan.now.table) (sym c.removed.ensures ∙ c.if-removed-eq0.true) x)
 
 pub returns-clause-long : goal.returns-clause-long
 returns-clause-long c = c.loop-node.invariant.long

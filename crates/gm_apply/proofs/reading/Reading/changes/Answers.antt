@@ -74,7 +74,7 @@ returns-clause-edits g c hooks readable =
     has_edits c.args.self.now hooks c.loop-embed.pending c.args.steps.now c.loop-embed.steps read c.into_changes.new.steps c.into_changes.ensures.least c.into_changes.ensures.cost c.in_ok-into_changes.field-0 c.in_ok-into_changes.ensures.edits
 
 pub returns-in_err-into_changes-clause-room : goal.returns-in_err-into_changes-clause-room
-returns-in_err-into_changes-clause-room g c = c.loop-embed.invariant.room
+returns-in_err-into_changes-clause-room g c = ap (λ room. room.bound) c.lend_slots.ensures ∙ c.loop-embed.invariant.room
 
 pub returns-clause-room : goal.returns-clause-room
-returns-clause-room g c = c.loop-embed.invariant.room
+returns-clause-room g c = ap (λ room. room.bound) c.lend_slots.ensures ∙ c.loop-embed.invariant.room

@@ -1,6 +1,5 @@
 use Rattle.std.proofs.Common.{subst}
 use Rattle.gm_arena.specs.ArenaMap.{IsAt, name_at, alpha}
-use Rattle.gm_plan.specs.Changes.{made_step}
 use Rattle.gm_pending.specs.Results.{PendingOf, IsPrepared}
 use Rattle.gm_pending.proofs.Darts.{old_kept, never_unmade}
 use Rattle.gm_pending.proofs.KeptArcs.{kept_neighbour}

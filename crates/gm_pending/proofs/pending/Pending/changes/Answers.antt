@@ -61,14 +61,14 @@ returns-clause-edits g c =
     let alike = c.rewrite-rewrite.ensures in
     are_edits app prepared _ c.in_ok-added_values.ensures.values c.in_ok-values.ensures.values (same_left _ _ alike) (same_arcs _ _ alike Freed) (same_removed _ _ alike) (same_arcs _ _ alike Made) added
 
-pub returns-in_err-slots-clause-edits : goal.returns-in_err-slots-clause-edits
-returns-in_err-slots-clause-edits g c = unless_ok _ c.from_residual.result c.from_residual.ensures.0
+pub returns-in_err-left_slots-clause-edits : goal.returns-in_err-left_slots-clause-edits
+returns-in_err-left_slots-clause-edits g c = unless_ok _ c.from_residual.result c.from_residual.ensures.0
 
-pub returns-in_err-slots-clause-cost : goal.returns-in_err-slots-clause-cost
-returns-in_err-slots-clause-cost g c = λ reached sum. omega arith
+pub returns-in_err-left_slots-clause-cost : goal.returns-in_err-left_slots-clause-cost
+returns-in_err-left_slots-clause-cost g c = λ reached sum. omega arith
 
-pub returns-in_err-slots-clause-least : goal.returns-in_err-slots-clause-least
-returns-in_err-slots-clause-least g c = omega arith
+pub returns-in_err-left_slots-clause-least : goal.returns-in_err-left_slots-clause-least
+returns-in_err-left_slots-clause-least g c = omega arith
 
 pub added_values-requires-clause-added : goal.added_values-requires-clause-added
 added_values-requires-clause-added g c =
@@ -108,5 +108,5 @@ invariant_of-result g c =
     let positions : c.positions.result ≡ c.rewrite-rewrite.result.placed.positions = c.positions.ensures.value ∙ ap (λ (a : PendingOf). a.placed.positions) c.self.view_is ∙ sym (ap (λ (p : Placed). p.positions) c.rewrite-rewrite.ensures.placed) in
     let app = c.args.self.now in
     let prepared : IsPrepared app = subst IsPrepared c.self.view_is c.self.invariant.0 in
-    let left = c.in_ok-slots.ensures.slots ∙ same_left _ _ c.rewrite-rewrite.ensures in
-    (c.in_ok-slots.ensures.slots, rw positions c.in_ok-slots.ensures.room, subst AreDistinct (sym left) (left_distinct app prepared))
+    let left = c.in_ok-left_slots.ensures.slots ∙ same_left _ _ c.rewrite-rewrite.ensures in
+    (c.in_ok-left_slots.ensures.slots, rw positions c.in_ok-left_slots.ensures.room, subst AreDistinct (sym left) (left_distinct app prepared))

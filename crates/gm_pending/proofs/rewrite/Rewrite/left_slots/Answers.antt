@@ -28,16 +28,16 @@ returns-clause-room c =
 pub overflow_mul-nodes : goal.overflow_mul-nodes
 overflow_mul-nodes c = omega (arith, mul-le (c.args.left + c.args.added) c.positions.result 510 4294967295 (omega arith) (omega arith))
 
-pub returns-in_err-slots-clause-slots : goal.returns-in_err-slots-clause-slots
-returns-in_err-slots-clause-slots c = unless_ok _ c.from_residual.result c.from_residual.ensures.0
+pub returns-in_err-reserve-clause-slots : goal.returns-in_err-reserve-clause-slots
+returns-in_err-reserve-clause-slots c = unless_ok _ c.from_residual.result c.from_residual.ensures.0
 
-pub returns-in_err-slots-clause-room : goal.returns-in_err-slots-clause-room
-returns-in_err-slots-clause-room c = unless_ok _ c.from_residual.result c.from_residual.ensures.0
+pub returns-in_err-reserve-clause-room : goal.returns-in_err-reserve-clause-room
+returns-in_err-reserve-clause-room c = unless_ok _ c.from_residual.result c.from_residual.ensures.0
 
 pub loop-node-init : goal.loop-node-init
 loop-node-init c = record {
-  items = c.in_ok-slots.ensures.items;
-  room = rw (← c.positions.ensures) c.in_ok-slots.ensures.capacity;
+  items = c.reserve.ensures.items ∙ c.clear.ensures.items;
+  room = rw (← c.positions.ensures) (omega (arith, c.in_ok-reserve.ensures.ok));
 }
 
 pub put_left_slots-requires-clause-left : goal.put_left_slots-requires-clause-left
