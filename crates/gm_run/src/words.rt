@@ -22,15 +22,7 @@ pub(crate) fn put_outcome(
     ensures { OnOk result (text.new ≡ text.old ++ told_words schema.now (map node_of nodes.now) outcome) }
 {
     match outcome {
-        Outcome::Done(Applied { added, removed }) => {
-            put_numbers(
-                text,
-                b"done added ",
-                u64::from(added),
-                b" removed ",
-                u64::from(removed),
-            )
-        }
+        Outcome::Done(Applied { added, removed }) => put_done(text, added, removed),
         Outcome::Refused(refusal) => {
             text.put(b"refused ")?;
             put_cause(text, schema, nodes, refusal)
@@ -49,6 +41,35 @@ pub(crate) fn put_outcome(
             passed,
         } => put_each(text, done, refused, passed),
     }
+}
+
+/// Appends that a rule was applied, and how many darts it added and removed.
+fn put_done(text: &mut Text, added: u32, removed: u32) -> Result<(), OutOfMemory>
+    ensures { OnOk result (text.new ≡ text.old ++ (codes "done added " ++ decimal added ++ codes " removed " ++ decimal removed)) }
+{
+    if added < 10 && removed < 10 {
+        return put_done_of_few(text, added as u8, removed as u8);
+    }
+    put_numbers(
+        text,
+        b"done added ",
+        u64::from(added),
+        b" removed ",
+        u64::from(removed),
+    )
+}
+
+/// The same of as few darts as most rules add and remove.
+// Words and digits are put at once: a number by itself takes some 80 instructions.
+fn put_done_of_few(text: &mut Text, added: u8, removed: u8) -> Result<(), OutOfMemory>
+    requires added { added < 10 }
+    requires removed { removed < 10 }
+    ensures { OnOk result (text.new ≡ text.old ++ (codes "done added " ++ decimal added ++ codes " removed " ++ decimal removed)) }
+{
+    let mut words = *b"done added 0 removed 0";
+    words[11] = b'0' + added;
+    words[21] = b'0' + removed;
+    text.put(&words)
 }
 
 fn put_cause(
