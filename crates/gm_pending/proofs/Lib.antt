@@ -18,6 +18,7 @@ pub mod NewValues
 pub mod WithoutDarts
 pub mod Extended
 pub mod Numbers
+pub mod RemovedBits
 pub mod OneOrbit
 pub mod AddedDarts
 pub mod AddedValues

@@ -1,5 +1,5 @@
 -- Edits that are told by rows of steps are those that the rule tells.
-use Rattle.std.proofs.Common.{◌≡◌, ℕ, zero, suc, ◌<◌, ◌≤◌, false, nat_lt, not, Bool, if◌then◌else◌, Some, None, List, [], ◌∷◌, ◌++◌, length, slice_index_or, refl, sym, ap, ap₂, ◌∙◌, subst, arith, IsTrue}
+use Rattle.std.proofs.Common.{◌≡◌, ℕ, zero, suc, ◌<◌, ◌≤◌, false, nat_lt, not, Bool, if◌then◌else◌, Some, None, List, [], ◌∷◌, ◌++◌, length, refl, sym, ap, ap₂, ◌∙◌, subst, arith, IsTrue}
 use Rattle.std.proofs.lemmas.Bool.{lt-ltb, false≢true}
 use Rattle.gm_model.specs.declared.rule.Side.TheVariants.{Left, Right}
 use Rattle.gm_model.specs.declared.step.Step.TheVariants.{Imp}
@@ -14,7 +14,7 @@ use Rattle.gm_theory.proofs.RuleSteps.{step_within}
 use Rattle.gm_theory.proofs.Tests.{both_true}
 use Rattle.gm_pending.specs.declared.rewrite.Arcs.{Arcs}
 use Rattle.gm_pending.specs.declared.rewrite.Arcs.TheVariants.{Freed, Made}
-use Rattle.gm_pending.specs.Collected.{RewriteOf, RewriteRows, IsFitted, AreAlike, told_by, rewrite_of, as_list, concat_below, slot_in, left_slots, labels, written_step, arc_by, arcs_at, arcs_in, all_arcs, removed_in, all_removed}
+use Rattle.gm_pending.specs.Collected.{RewriteOf, RewriteRows, IsFitted, AreAlike, has_bit, told_by, rewrite_of, as_list, concat_below, slot_in, left_slots, labels, written_step, arc_by, arcs_at, arcs_in, all_arcs, removed_in, all_removed}
 use Rattle.gm_pending.specs.Results.{PendingOf, IsPrepared, rule_in}
 use Rattle.gm_pending.proofs.Ends.{made_turn}
 use Rattle.gm_pending.proofs.Unremoved.{stays, unfreed}
@@ -62,8 +62,7 @@ none_more (suc n) e = absurd (false≢true (sym e ∙ lt-ltb 0 (suc n) (omega ar
 pub record ArePlanRows (app : PendingOf) (rows : RewriteRows) : Type 0 where
   pub dim : rows.dim ≡ app.map.schema.dim
   pub placed : rows.placed ≡ app.placed
-  pub goes_long : length rows.goes ≡ 32
-  pub goes : (x : ℕ) → x < length (rule_in app).nodes → slice_index_or rows.goes x false ≡ is_removed (rule_in app) x
+  pub goes : (x : ℕ) → x < length (rule_in app).nodes → has_bit rows.goes x ≡ is_removed (rule_in app) x
   pub freed : AreRows (freed_step (rule_in app)) (length (rule_in app).nodes) rows.freed
   pub made : AreRows (made_step (rule_in app)) (length (rule_in app).nodes) rows.made
   pub removes : rows.removes ≡ false → removed_nodes (rule_in app) ≡ 0
@@ -103,7 +102,6 @@ module _ (app : PendingOf) (prepared : IsPrepared app) (rows : RewriteRows) (pla
   rows_fitted = record {
     few = omega (arith, plan.dim, few);
     few_nodes = omega (arith, plan.made.long, prepared.planned.within.nodes);
-    goes_long = omega (arith, plan.goes_long, plan.made.long, prepared.planned.within.nodes);
     freed_long = plan.freed.long ∙ sym plan.made.long;
     freed_rows = plan.freed.row_long;
     made_rows = plan.made.row_long;

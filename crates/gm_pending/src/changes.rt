@@ -1,13 +1,13 @@
-ghost use Rattle.std.specs.Prelude.{◌≡◌, ℕ, ◌+◌, ◌*◌, ◌<◌, ◌≤◌, false, length, slice_index_or, IfOk};
+ghost use Rattle.std.specs.Prelude.{◌≡◌, ℕ, ◌+◌, ◌*◌, ◌<◌, ◌≤◌, length, IfOk};
 ghost use Rattle.gm_model.specs.Rules.{rule_of, is_removed};
-ghost use Rattle.gm_pending.specs.Collected.{AreAlike, told_by, rewrite_of};
+ghost use Rattle.gm_pending.specs.Collected.{AreAlike, has_bit, told_by, rewrite_of};
 ghost use Rattle.gm_pending.specs.EditLists.{AllGiven, AreEditsOf, IsReachedSumIn};
 ghost use Rattle.gm_pending.specs.Results.{rule_in};
 
 use crate::pending::Pending;
 use crate::rewrite::Rewrite;
 use gm_arena::{Slot, Steps};
-use gm_model::{MOST_NODES, OutOfMemory, RuleTable, Side, Value};
+use gm_model::{OutOfMemory, RuleTable, Side, Value};
 use gm_plan::Plan;
 use std::marker::Model;
 use std::sync::ledger::Ledger;
@@ -108,18 +108,19 @@ impl<'a> Pending<'a, '_> {
     }
 }
 
-/// Which nodes of the plan's rule are removed.
-fn nodes_that_go(plan: &Plan<'_>) -> [bool; MOST_NODES]
-    ensures goes { (x : ℕ) → x < length (rule_of plan.now.table).nodes → slice_index_or result x false ≡ is_removed (rule_of plan.now.table) x }
-    ensures long { length result ≡ 32 }
+/// Which nodes of the plan's rule are removed: bit `x` stands for node `x`.
+fn nodes_that_go(plan: &Plan<'_>) -> u32
+    ensures { (x : ℕ) → x < length (rule_of plan.now.table).nodes → has_bit result x ≡ is_removed (rule_of plan.now.table) x }
 {
     let rule = plan.rule();
-    let mut goes = [false; MOST_NODES];
+    let mut goes = 0;
     if plan.removed() == 0 {
         return goes;
     }
     for node in 0..rule.node_count() {
-        goes[node as usize] = is_removed(rule, node);
+        if is_removed(rule, node) {
+            goes |= 1 << node;
+        }
     }
     goes
 }

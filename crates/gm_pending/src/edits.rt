@@ -15,7 +15,7 @@ use crate::applied::Applied;
 use crate::changes::{Changes, ValueAt};
 use crate::rewrite::Rewrite;
 use gm_arena::{Arena, Slot, Steps};
-use gm_model::{MOST_DARTS, MOST_LABELS, MOST_NODES, OutOfMemory, Step, Value};
+use gm_model::{MOST_DARTS, MOST_LABELS, OutOfMemory, Step, Value};
 use gm_plan::Instances;
 use gm_walk::Scratch;
 use std::alloc::Global;
@@ -29,7 +29,7 @@ pub struct Edits {
     applied: Applied,
     dim: u8,
     removes: bool,
-    goes: [bool; MOST_NODES],
+    goes: u32,
     freed: Vec<[Step; MOST_LABELS]>,
     made: Vec<[Step; MOST_LABELS]>,
     found: Instances,

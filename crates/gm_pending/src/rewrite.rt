@@ -1,11 +1,11 @@
-ghost use Rattle.std.specs.Prelude.{◌≡◌, ℕ, ◌+◌, ◌*◌, ◌<◌, ◌≤◌, ◌++◌, false, length, slice_index_or, OnOk, IsTrue};
+ghost use Rattle.std.specs.Prelude.{◌≡◌, ℕ, ◌+◌, ◌*◌, ◌<◌, ◌≤◌, ◌++◌, length, slice_index_or, OnOk, IsTrue};
 ghost use Rattle.std.specs.Vec.{vec_capacity};
 ghost use Rattle.gm_model.specs.declared.step.Step.{Step};
-ghost use Rattle.gm_pending.specs.Collected.{told_by, end_of, written_step, slot_in, left_slots_of, left_slots, made_in, AreSlots};
+ghost use Rattle.gm_pending.specs.Collected.{told_by, end_of, has_bit, written_step, slot_in, left_slots_of, left_slots, made_in, AreSlots};
 ghost use Rattle.gm_pending.specs.Written.{HasSlot, slot_of};
 
 use gm_arena::Slot;
-use gm_model::{MOST_LABELS, MOST_NODES, OutOfMemory, Step};
+use gm_model::{MOST_LABELS, OutOfMemory, Step};
 use gm_plan::Instances;
 use std::marker::Model;
 
@@ -25,8 +25,9 @@ pub(crate) struct Rewrite<'a> {
     pub(crate) dim: u8,
     /// Whether some node is removed.
     pub(crate) removes: bool,
-    /// Which nodes are removed.
-    pub(crate) goes: [bool; MOST_NODES],
+    /// Which nodes are removed: bit `x` stands for node `x`. A number is moved with the changes at less
+    /// cost than an entry for each node.
+    pub(crate) goes: u32,
     /// The steps that are freed, by node and by label.
     pub(crate) freed: &'a [[Step; MOST_LABELS]],
     /// The steps that are made, by node and by label.
@@ -135,9 +136,9 @@ impl Rewrite<'_> {
 
     pub(crate) fn is_removed(&self, node: u8) -> bool
         requires { node < length self.now.made }
-        ensures removed { result ≡ slice_index_or self.now.goes node false }
+        ensures removed { result ≡ has_bit self.now.goes node }
         ensures left { IsTrue result → node < self.now.placed.nodes }
     {
-        self.goes[node as usize]
+        (self.goes >> node) & 1 == 1
     }
 }

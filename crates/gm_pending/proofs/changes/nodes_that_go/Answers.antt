@@ -1,29 +1,28 @@
-use Rattle.std.proofs.Common.{false, length, ap, sym, ◌∙◌, inl, inr, arith}
-use Rattle.std.proofs.lemmas.Bool.{cases_eq}
-use Rattle.std.proofs.lemmas.List.{get_or-set_same, get_or-replicate, get_or-set_other, length-set}
+use Rattle.std.proofs.Common.{◌<◌, length, ap, sym, ◌∙◌, arith}
+use Rattle.std.proofs.lemmas.Nat.Bits.{bit_at-zero}
 use Rattle.gm_model.specs.declared.rule.RuleTable.{RuleTable}
 use Rattle.gm_model.specs.Rules.{rule_of, is_removed}
+use Rattle.gm_pending.proofs.RemovedBits.{none_told, one_removed, none_removed, unset_bit}
 use Rattle.gm_pending.proofs.Unremoved.{stays}
 use Rattle.gm_pending.proofs.changes.nodes_that_go.Goals as goal
+use Rattle.gm_pending.proofs.changes.nodes_that_go.Goals.{then-is_removed, else-is_removed}
+
+pub loop-node-init : goal.loop-node-init
+loop-node-init c = none_told (rule_of c.args.plan.now.table)
 
 pub loop-node-preserved : goal.loop-node-preserved
-loop-node-preserved c = record {
-  long = length-set c.loop-node.goes c.loop-node.node c.is_removed.result ∙ c.loop-node.invariant.long;
-  told = λ x h. elim (cases_eq x c.loop-node.node) [
-    | inl e ↦
-        rw e (
-        get_or-set_same c.loop-node.goes c.loop-node.node c.is_removed.result false (omega (arith, c.loop-node.invariant.long, c.loop-node-test.true, c.node_count-node-end.ensures, c.rule-rule.ensures.planned.within.nodes, ap (λ (t : RuleTable). length (rule_of t).nodes) c.rule-rule.ensures.rule))
-        ∙ c.is_removed.ensures ∙ ap (λ (t : RuleTable). is_removed (rule_of t) c.loop-node.node) c.rule-rule.ensures.rule
-        )
-    | inr apart ↦ get_or-set_other c.loop-node.goes c.loop-node.node x c.is_removed.result false apart ∙ c.loop-node.invariant.told x (omega arith)
-  ];
-}
+loop-node-preserved c =
+    let l = c.loop-node in
+    let rule = rule_of c.args.plan.now.table in
+    let is = c.is_removed.ensures ∙ ap (λ (t : RuleTable). is_removed (rule_of t) l.node) c.rule-rule.ensures.rule in
+    let few : l.node < 32 = omega (arith, c.loop-node-test.true, c.node_count-node-end.ensures, c.rule-rule.ensures.planned.within.nodes, ap (λ (t : RuleTable). length (rule_of t).nodes) c.rule-rule.ensures.rule) in
+    elim c.if-is_removed.branch [
+      | then-is_removed w ↦ rw w.goes-is (one_removed rule l.node l.goes few (sym is ∙ w.if-is_removed.true) l.invariant)
+      | else-is_removed w ↦ rw w.goes-is (none_removed rule l.node l.goes (sym is ∙ w.if-is_removed.false) l.invariant)
+    ]
 
-pub returns-clause-goes : goal.returns-clause-goes
-returns-clause-goes c x h = c.loop-node.invariant.told x (omega (arith, c.loop-node-test.false, c.loop-node.auto.node-end, c.node_count-node-end.ensures, ap (λ (t : RuleTable). length (rule_of t).nodes) c.rule-rule.ensures.rule))
+pub returns-then-removed-eq0 : goal.returns-then-removed-eq0
+returns-then-removed-eq0 c x h = unset_bit 0 x (bit_at-zero x) ∙ sym (stays (rule_of c.args.plan.now.table) (sym c.removed.ensures ∙ c.if-removed-eq0.true) x)
 
-pub returns-then-removed-eq0-clause-goes : goal.returns-then-removed-eq0-clause-goes
-returns-then-removed-eq0-clause-goes c x h = get_or-replicate 32 x false false (omega (arith, h, c.rule-rule.ensures.planned.within.nodes)) ∙ sym (stays (rule_of c.args.plan.now.table) (sym c.removed.ensures ∙ c.if-removed-eq0.true) x)
-
-pub returns-clause-long : goal.returns-clause-long
-returns-clause-long c = c.loop-node.invariant.long
+pub returns : goal.returns
+returns c x h = c.loop-node.invariant.told x (omega (arith, h, c.loop-node-test.false, c.loop-node.auto.node-end, c.node_count-node-end.ensures, ap (λ (t : RuleTable). length (rule_of t).nodes) c.rule-rule.ensures.rule))
