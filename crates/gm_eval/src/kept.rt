@@ -65,8 +65,8 @@ impl Default for Entry {
 pub(crate) struct Entries {
     /// Whether values are kept.
     open: bool,
-    /// None before the first value: most expressions have no collector, and clearing the room for so
-    /// many values takes longer than reading such a one.
+    /// None before the first value: most expressions have no collector, and need no room to be cleared
+    /// for so many values.
     list: Option<ArrayVec<Entry, MOST>>,
 }
 
