@@ -1,17 +1,18 @@
 //! A plain program that saves the maps of `gmr`, beside which `bench/beside` times it: dimension 2,
 //! at most one embedding of points on the vertices, and operations that are written by hand, with
-//! nothing proved. It reads and writes in pieces, and its report is its own; what `cells` puts is what
-//! `gmr` puts. A text that is no map, a script that it doesn't know and a number of more than 18 digits
-//! end it. `grid` has a map of its own, without names and free places, in which nothing is looked up:
-//! the least that its work can cost.
+//! nothing proved. It reads and writes in pieces, or whole files as `gmr` does, and its report is its own;
+//! what `cells` puts is what `gmr` puts. A text that is no map, a script that it doesn't know and a number
+//! of more than 18 digits end it. `grid` has a map of its own, without names and free places, in which
+//! nothing is looked up: the least that its work can cost.
 //!
 //!     plain show MAP            puts the map
 //!     plain cells MAP           puts how many cells, components and free darts there are, and the colours
 //!     plain run MAP SCRIPT OUT  applies the lines of the script, saves the map, puts a line for each
 //!     plain grid M              triangulates each face of M by M squares, puts how many cells there are
+//!     plain whole WORDS         the same of the first three, with each text held whole, as it is read and put
 use std::env;
-use std::fs::File;
-use std::io::{self, Read, Write};
+use std::fs::{self, File};
+use std::io::{self, Cursor, Read, Write};
 
 const NONE: u32 = u32::MAX;
 const PIECE: usize = 1 << 16;
@@ -19,10 +20,17 @@ const MOST_DARTS: usize = 1 << 20;
 
 type Point = [i64; 3];
 
+/// Whether a text goes by in pieces, or is held whole.
+#[derive(Clone, Copy)]
+enum Held {
+    Pieces,
+    Whole,
+}
+
 /// A file, read in pieces. Behind what is read stand eight newlines, so that a number ends there and
 /// eight bytes can be looked at from any.
 struct Input {
-    file: File,
+    source: Box<dyn Read>,
     piece: Box<[u8; PIECE + EIGHT]>,
     at: usize,
     end: usize,
@@ -52,9 +60,13 @@ fn leading_digits(bytes: [u8; EIGHT]) -> (usize, u64) {
 }
 
 impl Input {
-    fn open(path: &str) -> Input {
+    fn open(path: &str, held: Held) -> Input {
+        let source: Box<dyn Read> = match held {
+            Held::Pieces => Box::new(File::open(path).expect("open")),
+            Held::Whole => Box::new(Cursor::new(fs::read(path).expect("read"))),
+        };
         let piece: Box<[u8; PIECE + EIGHT]> = vec![b'\n'; PIECE + EIGHT].try_into().expect("as long");
-        Input { file: File::open(path).expect("open"), piece, at: 0, end: 0 }
+        Input { source, piece, at: 0, end: 0 }
     }
 
     /// Has so many bytes in the piece, where the file has them.
@@ -71,7 +83,7 @@ impl Input {
         self.end -= self.at;
         self.at = 0;
         while self.end < PIECE {
-            let count = self.file.read(&mut self.piece[self.end..PIECE]).expect("read");
+            let count = self.source.read(&mut self.piece[self.end..PIECE]).expect("read");
             if count == 0 {
                 break;
             }
@@ -226,8 +238,8 @@ struct Map {
 }
 
 impl Map {
-    fn load(path: &str) -> Map {
-        let mut input = Input::open(path);
+    fn load(path: &str, held: Held) -> Map {
+        let mut input = Input::open(path, held);
         let mut map = Map::default();
         let mut word = Vec::new();
         while input.word(&mut word) && word != b"darts" {
@@ -319,6 +331,17 @@ impl Map {
             output.end_line();
         }
         output.flush();
+    }
+
+    fn save<W: Write>(&self, mut to: W, held: Held) {
+        match held {
+            Held::Pieces => self.print(to),
+            Held::Whole => {
+                let mut text = Vec::new();
+                self.print(&mut text);
+                to.write_all(&text).expect("write");
+            }
+        }
     }
 
     fn slot_of(&self, name: u32) -> Option<u32> {
@@ -514,10 +537,10 @@ fn sew(map: &mut Map, dart: u32, other: u32) -> Option<(usize, usize)> {
     Some((0, 0))
 }
 
-fn run(map_path: &str, script_path: &str, out: &str) {
-    let mut map = Map::load(map_path);
+fn run(map_path: &str, script_path: &str, out: &str, held: Held) {
+    let mut map = Map::load(map_path, held);
     let mut walk = Walk::default();
-    let mut script = Input::open(script_path);
+    let mut script = Input::open(script_path, held);
     let mut report = Output::new(Vec::new());
     let mut word = Vec::new();
     let mut line = 0;
@@ -548,7 +571,7 @@ fn run(map_path: &str, script_path: &str, out: &str) {
         }
         report.end_line();
     }
-    map.print(File::create(out).expect("create"));
+    map.save(File::create(out).expect("create"), held);
     report.flush();
     io::stdout().write_all(&report.to).expect("write");
 }
@@ -678,8 +701,8 @@ fn least_odd_walk(neighbours: &[[u32; 3]], start: u32) -> Vec<u32> {
     labels
 }
 
-fn cells(path: &str) {
-    let Map { names, neighbours, .. } = Map::load(path);
+fn cells(path: &str, held: Held) {
+    let Map { names, neighbours, .. } = Map::load(path, held);
     let corners = count_orbits(&neighbours, [1, 2], &mut vec![0; names.len()], 1);
     let (edges, free) = count_edges_and_free(&neighbours);
     let Colouring { faces, components, colours, odd } = colour(&neighbours);
@@ -789,11 +812,16 @@ fn grid(size: i64) {
 
 fn main() {
     let words: Vec<String> = env::args().skip(1).collect();
-    match words.iter().map(String::as_str).collect::<Vec<_>>().as_slice() {
-        ["show", map] => Map::load(map).print(io::stdout().lock()),
-        ["cells", map] => cells(map),
-        ["run", map, script, out] => run(map, script, out),
+    let words: Vec<&str> = words.iter().map(String::as_str).collect();
+    let (held, words) = match words.as_slice() {
+        ["whole", rest @ ..] => (Held::Whole, rest),
+        all => (Held::Pieces, all),
+    };
+    match *words {
+        ["show", map] => Map::load(map, held).save(io::stdout().lock(), held),
+        ["cells", map] => cells(map, held),
+        ["run", map, script, out] => run(map, script, out, held),
         ["grid", size] => grid(size.parse().expect("a number")),
-        _ => panic!("show MAP, cells MAP, run MAP SCRIPT OUT or grid M"),
+        _ => panic!("show MAP, cells MAP, run MAP SCRIPT OUT, these behind whole, or grid M"),
     }
 }
