@@ -3,7 +3,7 @@ use Rattle.std.proofs.Common.{◌≡◌, ℕ, suc, ◌+◌, ◌*◌, ◌/◌, �
 use Rattle.std.proofs.Math.Nat.{add-div_left, div-eq_of_lt}
 use Rattle.std.proofs.Math.Seq.{take-append_seam, drop-append_seam}
 use Rattle.std.specs.List.{AllByRecursion}
-use Rattle.std.proofs.lemmas.List.{length-map, length-append, append_assoc, append-nil, get_or_read, get_or_append_left, get_or-append-add}
+use Rattle.std.proofs.lemmas.List.{length-map, length-append, append_assoc, append-nil, get_or_append_left, get_or-append-add}
 use Rattle.gm_model.specs.declared.schema.Embed.{Embed}
 use Rattle.gm_model.specs.declared.schema.Schema.{Schema}
 use Rattle.gm_model.specs.declared.value.Value.{Value}
@@ -76,14 +76,6 @@ no_more n front whole rest so_far short = none_left front whole (rows_in n rest)
 pub name_of_line : (line : List ℕ) → (row_in line).name ≡ get_or line 0 0
 name_of_line [] = refl
 name_of_line (name ∷ alphas) = refl
-
--- a name that is read at a place of the line
-pub read_at : (line : List ℕ) (i name number : ℕ) → i < length line → name ≡ get_or line i name → number ≡ name → number ≡ get_or line i 0
-read_at line i name number within at same = same ∙ get_or_read line i name within at 0
-
--- the name of a line, as it is read
-pub name_read : (line : List ℕ) (at name : ℕ) → 0 < length line → at ≡ get_or line 0 at → name ≡ at → (row_in line).name ≡ name
-name_read line at name some is same = name_of_line line ∙ sym (read_at line 0 at name some is same)
 
 pub alphas_of_line : (line : List ℕ) → (row_in line).alphas ≡ drop 1 line
 alphas_of_line [] = refl

@@ -18,7 +18,6 @@ ghost use Rattle.gm_mapfile.specs.Faults.{IsNameFault};
 ghost use Rattle.gm_mapfile.specs.Building.{AreInRoom, AreSlotsLive, AreWhole, AreLive, AreValued, IsFresh, IsNextLeast, AreAdded, IsNotBelow, IsLeastNotBelowStated, IsNextSet, IsRelinked, IsDartLinked, IsLabelWithoutTarget, AreLinkedUnless, IsHeld};
 
 use crate::fault::MapFault;
-use crate::name::Name;
 use crate::ordering::in_order;
 use crate::packed::{line_size, unpack_line};
 use crate::reading::Draft;
@@ -59,7 +58,7 @@ fn build_lines<L: Ledger>(
     alloc: Global,
     schema: Schema,
     stated: Option<u32>,
-    numbers: &[Name],
+    numbers: &[u32],
     words: &[i64],
     steps: &mut Steps<L>,
 ) -> Result<Arena, MapFault>
@@ -84,7 +83,7 @@ fn build_lines<L: Ledger>(
 fn fill_with_room<L: Ledger>(
     arena: &mut Arena,
     stated: Option<u32>,
-    numbers: &[Name],
+    numbers: &[u32],
     words: &[i64],
     steps: &mut Steps<L>,
 ) -> Result<(), MapFault>
@@ -107,7 +106,7 @@ fn fill_with_room<L: Ledger>(
 fn fill<L: Ledger>(
     arena: &mut Arena,
     stated: Option<u32>,
-    numbers: &[Name],
+    numbers: &[u32],
     words: &[i64],
     steps: &mut Steps<L>,
 ) -> Result<(), MapFault>
@@ -135,14 +134,14 @@ fn fill<L: Ledger>(
 }
 
 /// One more than the greatest of the numbers, or 0 where there is none.
-fn names_end(numbers: &[Name]) -> u32
+fn names_end(numbers: &[u32]) -> u32
     requires { All (λ x. x < most_names) numbers.now }
     ensures above { All (λ x. x < result) numbers.now }
     ensures few { result ≤ most_names }
 {
     let mut end = 0;
     for number in numbers {
-        end = end.max(number.number() + 1);
+        end = end.max(number + 1);
     }
     end
 }
@@ -151,7 +150,7 @@ fn names_end(numbers: &[Name]) -> u32
 /// that two lines have.
 fn add_darts<L: Ledger>(
     arena: &mut Arena,
-    numbers: &[Name],
+    numbers: &[u32],
     words: &[i64],
     steps: &mut Steps<L>,
 ) -> Option<u32>
@@ -172,7 +171,7 @@ fn add_darts<L: Ledger>(
     let mut rest = words;
     let mut twice: Option<u32> = None;
     for line in numbers.chunks_exact(arena.schema().dim.top() as usize + 2) {
-        let name = line[0].number();
+        let name = line[0];
         let (own, others) = rest.split_at(size);
         rest = others;
         if arena.slot_of(name, steps).is_none() {
@@ -221,7 +220,7 @@ fn lesser(found: Option<u32>, name: u32) -> u32
 
 /// Sets the next name, where the text states one. The answer is the least name of a line that
 /// isn't below it, and then the arena is left as it was.
-fn set_stated(arena: &mut Arena, numbers: &[Name], stated: Option<u32>) -> Option<u32>
+fn set_stated(arena: &mut Arena, numbers: &[u32], stated: Option<u32>) -> Option<u32>
     requires next { IsNextLeast arena.old }
     requires live { AreLive (rows_in arena.old.schema.dim numbers.now) arena.old }
     requires most { IfSome stated (λ next. next ≤ most_names) }
@@ -237,7 +236,7 @@ fn set_stated(arena: &mut Arena, numbers: &[Name], stated: Option<u32>) -> Optio
 }
 
 /// The least name of a line that isn't below the number.
-fn least_not_below(arena: &Arena, numbers: &[Name], next: u32) -> Option<u32>
+fn least_not_below(arena: &Arena, numbers: &[u32], next: u32) -> Option<u32>
     requires next { IsNextLeast arena.now }
     requires live { AreLive (rows_in arena.now.schema.dim numbers.now) arena.now }
     ensures { IsNotBelow (rows_in arena.now.schema.dim numbers.now) next result }
@@ -247,7 +246,7 @@ fn least_not_below(arena: &Arena, numbers: &[Name], next: u32) -> Option<u32>
     }
     let mut least: Option<u32> = None;
     for line in numbers.chunks_exact(arena.schema().dim.top() as usize + 2) {
-        let name = line[0].number();
+        let name = line[0];
         if name >= next {
             least = Some(lesser(least, name));
         }
@@ -259,7 +258,7 @@ fn least_not_below(arena: &Arena, numbers: &[Name], next: u32) -> Option<u32>
 /// neighbour is no dart.
 fn link_darts<L: Ledger>(
     arena: &mut Arena,
-    numbers: &[Name],
+    numbers: &[u32],
     steps: &mut Steps<L>,
 ) -> Option<(u32, u8)>
     requires added { AreAdded arena.old.schema.dim (rows_in arena.old.schema.dim numbers.now) arena.old None }
@@ -270,7 +269,7 @@ fn link_darts<L: Ledger>(
 {
     let mut missing: Option<(u32, u8)> = None;
     for line in numbers.chunks_exact(arena.schema().dim.top() as usize + 2) {
-        let name = line[0].number();
+        let name = line[0];
         if let Some(label) = link_dart(arena, name, &line[1..], steps) {
             missing = Some(earlier(missing, name, label));
         }
@@ -293,7 +292,7 @@ fn earlier(found: Option<(u32, u8)>, dart: u32, label: u8) -> (u32, u8)
 fn link_dart<L: Ledger>(
     arena: &mut Arena,
     name: u32,
-    neighbours: &[Name],
+    neighbours: &[u32],
     steps: &mut Steps<L>,
 ) -> Option<u8>
     requires live { IsLiveName arena.old name }
@@ -306,7 +305,7 @@ fn link_dart<L: Ledger>(
 {
     let slot = arena.slot_of(name, steps)?;
     for label in 0..=arena.schema().dim.top() {
-        let Some(to) = arena.slot_of(neighbours[label as usize].number(), steps) else {
+        let Some(to) = arena.slot_of(neighbours[label as usize], steps) else {
             return Some(label);
         };
         arena.set_alpha(slot, label, to, steps);

@@ -5,7 +5,6 @@ mod at_least;
 mod building;
 mod fault;
 mod laws;
-mod name;
 mod ordering;
 mod packed;
 mod printing;

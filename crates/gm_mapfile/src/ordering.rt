@@ -9,7 +9,6 @@ ghost use Rattle.gm_mapfile.specs.Ordering.{counted_from, on_lines};
 ghost use Rattle.gm_mapfile.specs.Rows.{darts_in};
 ghost use Rattle.gm_mapfile.specs.declared.ordering.Line.{Line};
 
-use crate::name::Name;
 use crate::packed::line_size;
 use gm_model::{OutOfMemory, Schema};
 use std::alloc::{AllocError, Global};
@@ -26,7 +25,7 @@ struct Line {
 pub(crate) fn in_order(
     alloc: Global,
     schema: &Schema,
-    numbers: &mut Vec<Name>,
+    numbers: &mut Vec<u32>,
     words: &mut Vec<i64>,
 ) -> Result<(), OutOfMemory>
     requires embeds { length schema.now.embeds ≤ 8 }
@@ -44,7 +43,7 @@ pub(crate) fn in_order(
 fn order(
     alloc: Global,
     schema: &Schema,
-    numbers: &mut Vec<Name>,
+    numbers: &mut Vec<u32>,
     words: &mut Vec<i64>,
 ) -> Result<(), OutOfMemory>
     requires embeds { length schema.now.embeds ≤ 8 }
@@ -61,12 +60,12 @@ fn order(
 
 /// Whether the lines stand in ascending order of their names. Both orders are right, so nothing
 /// rests on the answer but the time that is taken.
-fn is_ascending(numbers: &[Name], width: usize) -> bool
+fn is_ascending(numbers: &[u32], width: usize) -> bool
     requires { 0 < width }
 {
     let mut least = 0;
     for line in numbers.chunks_exact(width) {
-        let name = line[0].number();
+        let name = line[0];
         if name < least {
             return false;
         }
@@ -76,7 +75,7 @@ fn is_ascending(numbers: &[Name], width: usize) -> bool
 }
 
 /// The lines, each of so many numbers, in the order in which they stand.
-fn lines_of(alloc: Global, numbers: &[Name], width: usize) -> Result<Vec<Line>, OutOfMemory>
+fn lines_of(alloc: Global, numbers: &[u32], width: usize) -> Result<Vec<Line>, OutOfMemory>
     requires some { 0 < width }
     requires few { length numbers.now / width ≤ most_darts }
     ensures { IfOk result (λ lines. map (λ (line : Line). line.at) lines.items ≡ counted_from 0 (length numbers.now / width)) }
@@ -85,7 +84,7 @@ fn lines_of(alloc: Global, numbers: &[Name], width: usize) -> Result<Vec<Line>, 
     let mut lines = Vec::with_capacity(alloc, count)?;
     for at in 0..count {
         lines.push(Line {
-            name: numbers[at * width].number(),
+            name: numbers[at * width],
             at: at as u32,
         })?;
     }
@@ -93,7 +92,7 @@ fn lines_of(alloc: Global, numbers: &[Name], width: usize) -> Result<Vec<Line>, 
 }
 
 /// The lines in ascending order of their names.
-fn lines_by_name(alloc: Global, numbers: &[Name], width: usize) -> Result<Vec<Line>, OutOfMemory>
+fn lines_by_name(alloc: Global, numbers: &[u32], width: usize) -> Result<Vec<Line>, OutOfMemory>
     requires some { 0 < width }
     requires few { length numbers.now / width ≤ most_darts }
     ensures { IfOk result (λ lines. IsPermutation (counted_from 0 (length numbers.now / width)) (map (λ (line : Line). line.at) lines.items)) }

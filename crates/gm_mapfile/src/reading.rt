@@ -19,7 +19,6 @@ ghost use Rattle.gm_mapfile.specs.declared.version.MapVersion.{MapVersion};
 
 use crate::building::build;
 use crate::fault::MapFault;
-use crate::name::Name;
 use crate::packed::line_size;
 use crate::values::read_values;
 use crate::version::MapVersion;
@@ -38,7 +37,7 @@ pub(crate) struct Draft {
     pub stated: Option<u32>,
     pub schema: Schema,
     /// For each dart its name, and then its neighbours from label 0 on.
-    pub numbers: Vec<Name>,
+    pub numbers: Vec<u32>,
     /// For each dart its values, packed, by embedding.
     pub words: Vec<i64>,
 }
@@ -52,7 +51,7 @@ struct Head {
 
 /// The lines of the darts.
 struct Lines {
-    numbers: Vec<Name>,
+    numbers: Vec<u32>,
     words: Vec<i64>,
 }
 
@@ -122,7 +121,7 @@ fn read_head(alloc: Global, lexer: &mut Lexer<'_>) -> Result<Head, SchemaFault>
     })
 }
 
-fn read_name(lexer: &mut Lexer<'_>) -> Result<Name, SchemaFault>
+fn read_name(lexer: &mut Lexer<'_>) -> Result<u32, SchemaFault>
     ensures takes { IfOk result (λ name. Takes (TheNumber DartName ∷ []) (pos name ∷ []) lexer.old lexer.new) }
     ensures misses { IfErr result (Misses (TheNumber DartName ∷ []) lexer.old) }
 {
@@ -131,13 +130,13 @@ fn read_name(lexer: &mut Lexer<'_>) -> Result<Name, SchemaFault>
         let what = LimitKind::DartName;
         return Err(SchemaFault::Limit { what, place });
     }
-    Ok(Name::new(value as u32))
+    Ok(value as u32)
 }
 
 /// So many names, behind those before them.
 // Inlined, as `read_number` is.
 #[inline(always)]
-fn read_names(lexer: &mut Lexer<'_>, count: usize, names: &mut Vec<Name>) -> Result<(), SchemaFault>
+fn read_names(lexer: &mut Lexer<'_>, count: usize, names: &mut Vec<u32>) -> Result<(), SchemaFault>
     ensures reads { OnOk result (ReadsNames count lexer.old lexer.new names.old.items names.new.items) }
     ensures stops { IfErr result (Misses (replicate count (TheNumber DartName)) lexer.old) }
 {

@@ -1,4 +1,4 @@
-use Rattle.std.proofs.Common.{◌≡◌, not, ◌+◌, ◌≤◌, ◌∷◌, [], ◌++◌, length, drop, None, refl, sym, ap, subst, ◌∙◌, arith}
+use Rattle.std.proofs.Common.{◌≡◌, not, ◌+◌, ◌≤◌, ◌∷◌, [], ◌++◌, length, drop, get_or, None, refl, sym, ap, subst, ◌∙◌, arith}
 use Rattle.std.proofs.lemmas.List.{length_push}
 use Rattle.std.specs.FinMap.{get}
 use Rattle.std.specs.Slice.Iter.{chunks_exact_rest}
@@ -9,7 +9,7 @@ use Rattle.gm_mapfile.specs.MapText.{rows_of}
 use Rattle.gm_mapfile.specs.Packed.{size_of_line, values_in}
 use Rattle.gm_mapfile.specs.Rows.{row_in, valued, darts_in}
 use Rattle.gm_mapfile.specs.Building.{AreAdded, AreValued}
-use Rattle.gm_mapfile.proofs.Chunks.{first_values, below_first, below_rest, name_read, read_at, none_left, darts_end, rows_of_darts_in, length_darts_in}
+use Rattle.gm_mapfile.proofs.Chunks.{first_values, below_first, below_rest, name_of_line, none_left, darts_end, rows_of_darts_in, length_darts_in}
 use Rattle.gm_mapfile.proofs.Adding.{answered_none, answered_some}
 use Rattle.gm_mapfile.proofs.AddedDarts.{HasDarts, has_none, has_more_named, has_again_named, line_split, line_good, line_spare, line_long, line_words, behind_read, values_read, good_read, own_long, schema_kept}
 use Rattle.gm_mapfile.proofs.Unpacked.{size_read}
@@ -46,7 +46,7 @@ pub add_packed-requires-clause-reserved : goal.add_packed-requires-clause-reserv
 add_packed-requires-clause-reserved g c =
     let steps = c.in-Some.ensures.steps in
     let long : length c.in-Some.line.now ≡ c.args.arena.now.schema.dim + 2 = steps.1.1 ∙ c.loop-line.invariant.size in
-    rw (read_at c.in-Some.line.now 0 _ _ (omega (arith, long)) c.index-line-0.is c.number-name.ensures) (below_first c.loop-line.arena.reserved _ c.in-Some.line.now _ c.loop-line.invariant.reserved steps.1.0 (omega (arith, long)))
+    below_first c.loop-line.arena.reserved _ c.in-Some.line.now _ c.loop-line.invariant.reserved steps.1.0 (omega (arith, long))
 
 pub add_packed-requires-clause-values : goal.add_packed-requires-clause-values
 add_packed-requires-clause-values g c =
@@ -67,7 +67,7 @@ add_packed-requires-clause-room g c =
 
 pub add_packed-requires-clause-new_name : goal.add_packed-requires-clause-new_name
 add_packed-requires-clause-new_name g c =
-    answered_none (get c.loop-line.arena.darts c.number-name.result ≡ None) (λ (s : Slot). IsAt c.loop-line.arena s.at c.number-name.result) c.slot_of.result c.slot_of.ensures.slot (c.is_none.ensures ∙ ap not c.if-is_none.true)
+    answered_none (get c.loop-line.arena.darts (get_or c.in-Some.line.now 0 0) ≡ None) (λ (s : Slot). IsAt c.loop-line.arena s.at (get_or c.in-Some.line.now 0 0)) c.slot_of.result c.slot_of.ensures.slot (c.is_none.ensures ∙ ap not c.if-is_none.true)
 
 pub add_packed-requires-clause-embeds : goal.add_packed-requires-clause-embeds
 add_packed-requires-clause-embeds g c = subst (λ (s : Schema). length s.embeds ≤ 8) (sym c.loop-line.invariant.schema) c.requires.embeds
@@ -88,8 +88,8 @@ loop-line-preserved-then-is_none g c =
     let before = c.loop-line.invariant in
     let steps = c.in-Some.ensures.steps in
     let line = c.in-Some.line.now in
-    let name = c.number-name.result in
-    let named = name_read line _ name (omega (arith, steps.1.1, before.size)) c.index-line-0.is c.number-name.ensures in
+    let name = get_or line 0 0 in
+    let named = name_of_line line in
     let words = c.loop-line.rest.now in
     let others = c.split_at.result.1.now in
     let wide : length line ≡ n + 2 = steps.1.1 ∙ before.size in
@@ -123,8 +123,8 @@ loop-line-preserved g c =
     let before = c.loop-line.invariant in
     let steps = c.in-Some.ensures.steps in
     let line = c.in-Some.line.now in
-    let name = c.number-name.result in
-    let named = name_read line _ name (omega (arith, steps.1.1, before.size)) c.index-line-0.is c.number-name.ensures in
+    let name = get_or line 0 0 in
+    let named = name_of_line line in
     let words = c.loop-line.rest.now in
     let others = c.split_at.result.1.now in
     let wide : length line ≡ n + 2 = steps.1.1 ∙ before.size in
