@@ -7,7 +7,7 @@ ghost use Rattle.gm_model.specs.Limits.{most_names};
 ghost use Rattle.gm_model.specs.Maps.{IsSchema};
 ghost use Rattle.std.specs.Prelude.{◌≡◌, ◌+◌, ◌*◌, ◌/◌, ◌<◌, ◌≤◌, length, min, nat_lt, if◌then◌else◌, All, None, MatchOption, IfOk, IfErr, IfSome, OnOk};
 ghost use Rattle.std.specs.FinMap.{get};
-ghost use Rattle.gm_arena.specs.ArenaMap.{IsLiveName};
+ghost use Rattle.gm_arena.specs.ArenaMap.{IsAt, IsLiveName};
 ghost use Rattle.gm_arena.specs.Edits.{with_dart};
 ghost use Rattle.gm_arena.specs.Lawful.{AreGoodValues};
 ghost use Rattle.gm_mapfile.specs.Packed.{size_of_line, values_in};
@@ -174,13 +174,27 @@ fn add_darts<L: Ledger>(
         let name = line[0];
         let (own, others) = rest.split_at(size);
         rest = others;
-        if arena.slot_of(name, steps).is_none() {
+        if slot_there(arena, name, steps).is_none() {
             add_packed(arena, name, own, &mut row, steps);
         } else {
             twice = Some(lesser(twice, name));
         }
     }
     twice
+}
+
+/// The slot of a name, where a dart has it. Nothing is looked up for a name above all others, as each
+/// is where they come in ascending order.
+fn slot_there<L: Ledger>(arena: &Arena, name: u32, steps: &mut Steps<L>) -> Option<Slot>
+    requires next { IsNextLeast arena.now }
+    ensures slot { MatchOption result (get arena.now.darts name ≡ None) (λ s. IsAt arena.now s.at name × (steps.new ≡ steps.old + 1)) }
+    ensures most { steps.new ≤ steps.old + 1 }
+    ensures least { steps.old ≤ steps.new }
+{
+    if arena.next() <= name {
+        return None;
+    }
+    arena.slot_of(name, steps)
 }
 
 /// Adds the dart with the values that the words stand for, free for every label. The row is lent for

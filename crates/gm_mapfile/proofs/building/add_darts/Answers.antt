@@ -67,7 +67,7 @@ add_packed-requires-clause-room g c =
 
 pub add_packed-requires-clause-new_name : goal.add_packed-requires-clause-new_name
 add_packed-requires-clause-new_name g c =
-    answered_none (get c.loop-line.arena.darts (get_or c.in-Some.line.now 0 0) ≡ None) (λ (s : Slot). IsAt c.loop-line.arena s.at (get_or c.in-Some.line.now 0 0)) c.slot_of.result c.slot_of.ensures.slot (c.is_none.ensures ∙ ap not c.if-is_none.true)
+    answered_none (get c.loop-line.arena.darts (get_or c.in-Some.line.now 0 0) ≡ None) (λ (s : Slot). IsAt c.loop-line.arena s.at (get_or c.in-Some.line.now 0 0) × (c.slot_there.new.steps ≡ c.loop-line.steps + 1)) c.slot_there.result c.slot_there.ensures.slot (c.is_none.ensures ∙ ap not c.if-is_none.true)
 
 pub add_packed-requires-clause-embeds : goal.add_packed-requires-clause-embeds
 add_packed-requires-clause-embeds g c = subst (λ (s : Schema). length s.embeds ≤ 8) (sym c.loop-line.invariant.schema) c.requires.embeds
@@ -97,7 +97,7 @@ loop-line-preserved-then-is_none g c =
     let left = behind_read schema c.line_size-size.result words c.split_at.result.0.now others size c.split_at.ensures.back in
     let own = values_read schema c.line_size-size.result words c.split_at.result.0.now others size c.loop-line.arena.schema before.schema c.split_at.ensures.front in
     let dart = valued (row_in line) (first_values schema words) in
-    let new_name = answered_none (get c.loop-line.arena.darts name ≡ None) (λ (s : Slot). IsAt c.loop-line.arena s.at name) c.slot_of.result c.slot_of.ensures.slot (c.is_none.ensures ∙ ap not c.if-is_none.true) in
+    let new_name = answered_none (get c.loop-line.arena.darts name ≡ None) (λ (s : Slot). IsAt c.loop-line.arena s.at name × (c.slot_there.new.steps ≡ c.loop-line.steps + 1)) c.slot_there.result c.slot_there.ensures.slot (c.is_none.ensures ∙ ap not c.if-is_none.true) in
     let m = c.loop-line.arena in
     let after = c.add_packed.ensures.map in
     let room = line_spare schema _ line _ words others steps.1.0 wide left m.spare before.room in
@@ -112,8 +112,8 @@ loop-line-preserved-then-is_none g c =
       good = (line_good schema _ line _ words others steps.1.0 wide left before.good).1;
       has = subst (λ x. HasDarts n (before.front ++ dart ∷ []) x c.loop-line.twice) (sym after)
           (has_more_named n before.front dart m c.loop-line.twice before.has c.add_packed.result.at name (values_in m.schema.embeds c.split_at.result.0.now) (ap (λ (s : Schema). s.dim) before.schema) named own new_name);
-      most = omega (arith, before.most, length_push before.front dart, c.slot_of.ensures.cost, c.add_packed.ensures.cost);
-      least = omega (arith, before.least, length_push before.front dart, c.slot_of.ensures.cost, c.add_packed.ensures.cost);
+      most = omega (arith, before.most, length_push before.front dart, c.slot_there.ensures.most, c.add_packed.ensures.cost);
+      least = omega (arith, before.least, length_push before.front dart, c.slot_there.ensures.least, c.add_packed.ensures.cost);
     }
 
 pub loop-line-preserved : goal.loop-line-preserved
@@ -132,7 +132,7 @@ loop-line-preserved g c =
     let left = behind_read schema c.line_size-size.result words c.split_at.result.0.now others size c.split_at.ensures.back in
     let dart = valued (row_in line) (first_values schema words) in
     let m = c.loop-line.arena in
-    let there = answered_some (get m.darts name ≡ None) (λ (s : Slot). IsAt m s.at name) c.slot_of.result c.slot_of.ensures.slot c.if-is_none.ensures in
+    let there = answered_some (get m.darts name ≡ None) (λ (s : Slot). IsAt m s.at name × (c.slot_there.new.steps ≡ c.loop-line.steps + 1)) c.slot_there.result c.slot_there.ensures.slot c.if-is_none.ensures in
     let room = line_spare schema _ line _ words others steps.1.0 wide left m.spare before.room in
     record {
       front = before.front ++ dart ∷ [];
@@ -143,9 +143,9 @@ loop-line-preserved g c =
       reserved = below_rest m.reserved _ line _ before.reserved steps.1.0;
       long = line_long schema _ line _ words others steps.1.0 wide left before.long;
       good = (line_good schema _ line _ words others steps.1.0 wide left before.good).1;
-      has = has_again_named n before.front dart m c.loop-line.twice before.has name c.lesser.result named (before.has.added.slots there.0.at name there.1) c.lesser.ensures;
-      most = omega (arith, before.most, length_push before.front dart, c.slot_of.ensures.cost);
-      least = omega (arith, before.least, length_push before.front dart, c.slot_of.ensures.cost);
+      has = has_again_named n before.front dart m c.loop-line.twice before.has name c.lesser.result named (before.has.added.slots there.0.at name there.1.0) c.lesser.ensures;
+      most = omega (arith, before.most, length_push before.front dart, there.1.1);
+      least = omega (arith, before.least, length_push before.front dart, there.1.1);
     }
 
 pub returns-clause-schema : goal.returns-clause-schema
