@@ -5,14 +5,14 @@
 //! their neighbours. Each pass looks a name up in the arena.
 ghost use Rattle.gm_model.specs.Limits.{most_names};
 ghost use Rattle.gm_model.specs.Maps.{IsSchema};
-ghost use Rattle.std.specs.Prelude.{◌≡◌, ◌+◌, ◌*◌, ◌/◌, ◌<◌, ◌≤◌, length, min, nat_lt, if◌then◌else◌, All, None, MatchOption, IfOk, IfErr, IfSome, OnOk};
+ghost use Rattle.std.specs.Prelude.{◌≡◌, ◌+◌, ◌*◌, ◌/◌, ◌<◌, ◌≤◌, length, min, nat_lt, if◌then◌else◌, None, MatchOption, IfOk, IfErr, IfSome, OnOk};
 ghost use Rattle.std.specs.FinMap.{get};
 ghost use Rattle.gm_arena.specs.ArenaMap.{IsAt, IsLiveName};
 ghost use Rattle.gm_arena.specs.Edits.{with_dart};
 ghost use Rattle.gm_arena.specs.Lawful.{AreGoodValues};
 ghost use Rattle.gm_mapfile.specs.Packed.{size_of_line, values_in};
 ghost use Rattle.gm_mapfile.specs.Draft.{version_in};
-ghost use Rattle.gm_mapfile.specs.MapFaults.{AreBelowStated};
+ghost use Rattle.gm_mapfile.specs.MapFaults.{AreBelow, AreBelowStated};
 ghost use Rattle.gm_mapfile.specs.Rows.{rows_in, darts_in};
 ghost use Rattle.gm_mapfile.specs.Faults.{IsNameFault};
 ghost use Rattle.gm_mapfile.specs.Building.{AreInRoom, AreSlotsLive, AreWhole, AreLive, AreValued, IsFresh, IsNextLeast, AreAdded, IsNotBelow, IsLeastNotBelowStated, IsNextSet, IsRelinked, IsDartLinked, IsLabelWithoutTarget, AreLinkedUnless, IsHeld};
@@ -48,22 +48,26 @@ pub(crate) fn build<L: Ledger>(
         mut numbers,
         mut words,
     } = draft;
-    in_order(alloc, &schema, &mut numbers, &mut words)?;
+    let end = in_order(alloc, &schema, &mut numbers, &mut words)?;
     let (numbers, words) = (numbers.as_slice(), words.as_slice());
-    build_lines(alloc, schema, stated, numbers, words, steps)
+    build_lines(alloc, schema, stated, end, numbers, words, steps)
 }
 
-/// The same of the lines in their order, where the text may state the next name.
+/// The same of the lines in their order, where the text may state the next name. No name reaches
+/// the end.
 fn build_lines<L: Ledger>(
     alloc: Global,
     schema: Schema,
     stated: Option<u32>,
+    end: u32,
     numbers: &[u32],
     words: &[i64],
     steps: &mut Steps<L>,
 ) -> Result<Arena, MapFault>
     requires schema { IsSchema schema }
     requires room { AreInRoom schema numbers.now words.now }
+    requires end { AreBelow (rows_in schema.dim numbers.now) end }
+    requires names { end ≤ most_names }
     requires next { IfSome stated (λ next. next ≤ most_names) }
     ensures held { IfOk result (IsHeld (version_in stated) schema (darts_in schema numbers.now words.now)) }
     ensures fault { IfErr result (IsNameFault (version_in stated) schema.dim (darts_in schema numbers.now words.now)) }
@@ -71,18 +75,19 @@ fn build_lines<L: Ledger>(
     ensures least { IfOk result (λ arena. steps.old + arena.count ≤ steps.new) }
 {
     let mut arena = Arena::new(alloc, schema);
-    if let Err(fault) = fill_with_room(&mut arena, stated, numbers, words, steps) {
+    if let Err(fault) = fill_with_room(&mut arena, stated, end, numbers, words, steps) {
         drop(arena);
         return Err(fault);
     }
     Ok(arena)
 }
 
-/// Makes room for the darts of the lines in an arena without darts, and fills it. The arena is
-/// borrowed, so that no way out has to drop it.
+/// Makes room for the darts of the lines in an arena without darts, and fills it. No name reaches
+/// the end. The arena is borrowed, so that no way out has to drop it.
 fn fill_with_room<L: Ledger>(
     arena: &mut Arena,
     stated: Option<u32>,
+    end: u32,
     numbers: &[u32],
     words: &[i64],
     steps: &mut Steps<L>,
@@ -90,6 +95,8 @@ fn fill_with_room<L: Ledger>(
     requires fresh { IsFresh arena.old }
     requires embeds { length arena.old.schema.embeds ≤ 8 }
     requires room { AreInRoom arena.old.schema numbers.now words.now }
+    requires end { AreBelow (rows_in arena.old.schema.dim numbers.now) end }
+    requires names { end ≤ most_names }
     requires next { IfSome stated (λ next. next ≤ most_names) }
     ensures held { OnOk result (IsHeld (version_in stated) arena.old.schema (darts_in arena.old.schema numbers.now words.now) arena.new) }
     ensures fault { IfErr result (IsNameFault (version_in stated) arena.old.schema.dim (darts_in arena.old.schema numbers.now words.now)) }
@@ -97,7 +104,7 @@ fn fill_with_room<L: Ledger>(
     ensures least { OnOk result (steps.old + arena.new.count ≤ steps.new) }
 {
     let width = arena.schema().dim.top() as usize + 2;
-    arena.reserve((numbers.len() / width) as u32, names_end(numbers))?;
+    arena.reserve((numbers.len() / width) as u32, end)?;
     fill(arena, stated, numbers, words, steps)
 }
 
@@ -114,7 +121,7 @@ fn fill<L: Ledger>(
     requires embeds { length arena.old.schema.embeds ≤ 8 }
     requires room { AreInRoom arena.old.schema numbers.now words.now }
     requires spare { length numbers.now / (arena.old.schema.dim + 2) ≤ arena.old.spare }
-    requires reserved { All (λ x. x < arena.old.reserved) numbers.now }
+    requires reserved { AreBelow (rows_in arena.old.schema.dim numbers.now) arena.old.reserved }
     requires next { IfSome stated (λ next. next ≤ most_names) }
     ensures held { OnOk result (IsHeld (version_in stated) arena.old.schema (darts_in arena.old.schema numbers.now words.now) arena.new) }
     ensures fault { IfErr result (IsNameFault (version_in stated) arena.old.schema.dim (darts_in arena.old.schema numbers.now words.now)) }
@@ -133,19 +140,6 @@ fn fill<L: Ledger>(
     Ok(())
 }
 
-/// One more than the greatest of the numbers, or 0 where there is none.
-fn names_end(numbers: &[u32]) -> u32
-    requires { All (λ x. x < most_names) numbers.now }
-    ensures above { All (λ x. x < result) numbers.now }
-    ensures few { result ≤ most_names }
-{
-    let mut end = 0;
-    for number in numbers {
-        end = end.max(number + 1);
-    }
-    end
-}
-
 /// Adds the dart of each line with its values, free for every label. The answer is the least name
 /// that two lines have.
 fn add_darts<L: Ledger>(
@@ -158,7 +152,7 @@ fn add_darts<L: Ledger>(
     requires embeds { length arena.old.schema.embeds ≤ 8 }
     requires room { AreInRoom arena.old.schema numbers.now words.now }
     requires spare { length numbers.now / (arena.old.schema.dim + 2) ≤ arena.old.spare }
-    requires reserved { All (λ x. x < arena.old.reserved) numbers.now }
+    requires reserved { AreBelow (rows_in arena.old.schema.dim numbers.now) arena.old.reserved }
     ensures schema { arena.new.schema ≡ arena.old.schema }
     ensures added { AreAdded arena.old.schema.dim (rows_in arena.old.schema.dim numbers.now) arena.new result }
     ensures values { AreValued (darts_in arena.old.schema numbers.now words.now) arena.new }

@@ -9,9 +9,9 @@ use Rattle.gm_mapfile.specs.MapText.{rows_of}
 use Rattle.gm_mapfile.specs.Packed.{size_of_line, values_in}
 use Rattle.gm_mapfile.specs.Rows.{row_in, valued, darts_in}
 use Rattle.gm_mapfile.specs.Building.{AreAdded, AreValued}
-use Rattle.gm_mapfile.proofs.Chunks.{first_values, below_first, below_rest, name_of_line, none_left, darts_end, rows_of_darts_in, length_darts_in}
+use Rattle.gm_mapfile.proofs.Chunks.{first_values, name_of_line, none_left, darts_end, rows_of_darts_in, length_darts_in}
 use Rattle.gm_mapfile.proofs.Adding.{answered_none, answered_some}
-use Rattle.gm_mapfile.proofs.AddedDarts.{HasDarts, has_none, has_more_named, has_again_named, line_split, line_good, line_spare, line_long, line_words, behind_read, values_read, good_read, own_long, schema_kept}
+use Rattle.gm_mapfile.proofs.AddedDarts.{HasDarts, has_none, has_more_named, has_again_named, line_split, line_good, line_spare, line_long, line_words, line_below, behind_read, values_read, good_read, own_long, schema_kept}
 use Rattle.gm_mapfile.proofs.Unpacked.{size_read}
 use Rattle.gm_mapfile.proofs.building.add_darts.Goals as goal
 
@@ -26,7 +26,7 @@ loop-line-init g c =
       split = ap (λ numbers. darts_in schema numbers c.args.words.now) rest;
       schema = refl;
       room = rw rest c.requires.spare;
-      reserved = rw rest c.requires.reserved;
+      reserved = refl;
       long = rw rest c.requires.room.long;
       good = rw rest c.requires.room.good;
       has = has_none n c.args.arena.now c.requires.fresh;
@@ -44,9 +44,10 @@ split_at-requires g c =
 
 pub add_packed-requires-clause-reserved : goal.add_packed-requires-clause-reserved
 add_packed-requires-clause-reserved g c =
+    let before = c.loop-line.invariant in
     let steps = c.in-Some.ensures.steps in
-    let long : length c.in-Some.line.now ≡ c.args.arena.now.schema.dim + 2 = steps.1.1 ∙ c.loop-line.invariant.size in
-    below_first c.loop-line.arena.reserved _ c.in-Some.line.now _ c.loop-line.invariant.reserved steps.1.0 (omega (arith, long))
+    let below = line_below c.args.arena.now.schema before.front c.args.numbers.now _ c.in-Some.line.now _ c.args.words.now c.loop-line.rest.now before.split steps.1.0 (steps.1.1 ∙ before.size) c.args.arena.now.reserved c.requires.reserved in
+    omega (arith, below, before.reserved)
 
 pub add_packed-requires-clause-values : goal.add_packed-requires-clause-values
 add_packed-requires-clause-values g c =
@@ -107,7 +108,7 @@ loop-line-preserved-then-is_none g c =
       split = line_split schema _ line _ words others steps.1.0 wide left before.front _ before.split;
       schema = schema_kept m c.add_packed.new.arena c.add_packed.result.at name (values_in m.schema.embeds c.split_at.result.0.now) schema after before.schema;
       room = rw after room.1;
-      reserved = rw after (below_rest m.reserved _ line _ before.reserved steps.1.0);
+      reserved = rw after before.reserved;
       long = line_long schema _ line _ words others steps.1.0 wide left before.long;
       good = (line_good schema _ line _ words others steps.1.0 wide left before.good).1;
       has = subst (λ x. HasDarts n (before.front ++ dart ∷ []) x c.loop-line.twice) (sym after)
@@ -140,7 +141,7 @@ loop-line-preserved g c =
       split = line_split schema _ line _ words others steps.1.0 wide left before.front _ before.split;
       schema = before.schema;
       room = omega (arith, room.1);
-      reserved = below_rest m.reserved _ line _ before.reserved steps.1.0;
+      reserved = before.reserved;
       long = line_long schema _ line _ words others steps.1.0 wide left before.long;
       good = (line_good schema _ line _ words others steps.1.0 wide left before.good).1;
       has = has_again_named n before.front dart m c.loop-line.twice before.has name c.lesser.result named (before.has.added.slots there.0.at name there.1.0) c.lesser.ensures;
