@@ -1,10 +1,5 @@
 -- The words that say which fault a reader answered.
-use Rattle.std.specs.Prelude.{◌≡◌, ◌≢◌, ℕ, ◌<◌, List, [], ◌++◌, length}
-use Rattle.gm_model.specs.declared.schema.Embed.{Embed}
-use Rattle.gm_model.specs.declared.schema.Schema.{Schema}
-use Rattle.gm_model.specs.Maps.{IsEmbedAt}
-use Rattle.gm_model.specs.Symbols.{Mark, Stray, End}
-use Rattle.gm_mapfile.specs.MapText.{Version, DartRow, IsListed}
+use Rattle.std.specs.Prelude.{◌≡◌, ℕ, List, [], ◌++◌}
 use Rattle.gm_book.specs.declared.fault.BookFault.{BookFault}
 use Rattle.gm_book.specs.declared.fault.BookFault.TheVariants as book
 use Rattle.gm_forms.specs.BookText.{TwiceAt, UnknownAt, WrongKindAt}
@@ -20,18 +15,6 @@ use Rattle.gm_lines.specs.Refusing.{IsBad, TheMap}
 -- words that say why the bytes stand for no map are put behind the text
 abbrev pub PutsMapFault : List ℕ → List ℕ → List ℕ → Type 0
 PutsMapFault bytes old new = (why : List ℕ) × IsBad bytes TheMap why × (new ≡ old ++ why)
-
--- the mark of a token, and not of the end or of a byte that no token begins with
-abbrev pub IsTokenMark : Mark → Type 0
-IsTokenMark mark = (mark.symbol ≢ Stray) × (mark.symbol ≢ End)
-
--- the text lists darts over a schema that has an embedding of this number
-abbrev pub HasEmbed : List ℕ → ℕ → Type 0
-HasEmbed bytes e = (version : Version) × (schema : Schema) × (darts : List DartRow) × IsListed bytes version schema darts × (e < length schema.embeds)
-
--- this is its name
-abbrev pub IsEmbedName : List ℕ → ℕ → List ℕ → Type 0
-IsEmbedName bytes e name = (version : Version) (schema : Schema) (darts : List DartRow) (embed : Embed) → IsListed bytes version schema darts → IsEmbedAt schema e embed → name ≡ embed.name
 
 -- the fault is said by a line
 abbrev pub IsSaidOfBook : BookFault → Type 0

@@ -1,41 +1,33 @@
 //! The lines that say why a file's text stands for nothing.
 
-ghost use Rattle.std.specs.Prelude.{◌≡◌, ◌∷◌, ◌++◌, List, IfOk, OnOk, codes, decimal};
+ghost use Rattle.std.specs.Prelude.{◌≡◌, ◌++◌, ℕ, List, IfOk, OnOk, codes, decimal};
 ghost use Rattle.gm_lines.specs.Refusing.{TheMap, refusal, IsBadLine};
 ghost use Rattle.gm_mapfile.specs.MapFaults.{limit_word};
-ghost use Rattle.gm_mapfile.specs.Faults.{IsFaultOf, IsBreachOf};
-ghost use Rattle.gm_model.specs.Symbols.{Mark};
-ghost use Rattle.gm_text.specs.SchemaAnswers.{marks_left};
-ghost use Rattle.gm_lines.specs.FaultLines.{IsSaidOfBook, IsSaidOfScript, book_words, script_words, PutsMapFault, HasEmbed, IsEmbedName, IsTokenMark};
+ghost use Rattle.gm_mapfile.specs.Faults.{IsNamedBreachOf, IsNamedFaultOf, IsWhyNot};
+ghost use Rattle.gm_lines.specs.FaultLines.{IsSaidOfBook, IsSaidOfScript, book_words, script_words, PutsMapFault};
 
 use gm_book::BookFault;
 use gm_laws::MapBreach;
-use gm_mapfile::MapFault;
+use gm_mapfile::{MapFault, NoMap};
 use gm_model::{LimitKind, Name, OutOfMemory};
 use gm_script::ScriptFault;
-use gm_text::{Lexer, Text, read_schema};
+use gm_text::Text;
 use std::alloc::Global;
 
 /// The line that refuses a map, with its line end. There is none for want of memory.
-pub fn map_line(alloc: Global, bytes: &[u8], fault: MapFault) -> Result<Vec<u8>, OutOfMemory>
-    requires { IsFaultOf bytes.now fault }
-    ensures { IfOk result (λ line. IsBadLine bytes.now TheMap line.items) }
+pub fn map_line(alloc: Global, no_map: NoMap) -> Result<Vec<u8>, OutOfMemory>
+    ensures { IfOk result (λ line. (bytes : List ℕ) → IsWhyNot bytes no_map → IsBadLine bytes TheMap line.items) }
 {
     let mut text = Text::new(alloc);
     text.put(b"refused MAP ")?;
-    put_map_fault(alloc, &mut text, bytes, fault)?;
+    put_map_fault(&mut text, no_map.fault, no_map.embed)?;
     text.put(b"\n")?;
     Ok(text.into_bytes())
 }
 
-fn put_map_fault(
-    alloc: Global,
-    text: &mut Text,
-    bytes: &[u8],
-    fault: MapFault,
-) -> Result<(), OutOfMemory>
-    requires { IsFaultOf bytes.now fault }
-    ensures { OnOk result (PutsMapFault bytes.now text.old text.new) }
+/// Appends the words of the fault, with the name of the embedding that it is about.
+fn put_map_fault(text: &mut Text, fault: MapFault, embed: Option<Name>) -> Result<(), OutOfMemory>
+    ensures { OnOk result ((bytes : List ℕ) → IsNamedFaultOf bytes fault embed → PutsMapFault bytes text.old text.new) }
 {
     match fault {
         MapFault::Text { place } => put_at(text, b"text ", place as u64),
@@ -44,50 +36,23 @@ fn put_map_fault(
         MapFault::DartTwice { dart } => put_at(text, b"dart-twice ", u64::from(dart)),
         MapFault::Next { dart } => put_at(text, b"next dart ", u64::from(dart)),
         MapFault::NoTarget { dart, label } => put_label(text, b"no-target dart ", dart, label),
-        MapFault::Breach(breach) => put_breach(alloc, text, bytes, breach),
+        MapFault::Breach(breach) => put_breach(text, breach, embed),
         MapFault::OutOfMemory => Err(OutOfMemory),
     }
 }
 
-fn put_breach(
-    alloc: Global,
-    text: &mut Text,
-    bytes: &[u8],
-    breach: MapBreach,
-) -> Result<(), OutOfMemory>
-    requires { IsBreachOf bytes.now breach }
-    ensures { OnOk result (PutsMapFault bytes.now text.old text.new) }
+fn put_breach(text: &mut Text, breach: MapBreach, embed: Option<Name>) -> Result<(), OutOfMemory>
+    ensures { OnOk result ((bytes : List ℕ) → IsNamedBreachOf bytes breach embed → PutsMapFault bytes text.old text.new) }
 {
     match breach {
         MapBreach::Involution { dart, label } => put_label(text, b"involution dart ", dart, label),
         MapBreach::Cycle { dart, i, j } => put_crossing(text, dart, i, j),
-        MapBreach::Embedding { embed, dart, other } => {
-            let name = embed_name(alloc, bytes, embed)?;
-            put_change(text, name.bytes(), dart, other)
-        }
+        // No text has this fault without the name.
+        MapBreach::Embedding { dart, other, .. } => match embed {
+            Some(name) => put_change(text, name.bytes(), dart, other),
+            None => put_change(text, b"", dart, other),
+        },
     }
-}
-
-/// The name of the embedding with the number, read again, since the reader answers its number alone.
-fn embed_name(alloc: Global, bytes: &[u8], embed: u8) -> Result<Name, OutOfMemory>
-    requires { HasEmbed bytes.now embed }
-    ensures { IfOk result (IsEmbedName bytes.now embed) }
-{
-    let mut lexer = Lexer::new(bytes);
-    skip_token(&mut lexer);
-    skip_token(&mut lexer);
-    match read_schema(alloc, &mut lexer) {
-        Ok(schema) => Ok(schema.embeds.as_slice()[usize::from(embed)].name),
-        Err(_) => Err(OutOfMemory),
-    }
-}
-
-/// Goes past the next token, where there is one.
-fn skip_token(lexer: &mut Lexer<'_>)
-    ensures text { lexer.new.text ≡ lexer.old.text }
-    ensures past { (mark : Mark) (rest : List Mark) → IsTokenMark mark → marks_left lexer.old ≡ mark ∷ rest → marks_left lexer.new ≡ rest }
-{
-    let _ = lexer.next();
 }
 
 fn put_change(text: &mut Text, name: &[u8], dart: u32, other: u32) -> Result<(), OutOfMemory>

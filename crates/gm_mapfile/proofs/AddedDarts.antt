@@ -1,5 +1,5 @@
 -- One line more: its dart is added with its values, or its name is there already.
-use Rattle.std.proofs.Common.{◌≡◌, ℕ, ◌+◌, ◌-◌, ◌*◌, ◌/◌, ◌<◌, ◌≤◌, ℤ, min, true, List, [], ◌∷◌, ◌++◌, length, take, drop, Option, Some, None, is_some, inl, inr, refl, sym, ap, subst, ◌∙◌, arith}
+use Rattle.std.proofs.Common.{◌≡◌, ℕ, ◌+◌, ◌-◌, ◌*◌, ◌/◌, ◌<◌, ◌≤◌, ℤ, min, true, List, [], ◌∷◌, ◌++◌, length, take, drop, get_or, Option, Some, None, is_some, inl, inr, refl, sym, ap, subst, ◌∙◌, arith}
 use Rattle.std.specs.Prelude.{MatchOption}
 use Rattle.std.specs.FinMap.{get}
 use Rattle.std.specs.List.{AllByRecursion}
@@ -12,13 +12,14 @@ use Rattle.gm_arena.specs.ArenaMap.{ArenaMap, Dart}
 use Rattle.gm_arena.specs.Edits.{with_dart}
 use Rattle.gm_arena.specs.Lawful.{AreGoodValues}
 use Rattle.gm_arena.proofs.MapLemmas.{get-with_dart_same, get-with_dart_other}
+use Rattle.gm_mapfile.specs.MapFaults.{AreBelow}
 use Rattle.gm_mapfile.specs.MapText.{DartRow, bare, rows_of, dart_of}
 use Rattle.gm_mapfile.specs.Building.{IsFresh, IsNextLeast, AreAdded, AreValued}
 use Rattle.gm_mapfile.proofs.Adding.{none_added, none_next, next_more, added_more, added_again}
-use Rattle.gm_mapfile.specs.Rows.{row_in, valued, darts_in}
+use Rattle.gm_mapfile.specs.Rows.{row_in, rows_in, valued, darts_in}
 use Rattle.gm_mapfile.specs.Packed.{size_of_line}
 use Rattle.gm_mapfile.specs.Packed as packing
-use Rattle.gm_mapfile.proofs.Chunks.{lines_cut, next_among, first_values, darts_line}
+use Rattle.gm_mapfile.proofs.Chunks.{lines_cut, name_live, next_among, first_values, darts_line, rows_of_darts_in}
 use Rattle.gm_mapfile.proofs.Darts.{rows_append, live_dart, dart_of_push_new, dart_of_push_other, dart_of_push_again}
 use Rattle.gm_mapfile.proofs.Named.{none_of}
 
@@ -107,6 +108,14 @@ pub line_words : (schema : Schema) (all line rest : List ℕ) (words : List ℤ)
 line_words schema all line rest words cut wide long =
     let more : length words ≡ (length rest / (schema.dim + 2) + 1) * size_of_line schema.embeds = long ∙ ap (λ k. k * size_of_line schema.embeds) (lines_cut schema.dim all line rest cut wide) in
     omega (arith, more)
+
+-- a line's name is below what is above all names
+pub line_below : (schema : Schema) (front : List DartRow) (numbers all line rest : List ℕ) (whole words : List ℤ) → front ++ darts_in schema all words ≡ darts_in schema numbers whole → all ≡ line ++ rest → length line ≡ schema.dim + 2
+    → (bound : ℕ) → AreBelow (rows_in schema.dim numbers) bound → get_or line 0 0 < bound
+line_below schema front numbers all line rest whole words split cut wide bound below =
+    let rows : rows_of front ++ rows_in schema.dim all ≡ rows_in schema.dim numbers =
+    ap (λ rs. rows_of front ++ rs) (sym (rows_of_darts_in schema all words)) ∙ (sym (rows_append front (darts_in schema all words)) ∙ (ap rows_of split ∙ rows_of_darts_in schema numbers whole)) in
+    below (get_or line 0 0) (name_live schema.dim (rows_of front) numbers all line rest rows cut wide)
 
 pub schema_kept : (m new : ArenaMap) (slot name : ℕ) (values : List Value) (schema : Schema) → new ≡ with_dart m slot name values → m.schema ≡ schema → new.schema ≡ schema
 schema_kept m new slot name values schema is same = ap (λ (x : ArenaMap). x.schema) is ∙ same

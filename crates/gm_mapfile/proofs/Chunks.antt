@@ -1,19 +1,23 @@
 -- The rows of numbers, line by line, and the darts of numbers and packed values.
-use Rattle.std.proofs.Common.{◌≡◌, ℕ, suc, ◌+◌, ◌*◌, ◌/◌, ◌<◌, ℤ, List, [], ◌∷◌, ◌++◌, length, take, drop, get_or, All, refl, sym, ap, ap₂, subst, ◌∙◌, arith}
-use Rattle.std.proofs.Math.Nat.{add-div_left, div-eq_of_lt}
+use Rattle.std.proofs.Common.{◌≡◌, ℕ, zero, suc, ◌+◌, ◌*◌, ◌/◌, ◌<◌, ◌≤◌, eqb, inl, inr, ℤ, List, [], ◌∷◌, ◌++◌, length, take, drop, get_or, All, refl, sym, ap, ap₂, subst, ◌∙◌, arith}
+use Rattle.std.proofs.Math.Nat.{add-div_left, div-eq_of_lt, div-mul-le_self}
 use Rattle.std.proofs.Math.Seq.{take-append_seam, drop-append_seam}
 use Rattle.std.specs.List.{AllByRecursion}
-use Rattle.std.proofs.lemmas.List.{length-map, length-append, append_assoc, append-nil, get_or_read, get_or_append_left, get_or-append-add}
+use Rattle.std.proofs.lemmas.Bool.{cases_Bool, eqb-true}
+use Rattle.std.proofs.lemmas.List.{length-map, length-append, length-drop, length-take-le, append_assoc, append-nil}
+use Rattle.std.proofs.lemmas.List.Elements.{All-drop, All-take}
 use Rattle.gm_model.specs.declared.schema.Embed.{Embed}
 use Rattle.gm_model.specs.declared.schema.Schema.{Schema}
 use Rattle.gm_model.specs.declared.value.Value.{Value}
-use Rattle.gm_model.specs.GMap.{Row}
+use Rattle.gm_model.specs.GMap.{Row, IsLive}
 use Rattle.gm_arena.specs.Lawful.{AreGoodValues}
+use Rattle.gm_mapfile.specs.MapFaults.{AreBelow}
 use Rattle.gm_mapfile.specs.MapText.{DartRow, bare, rows_of}
 use Rattle.gm_mapfile.specs.MapReading.{IsWhole}
 use Rattle.gm_mapfile.specs.Draft.{line_in, numbers_of, words_of_darts}
 use Rattle.gm_mapfile.specs.Packed.{packed, size_of_line, values_in}
 use Rattle.gm_mapfile.specs.Rows.{row_in, rows_from, rows_in, valued, darts_from, darts_in}
+use Rattle.gm_mapfile.proofs.Named.{live_among}
 use Rattle.gm_mapfile.proofs.Unpacked.{length_packed, values_back}
 
 -- each dart has so many neighbours
@@ -77,32 +81,36 @@ pub name_of_line : (line : List ℕ) → (row_in line).name ≡ get_or line 0 0
 name_of_line [] = refl
 name_of_line (name ∷ alphas) = refl
 
--- a name that is read at a place of the line
-pub read_at : (line : List ℕ) (i name number : ℕ) → i < length line → name ≡ get_or line i name → number ≡ name → number ≡ get_or line i 0
-read_at line i name number within at same = same ∙ get_or_read line i name within at 0
-
--- the name of a line, as it is read
-pub name_read : (line : List ℕ) (at name : ℕ) → 0 < length line → at ≡ get_or line 0 at → name ≡ at → (row_in line).name ≡ name
-name_read line at name some is same = name_of_line line ∙ sym (read_at line 0 at name some is same)
-
 pub alphas_of_line : (line : List ℕ) → (row_in line).alphas ≡ drop 1 line
 alphas_of_line [] = refl
 alphas_of_line (name ∷ alphas) = refl
 
--- numbers below a bound are so in the first line and behind it
-pub below_first : (bound : ℕ) (all line rest : List ℕ) → All (λ x. x < bound) all → all ≡ line ++ rest → 0 < length line → get_or line 0 0 < bound
-below_first bound all line rest below split some =
-    let within : 0 < length all = omega (arith, ap length split, length-append line rest) in
-    subst (λ x. x < bound) (ap (λ xs. get_or xs 0 0) split ∙ get_or_append_left line rest 0 0 some) (below 0 0 within)
-
-pub below_rest : (bound : ℕ) (all line rest : List ℕ) → All (λ x. x < bound) all → all ≡ line ++ rest → All (λ x. x < bound) rest
-below_rest bound all line rest below split k d lt =
-    let within : length line + k < length all = omega (arith, ap length split, length-append line rest) in
-    subst (λ x. x < bound) (ap (λ xs. get_or xs (length line + k) d) split ∙ get_or-append-add line rest k d) (below (length line + k) d within)
-
 -- one row between the front and the rest
 pub between : (n : ℕ) (front whole : List Row) (all line rest : List ℕ) → front ++ rows_in n all ≡ whole → all ≡ line ++ rest → length line ≡ n + 2 → front ++ row_in line ∷ rows_in n rest ≡ whole
 between n front whole all line rest so_far split long = ap (λ rs. front ++ rs) (sym (rows_line n line rest long) ∙ ap (rows_in n) (sym split)) ∙ so_far
+
+-- its name is one of the rows'
+pub name_live : (n : ℕ) (front : List Row) (numbers all line rest : List ℕ) → front ++ rows_in n all ≡ rows_in n numbers → all ≡ line ++ rest → length line ≡ n + 2 → IsLive (rows_in n numbers) (get_or line 0 0)
+name_live n front numbers all line rest split cut long =
+    subst (λ rows. IsLive rows (get_or line 0 0)) (between n front (rows_in n numbers) all line rest split cut long)
+    (subst (IsLive (front ++ row_in line ∷ rows_in n rest)) (name_of_line line) (live_among front (row_in line) (rows_in n rest)))
+
+-- where each number is below a bound, each name is
+pub rows_below : (n bound : ℕ) (numbers : List ℕ) → All (λ x. x < bound) numbers → AreBelow (rows_in n numbers) bound
+rows_below n bound numbers each = go (length numbers / (n + 2)) numbers (div-mul-le_self (length numbers) (n + 2)) each
+  where
+    go : (count : ℕ) (xs : List ℕ) → count * (n + 2) ≤ length xs → All (λ x. x < bound) xs → AreBelow (rows_from n count xs) bound
+    go zero xs fits all d live = absurd cc
+    go (suc count) xs fits all d live =
+        let line = take (n + 2) xs in
+        let within : 0 < length line = omega (arith, fits, length-take-le (n + 2) xs (omega (arith, fits))) in
+        let first : get_or line 0 0 < bound = All-take (λ x. x < bound) (n + 2) xs all 0 0 within in
+        elim (cases_Bool (eqb (row_in line).name d)) [
+          | inl here ↦ omega (arith, eqb-true (row_in line).name d here, name_of_line line, first)
+          | inr other ↦
+              let later : IsLive (rows_from n count (drop (n + 2) xs)) d = rw other at live in
+              go count (drop (n + 2) xs) (omega (arith, fits, length-drop (n + 2) xs)) (All-drop (λ x. x < bound) (n + 2) xs all) d later
+        ]
 
 pub alphas_long : (n : ℕ) (line : List ℕ) → length line ≡ n + 2 → length (row_in line).alphas ≡ n + 1
 alphas_long n [] long = absurd (omega (arith, long))

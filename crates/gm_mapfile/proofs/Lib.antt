@@ -12,7 +12,6 @@ pub mod MapRows
 pub mod FormWithin
 pub mod MapReadings
 pub mod Listed
-pub mod SchemaThere
 pub mod Named
 pub mod Darts
 pub mod Ascending

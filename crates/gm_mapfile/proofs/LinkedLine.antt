@@ -8,8 +8,8 @@ use Rattle.gm_mapfile.specs.MapFaults.{AreNamedOnce}
 use Rattle.gm_arena.specs.ArenaMap.{ArenaMap}
 use Rattle.gm_mapfile.specs.Rows.{row_in, rows_in}
 use Rattle.gm_mapfile.specs.Building.{IsRelinked, IsDartLinked, IsLabelWithoutTarget, IsFirstLack, AreLinkedUnless}
-use Rattle.gm_mapfile.proofs.Chunks.{between, name_of_line, alphas_long}
-use Rattle.gm_mapfile.proofs.Named.{live_among, none_beside}
+use Rattle.gm_mapfile.proofs.Chunks.{between, name_live, name_of_line, alphas_long}
+use Rattle.gm_mapfile.proofs.Named.{none_beside}
 use Rattle.gm_mapfile.proofs.Linking.{relinked_twice, step_linked, step_lack}
 
 -- as the code cuts them off
@@ -34,7 +34,7 @@ module _ (n : ℕ) (old m m' : ArenaMap) (front : List Row) (numbers all line re
   whole = between n front (rows_in n numbers) all line rest split cut long
 
   pub line_live : IsLive (rows_in n numbers) (get_or line 0 0)
-  line_live = subst (λ rows. IsLive rows (get_or line 0 0)) whole (subst (IsLive (front ++ row_in line ∷ rows_in n rest)) (name_of_line line) (live_among front (row_in line) (rows_in n rest)))
+  line_live = name_live n front numbers all line rest split cut long
 
   module _ (distinct : AreNamedOnce (rows_in n numbers)) (state : IsRelinked n old m) (missing : Option (ℕ × ℕ)) (before : AreLinkedUnless n old m front missing) where
     new_name : row_of front (row_in line).name ≡ None

@@ -1,9 +1,9 @@
 -- The least name that isn't below a number, one row more.
-use Rattle.std.proofs.Common.{◌≡◌, ℕ, ◌<◌, ◌≤◌, min, List, [], ◌∷◌, ◌++◌, Option, Some, None, is_some, ◌⊎◌, inl, inr, sym, ap, subst, ◌∙◌, arith}
+use Rattle.std.proofs.Common.{◌≡◌, ℕ, ◌+◌, ◌<◌, ◌≤◌, min, List, [], ◌∷◌, ◌++◌, Option, Some, None, is_some, ◌⊎◌, inl, inr, sym, ap, subst, ◌∙◌, arith}
 use Rattle.std.specs.Prelude.{MatchOption}
 use Rattle.std.proofs.lemmas.Bool.{cases_eq, cases_lt}
 use Rattle.gm_model.specs.GMap.{Row, IsLive}
-use Rattle.gm_mapfile.specs.MapFaults.{IsLeastNotBelow}
+use Rattle.gm_mapfile.specs.MapFaults.{AreBelow, IsLeastNotBelow}
 use Rattle.gm_mapfile.specs.Building.{IsNotBelow}
 use Rattle.gm_mapfile.proofs.Named.{row_of_push_other, live_push}
 
@@ -72,3 +72,10 @@ module _ (rows : List Row) (row : Row) (next : ℕ) where
 
   pub high_more_named : (name : ℕ) (found : Option ℕ) (t : ℕ) → row.name ≡ name → next ≤ name → MatchOption found (t ≡ name) (λ least. t ≡ min least name) → IsNotBelow rows next found → IsNotBelow (rows ++ row ∷ []) next (Some t)
   high_more_named name found t same = subst (λ k. next ≤ k → MatchOption found (t ≡ k) (λ least. t ≡ min least k) → IsNotBelow rows next found → IsNotBelow (rows ++ row ∷ []) next (Some t)) same (high_more found t)
+
+-- with a row whose name isn't below the number, each is below the next to that name
+pub below_more : (rows : List Row) (row : Row) (name end : ℕ) → row.name ≡ name → end ≤ name → AreBelow rows end → AreBelow (rows ++ row ∷ []) (name + 1)
+below_more rows row name end same above below d live = elim (live_is rows row 0 d live) [
+  | inl e ↦ omega (arith, e, same)
+  | inr was ↦ omega (arith, below d was, above)
+]

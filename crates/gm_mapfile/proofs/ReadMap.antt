@@ -1,9 +1,10 @@
 -- What was read and built, said of the text.
-use Rattle.std.proofs.Common.{◌≡◌, ℕ, ◌+◌, ◌*◌, ◌/◌, ◌<◌, ◌≤◌, ℤ, List, [], ◌∷◌, ◌++◌, length, All, is_some, refl, sym, ap, ap₂, subst, ◌∙◌, arith}
+use Rattle.std.proofs.Common.{◌≡◌, ℕ, ◌+◌, ◌*◌, ◌/◌, ◌<◌, ◌≤◌, ℤ, List, [], ◌∷◌, ◌++◌, length, slice_get, All, Option, Some, None, is_some, option_map, refl, sym, ap, ap₂, subst, ◌∙◌, arith}
 use Rattle.std.specs.List.{AllByRecursion}
 use Rattle.std.proofs.lemmas.Nat.{mul-le}
 use Rattle.std.proofs.lemmas.List.Elements.{All-from_recursion}
 use Rattle.std.proofs.lemmas.List.Sorted.{length_permutation}
+use Rattle.gm_model.specs.declared.schema.Embed.{Embed}
 use Rattle.gm_model.specs.declared.schema.Schema.{Schema}
 use Rattle.gm_model.specs.Breaches.{IsFirstOneWay, IsFirstCrossing, IsFirstUnshared}
 use Rattle.gm_model.specs.GMap.{row_of}
@@ -24,11 +25,11 @@ use Rattle.gm_mapfile.specs.declared.fault.MapFault.TheVariants as faults
 use Rattle.gm_mapfile.specs.declared.version.MapVersion.{MapVersion}
 use Rattle.gm_mapfile.specs.MapText.{Version, First, Second, DartRow, ListedMap, IsListed, IsNext, MapText, names, rows_of, dart_of, version_of}
 use Rattle.gm_mapfile.specs.MapFaults as first
-use Rattle.gm_mapfile.specs.Answered.{map_fault_of_text, map_fault_of_laws}
+use Rattle.gm_mapfile.specs.Answered.{map_fault_of_text, map_fault_of_laws, name_told}
 use Rattle.gm_mapfile.specs.Draft.{numbers_of, IsDraft, IsFaultIn}
 use Rattle.gm_mapfile.specs.Packed.{size_of_line}
 use Rattle.gm_mapfile.specs.Rows.{darts_in, darts_of, listed_of}
-use Rattle.gm_mapfile.specs.Faults.{IsFaultOf, IsNameFault}
+use Rattle.gm_mapfile.specs.Faults.{IsFaultOf, IsNamedBreachOf, IsNamedFaultOf, IsNameFault}
 use Rattle.gm_mapfile.specs.Building.{AreInRoom, IsHeld}
 use Rattle.gm_mapfile.proofs.Chunks.{AreLong, long_of_whole, lines_of_rows, darts_of_lines, words_of_lines}
 use Rattle.gm_mapfile.proofs.GoodListing.{IsSmall, IsGoodListing}
@@ -37,11 +38,29 @@ use Rattle.gm_mapfile.proofs.Listed.{listed_good}
 use Rattle.gm_mapfile.proofs.NamesOf.{next_moved}
 use Rattle.gm_mapfile.proofs.OneListing.{one_listing}
 
+-- a fault that is told with a name is one
+pub without_name : (text : List ℕ) (fault : MapFault) (told : Option (List ℕ)) → IsNamedFaultOf text fault told → IsFaultOf text fault
+without_name text (faults.Breach (breaches.Involution dart label)) told h = h
+without_name text (faults.Breach (breaches.Cycle dart i j)) told h = h
+without_name text (faults.Breach (breaches.Embedding embed dart other)) (Some name) h = (name, h)
+without_name text (faults.Breach (breaches.Embedding embed dart other)) None h = absurd h
+without_name text (faults.Text place) told h = h
+without_name text (faults.Limit what place) told h = h
+without_name text (faults.Twice place) told h = h
+without_name text (faults.DartTwice dart) told h = h
+without_name text (faults.Next dart) told h = h
+without_name text (faults.NoTarget dart label) told h = h
+without_name text faults.OutOfMemory told h = tt
+
+-- a fault of the grammar has no name
+pub text_fault_named : (text : List ℕ) (fault : SchemaFault) → IsFaultIn text fault → IsNamedFaultOf text (map_fault_of_text fault) None
+text_fault_named text (texts.Text place) h = first.AtEnds place h
+text_fault_named text (texts.Limit what place) h = first.AtPasses what place h
+text_fault_named text (texts.Twice place) h = first.AtAgain place h
+text_fault_named text texts.OutOfMemory h = tt
+
 pub text_fault_of : (text : List ℕ) (fault : SchemaFault) → IsFaultIn text fault → IsFaultOf text (map_fault_of_text fault)
-text_fault_of text (texts.Text place) h = first.AtEnds place h
-text_fault_of text (texts.Limit what place) h = first.AtPasses what place h
-text_fault_of text (texts.Twice place) h = first.AtAgain place h
-text_fault_of text texts.OutOfMemory h = tt
+text_fault_of text fault h = without_name text (map_fault_of_text fault) None (text_fault_named text fault h)
 
 all_both : (P : ℕ → Type 0) (xs ys : List ℕ) → AllByRecursion P xs → AllByRecursion P ys → AllByRecursion P (xs ++ ys)
 all_both P [] ys one other = other
@@ -86,7 +105,7 @@ module _ (text : List ℕ) (version : Version) (schema : Schema) (numbers : List
 
   -- ---- faults of the names
 
-  pub name_fault_of : (fault : MapFault) → IsNameFault version schema.dim cut fault → IsFaultOf text fault
+  pub name_fault_of : (fault : MapFault) → IsNameFault version schema.dim cut fault → IsNamedFaultOf text fault None
   name_fault_of (faults.Text place) h = absurd h
   name_fault_of (faults.Limit what place) h = absurd h
   name_fault_of (faults.Twice place) h = absurd h
@@ -151,21 +170,21 @@ module _ (text : List ℕ) (version : Version) (schema : Schema) (numbers : List
         let at : IsFirstCrossing schema.dim (IsLiveName m) (alpha m) d i j = subst (λ n. IsFirstCrossing n (IsLiveName m) (alpha m) d i j) dim_is h in
         first.AtCrossing version schema cut d i j (joined lawful) (of_rows m cut found_in (λ l a v. IsFirstCrossing schema.dim l a d i j) at)
 
-    unshared_of : IsLawful m → (e d other l : ℕ) → IsFirstUnshared m.schema.dim (IsLiveName m) (alpha m) m.schema (value m) e d l → other ≡ alpha m l d → (name : List ℕ) × first.IsFirstFault text (first.Unshared e name d other)
+    unshared_of : IsLawful m → (e d other l : ℕ) → IsFirstUnshared m.schema.dim (IsLiveName m) (alpha m) m.schema (value m) e d l → other ≡ alpha m l d → IsNamedBreachOf text (breaches.Embedding e d other) (name_told m.schema.embeds (laws.Breach (breaches.Embedding e d other)))
     unshared_of lawful e d other l h is =
-        let at : IsFirstUnshared schema.dim (IsLiveName m) (alpha m) schema (value m) e d l = subst (λ (s : Schema). IsFirstUnshared s.dim (IsLiveName m) (alpha m) s (value m) e d l) held.schema_is h in (
-          at.embed.name,
-          first.AtUnshared version schema cut e at.embed.name d other (joined lawful) (record {
-            embed = at.embed;
-            embed_at = at.embed_at;
-            name_is = refl;
-            label = l;
-            other_is = is ∙ sym (alpha_each m cut found_in l d);
-            first = of_rows m cut found_in (λ live a v. IsFirstUnshared schema.dim live a schema v e d l) at;
-          }),
-        )
+        let at : IsFirstUnshared schema.dim (IsLiveName m) (alpha m) schema (value m) e d l = subst (λ (s : Schema). IsFirstUnshared s.dim (IsLiveName m) (alpha m) s (value m) e d l) held.schema_is h in
+        let there : slice_get m.schema.embeds e ≡ Some at.embed = subst (λ (s : Schema). slice_get s.embeds e ≡ Some at.embed) (sym held.schema_is) at.embed_at in
+        subst (λ o. IsNamedBreachOf text (breaches.Embedding e d other) (option_map (λ (embed : Embed). embed.name) o)) (sym there)
+        (first.AtUnshared version schema cut e at.embed.name d other (joined lawful) (record {
+          embed = at.embed;
+          embed_at = at.embed_at;
+          name_is = refl;
+          label = l;
+          other_is = is ∙ sym (alpha_each m cut found_in l d);
+          first = of_rows m cut found_in (λ live a v. IsFirstUnshared schema.dim live a schema v e d l) at;
+        }))
 
-    pub law_fault_of : IsLawful m → (fault : LawFault) → IsFault m fault → IsFaultOf text (map_fault_of_laws fault)
+    pub law_fault_of : IsLawful m → (fault : LawFault) → IsFault m fault → IsNamedFaultOf text (map_fault_of_laws fault) (name_told m.schema.embeds fault)
     law_fault_of lawful laws.OutOfMemory h = tt
     law_fault_of lawful (laws.Breach (breaches.Involution dart label)) h = one_way_of lawful dart label h
     law_fault_of lawful (laws.Breach (breaches.Cycle dart i j)) h = crossing_of lawful dart i j h

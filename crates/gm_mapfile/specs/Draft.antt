@@ -6,6 +6,7 @@ use Rattle.gm_text.specs.declared.schema_fault.SchemaFault.{SchemaFault}
 use Rattle.gm_text.specs.declared.schema_fault.SchemaFault.TheVariants as faults
 use Rattle.gm_mapfile.specs.MapText.{Version, First, Second, DartRow, IsListed, IsTextFault, IsLimitFault, IsAgainFault}
 use Rattle.gm_mapfile.specs.Packed.{packed}
+use Rattle.gm_mapfile.specs.declared.reading.Draft.{Draft}
 
 -- the numbers of a dart's line, its values aside
 abbrev pub line_in : DartRow → List ℕ
@@ -27,6 +28,10 @@ version_in (Some next) = Second next
 -- the text lists darts over the schema, passes nothing, and these are the numbers and the packed values of its lines
 abbrev pub IsDraft : List ℕ → Version → Schema → List ℕ → List ℤ → Type 0
 IsDraft text version schema numbers words = (darts : List DartRow) × IsListed text version schema darts × (numbers ≡ numbers_of darts) × (words ≡ words_of_darts darts)
+
+-- they are those of the draft
+abbrev pub IsDraftOf : List ℕ → Draft → Type 0
+IsDraftOf text draft = IsDraft text (version_in draft.stated) draft.schema draft.numbers.items draft.words.items
 
 -- the fault is the first of the text; want of memory says nothing of it
 abbrev pub IsFaultIn : List ℕ → SchemaFault → Type 0

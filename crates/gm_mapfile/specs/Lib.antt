@@ -1,5 +1,4 @@
 pub mod MapText
-pub mod Name
 pub mod MapFaults
 pub mod Words
 pub mod Packed

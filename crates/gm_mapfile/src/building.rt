@@ -5,20 +5,19 @@
 //! their neighbours. Each pass looks a name up in the arena.
 ghost use Rattle.gm_model.specs.Limits.{most_names};
 ghost use Rattle.gm_model.specs.Maps.{IsSchema};
-ghost use Rattle.std.specs.Prelude.{◌≡◌, ◌+◌, ◌*◌, ◌/◌, ◌<◌, ◌≤◌, length, min, nat_lt, if◌then◌else◌, All, None, MatchOption, IfOk, IfErr, IfSome, OnOk};
+ghost use Rattle.std.specs.Prelude.{◌≡◌, ◌+◌, ◌*◌, ◌/◌, ◌<◌, ◌≤◌, length, min, nat_lt, if◌then◌else◌, None, MatchOption, IfOk, IfErr, IfSome, OnOk};
 ghost use Rattle.std.specs.FinMap.{get};
-ghost use Rattle.gm_arena.specs.ArenaMap.{IsLiveName};
+ghost use Rattle.gm_arena.specs.ArenaMap.{IsAt, IsLiveName};
 ghost use Rattle.gm_arena.specs.Edits.{with_dart};
 ghost use Rattle.gm_arena.specs.Lawful.{AreGoodValues};
 ghost use Rattle.gm_mapfile.specs.Packed.{size_of_line, values_in};
 ghost use Rattle.gm_mapfile.specs.Draft.{version_in};
-ghost use Rattle.gm_mapfile.specs.MapFaults.{AreBelowStated};
+ghost use Rattle.gm_mapfile.specs.MapFaults.{AreBelow, AreBelowStated};
 ghost use Rattle.gm_mapfile.specs.Rows.{rows_in, darts_in};
 ghost use Rattle.gm_mapfile.specs.Faults.{IsNameFault};
 ghost use Rattle.gm_mapfile.specs.Building.{AreInRoom, AreSlotsLive, AreWhole, AreLive, AreValued, IsFresh, IsNextLeast, AreAdded, IsNotBelow, IsLeastNotBelowStated, IsNextSet, IsRelinked, IsDartLinked, IsLabelWithoutTarget, AreLinkedUnless, IsHeld};
 
 use crate::fault::MapFault;
-use crate::name::Name;
 use crate::ordering::in_order;
 use crate::packed::{line_size, unpack_line};
 use crate::reading::Draft;
@@ -49,22 +48,26 @@ pub(crate) fn build<L: Ledger>(
         mut numbers,
         mut words,
     } = draft;
-    in_order(alloc, &schema, &mut numbers, &mut words)?;
+    let end = in_order(alloc, &schema, &mut numbers, &mut words)?;
     let (numbers, words) = (numbers.as_slice(), words.as_slice());
-    build_lines(alloc, schema, stated, numbers, words, steps)
+    build_lines(alloc, schema, stated, end, numbers, words, steps)
 }
 
-/// The same of the lines in their order, where the text may state the next name.
+/// The same of the lines in their order, where the text may state the next name. No name reaches
+/// the end.
 fn build_lines<L: Ledger>(
     alloc: Global,
     schema: Schema,
     stated: Option<u32>,
-    numbers: &[Name],
+    end: u32,
+    numbers: &[u32],
     words: &[i64],
     steps: &mut Steps<L>,
 ) -> Result<Arena, MapFault>
     requires schema { IsSchema schema }
     requires room { AreInRoom schema numbers.now words.now }
+    requires end { AreBelow (rows_in schema.dim numbers.now) end }
+    requires names { end ≤ most_names }
     requires next { IfSome stated (λ next. next ≤ most_names) }
     ensures held { IfOk result (IsHeld (version_in stated) schema (darts_in schema numbers.now words.now)) }
     ensures fault { IfErr result (IsNameFault (version_in stated) schema.dim (darts_in schema numbers.now words.now)) }
@@ -72,25 +75,28 @@ fn build_lines<L: Ledger>(
     ensures least { IfOk result (λ arena. steps.old + arena.count ≤ steps.new) }
 {
     let mut arena = Arena::new(alloc, schema);
-    if let Err(fault) = fill_with_room(&mut arena, stated, numbers, words, steps) {
+    if let Err(fault) = fill_with_room(&mut arena, stated, end, numbers, words, steps) {
         drop(arena);
         return Err(fault);
     }
     Ok(arena)
 }
 
-/// Makes room for the darts of the lines in an arena without darts, and fills it. The arena is
-/// borrowed, so that no way out has to drop it.
+/// Makes room for the darts of the lines in an arena without darts, and fills it. No name reaches
+/// the end. The arena is borrowed, so that no way out has to drop it.
 fn fill_with_room<L: Ledger>(
     arena: &mut Arena,
     stated: Option<u32>,
-    numbers: &[Name],
+    end: u32,
+    numbers: &[u32],
     words: &[i64],
     steps: &mut Steps<L>,
 ) -> Result<(), MapFault>
     requires fresh { IsFresh arena.old }
     requires embeds { length arena.old.schema.embeds ≤ 8 }
     requires room { AreInRoom arena.old.schema numbers.now words.now }
+    requires end { AreBelow (rows_in arena.old.schema.dim numbers.now) end }
+    requires names { end ≤ most_names }
     requires next { IfSome stated (λ next. next ≤ most_names) }
     ensures held { OnOk result (IsHeld (version_in stated) arena.old.schema (darts_in arena.old.schema numbers.now words.now) arena.new) }
     ensures fault { IfErr result (IsNameFault (version_in stated) arena.old.schema.dim (darts_in arena.old.schema numbers.now words.now)) }
@@ -98,7 +104,7 @@ fn fill_with_room<L: Ledger>(
     ensures least { OnOk result (steps.old + arena.new.count ≤ steps.new) }
 {
     let width = arena.schema().dim.top() as usize + 2;
-    arena.reserve((numbers.len() / width) as u32, names_end(numbers))?;
+    arena.reserve((numbers.len() / width) as u32, end)?;
     fill(arena, stated, numbers, words, steps)
 }
 
@@ -107,7 +113,7 @@ fn fill_with_room<L: Ledger>(
 fn fill<L: Ledger>(
     arena: &mut Arena,
     stated: Option<u32>,
-    numbers: &[Name],
+    numbers: &[u32],
     words: &[i64],
     steps: &mut Steps<L>,
 ) -> Result<(), MapFault>
@@ -115,7 +121,7 @@ fn fill<L: Ledger>(
     requires embeds { length arena.old.schema.embeds ≤ 8 }
     requires room { AreInRoom arena.old.schema numbers.now words.now }
     requires spare { length numbers.now / (arena.old.schema.dim + 2) ≤ arena.old.spare }
-    requires reserved { All (λ x. x < arena.old.reserved) numbers.now }
+    requires reserved { AreBelow (rows_in arena.old.schema.dim numbers.now) arena.old.reserved }
     requires next { IfSome stated (λ next. next ≤ most_names) }
     ensures held { OnOk result (IsHeld (version_in stated) arena.old.schema (darts_in arena.old.schema numbers.now words.now) arena.new) }
     ensures fault { IfErr result (IsNameFault (version_in stated) arena.old.schema.dim (darts_in arena.old.schema numbers.now words.now)) }
@@ -134,24 +140,11 @@ fn fill<L: Ledger>(
     Ok(())
 }
 
-/// One more than the greatest of the numbers, or 0 where there is none.
-fn names_end(numbers: &[Name]) -> u32
-    requires { All (λ x. x < most_names) numbers.now }
-    ensures above { All (λ x. x < result) numbers.now }
-    ensures few { result ≤ most_names }
-{
-    let mut end = 0;
-    for number in numbers {
-        end = end.max(number.number() + 1);
-    }
-    end
-}
-
 /// Adds the dart of each line with its values, free for every label. The answer is the least name
 /// that two lines have.
 fn add_darts<L: Ledger>(
     arena: &mut Arena,
-    numbers: &[Name],
+    numbers: &[u32],
     words: &[i64],
     steps: &mut Steps<L>,
 ) -> Option<u32>
@@ -159,7 +152,7 @@ fn add_darts<L: Ledger>(
     requires embeds { length arena.old.schema.embeds ≤ 8 }
     requires room { AreInRoom arena.old.schema numbers.now words.now }
     requires spare { length numbers.now / (arena.old.schema.dim + 2) ≤ arena.old.spare }
-    requires reserved { All (λ x. x < arena.old.reserved) numbers.now }
+    requires reserved { AreBelow (rows_in arena.old.schema.dim numbers.now) arena.old.reserved }
     ensures schema { arena.new.schema ≡ arena.old.schema }
     ensures added { AreAdded arena.old.schema.dim (rows_in arena.old.schema.dim numbers.now) arena.new result }
     ensures values { AreValued (darts_in arena.old.schema numbers.now words.now) arena.new }
@@ -172,16 +165,30 @@ fn add_darts<L: Ledger>(
     let mut rest = words;
     let mut twice: Option<u32> = None;
     for line in numbers.chunks_exact(arena.schema().dim.top() as usize + 2) {
-        let name = line[0].number();
+        let name = line[0];
         let (own, others) = rest.split_at(size);
         rest = others;
-        if arena.slot_of(name, steps).is_none() {
+        if slot_there(arena, name, steps).is_none() {
             add_packed(arena, name, own, &mut row, steps);
         } else {
             twice = Some(lesser(twice, name));
         }
     }
     twice
+}
+
+/// The slot of a name, where a dart has it. Nothing is looked up for a name above all others, as each
+/// is where they come in ascending order.
+fn slot_there<L: Ledger>(arena: &Arena, name: u32, steps: &mut Steps<L>) -> Option<Slot>
+    requires next { IsNextLeast arena.now }
+    ensures slot { MatchOption result (get arena.now.darts name ≡ None) (λ s. IsAt arena.now s.at name × (steps.new ≡ steps.old + 1)) }
+    ensures most { steps.new ≤ steps.old + 1 }
+    ensures least { steps.old ≤ steps.new }
+{
+    if arena.next() <= name {
+        return None;
+    }
+    arena.slot_of(name, steps)
 }
 
 /// Adds the dart with the values that the words stand for, free for every label. The row is lent for
@@ -221,7 +228,7 @@ fn lesser(found: Option<u32>, name: u32) -> u32
 
 /// Sets the next name, where the text states one. The answer is the least name of a line that
 /// isn't below it, and then the arena is left as it was.
-fn set_stated(arena: &mut Arena, numbers: &[Name], stated: Option<u32>) -> Option<u32>
+fn set_stated(arena: &mut Arena, numbers: &[u32], stated: Option<u32>) -> Option<u32>
     requires next { IsNextLeast arena.old }
     requires live { AreLive (rows_in arena.old.schema.dim numbers.now) arena.old }
     requires most { IfSome stated (λ next. next ≤ most_names) }
@@ -237,7 +244,7 @@ fn set_stated(arena: &mut Arena, numbers: &[Name], stated: Option<u32>) -> Optio
 }
 
 /// The least name of a line that isn't below the number.
-fn least_not_below(arena: &Arena, numbers: &[Name], next: u32) -> Option<u32>
+fn least_not_below(arena: &Arena, numbers: &[u32], next: u32) -> Option<u32>
     requires next { IsNextLeast arena.now }
     requires live { AreLive (rows_in arena.now.schema.dim numbers.now) arena.now }
     ensures { IsNotBelow (rows_in arena.now.schema.dim numbers.now) next result }
@@ -247,7 +254,7 @@ fn least_not_below(arena: &Arena, numbers: &[Name], next: u32) -> Option<u32>
     }
     let mut least: Option<u32> = None;
     for line in numbers.chunks_exact(arena.schema().dim.top() as usize + 2) {
-        let name = line[0].number();
+        let name = line[0];
         if name >= next {
             least = Some(lesser(least, name));
         }
@@ -259,7 +266,7 @@ fn least_not_below(arena: &Arena, numbers: &[Name], next: u32) -> Option<u32>
 /// neighbour is no dart.
 fn link_darts<L: Ledger>(
     arena: &mut Arena,
-    numbers: &[Name],
+    numbers: &[u32],
     steps: &mut Steps<L>,
 ) -> Option<(u32, u8)>
     requires added { AreAdded arena.old.schema.dim (rows_in arena.old.schema.dim numbers.now) arena.old None }
@@ -270,7 +277,7 @@ fn link_darts<L: Ledger>(
 {
     let mut missing: Option<(u32, u8)> = None;
     for line in numbers.chunks_exact(arena.schema().dim.top() as usize + 2) {
-        let name = line[0].number();
+        let name = line[0];
         if let Some(label) = link_dart(arena, name, &line[1..], steps) {
             missing = Some(earlier(missing, name, label));
         }
@@ -293,7 +300,7 @@ fn earlier(found: Option<(u32, u8)>, dart: u32, label: u8) -> (u32, u8)
 fn link_dart<L: Ledger>(
     arena: &mut Arena,
     name: u32,
-    neighbours: &[Name],
+    neighbours: &[u32],
     steps: &mut Steps<L>,
 ) -> Option<u8>
     requires live { IsLiveName arena.old name }
@@ -306,7 +313,7 @@ fn link_dart<L: Ledger>(
 {
     let slot = arena.slot_of(name, steps)?;
     for label in 0..=arena.schema().dim.top() {
-        let Some(to) = arena.slot_of(neighbours[label as usize].number(), steps) else {
+        let Some(to) = arena.slot_of(neighbours[label as usize], steps) else {
             return Some(label);
         };
         arena.set_alpha(slot, label, to, steps);

@@ -1,7 +1,7 @@
 ghost use Rattle.std.specs.Prelude.{◌≡◌};
 
 use gm_laws::{LawFault, MapBreach};
-use gm_model::LimitKind;
+use gm_model::{LimitKind, Name};
 use gm_text::SchemaFault;
 use std::alloc::{AllocError, AllocFailed};
 use thiserror::Error;
@@ -90,5 +90,37 @@ impl From<SchemaFault> for MapFault {
             SchemaFault::Twice { place } => MapFault::Twice { place },
             SchemaFault::OutOfMemory => MapFault::OutOfMemory,
         }
+    }
+}
+
+/// Why a text gives no map, with all that its line says, so that the text is no longer needed.
+#[derive(Clone, Copy, Debug)]
+pub struct NoMap {
+    pub fault: MapFault,
+    /// The name of the embedding whose values differ, where that is the fault.
+    pub embed: Option<Name>,
+}
+
+impl From<SchemaFault> for NoMap {
+    ghost use Rattle.std.specs.Prelude.{None};
+    ghost use Rattle.gm_mapfile.specs.Answered.{map_fault_of_text};
+
+    ghost from_gives = { λ fault given. given ≡ record { fault = map_fault_of_text fault; embed = None } };
+
+    fn from(fault: SchemaFault) -> NoMap {
+        NoMap {
+            fault: fault.into(),
+            embed: None,
+        }
+    }
+}
+
+impl From<MapFault> for NoMap {
+    ghost use Rattle.std.specs.Prelude.{None};
+
+    ghost from_gives = { λ fault given. given ≡ record { fault = fault; embed = None } };
+
+    fn from(fault: MapFault) -> NoMap {
+        NoMap { fault, embed: None }
     }
 }

@@ -5,7 +5,6 @@ mod at_least;
 mod building;
 mod fault;
 mod laws;
-mod name;
 mod ordering;
 mod packed;
 mod printing;
@@ -15,11 +14,11 @@ mod version;
 mod words;
 
 pub use at_least::a_text_stands_for_a_map_or_has_a_first_fault;
-pub use fault::MapFault;
+pub use fault::{MapFault, NoMap};
 pub use laws::{
     a_canonical_text_stands_for_its_map, one_first_fault_at_most, one_map_at_most,
     what_is_printed_is_read_again,
 };
-pub use printing::{print_map, print_map_in_place_of};
-pub use reading::{MapRead, read_map};
+pub use printing::print_map;
+pub use reading::{MapRead, read_map, take_map};
 pub use version::MapVersion;

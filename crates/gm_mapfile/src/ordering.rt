@@ -2,14 +2,14 @@
 //!
 //! A text may list its darts in any order. In the order of their names they come to stand side by
 //! side in the arena, as whoever goes through a map by name then finds them.
-ghost use Rattle.std.specs.Prelude.{◌≡◌, ◌+◌, ◌*◌, ◌/◌, ◌<◌, ◌≤◌, ◌++◌, length, map, All, IsPermutation, IfOk, OnOk};
-ghost use Rattle.gm_model.specs.Limits.{most_darts};
+ghost use Rattle.std.specs.Prelude.{◌≡◌, ◌+◌, ◌*◌, ◌/◌, ◌<◌, ◌≤◌, ◌++◌, length, map, All, IsPermutation, IfOk, IfSome, OnOk};
+ghost use Rattle.gm_model.specs.Limits.{most_darts, most_names};
 ghost use Rattle.gm_mapfile.specs.Building.{AreInRoom};
 ghost use Rattle.gm_mapfile.specs.Ordering.{counted_from, on_lines};
-ghost use Rattle.gm_mapfile.specs.Rows.{darts_in};
+ghost use Rattle.gm_mapfile.specs.MapFaults.{AreBelow};
+ghost use Rattle.gm_mapfile.specs.Rows.{darts_in, rows_in};
 ghost use Rattle.gm_mapfile.specs.declared.ordering.Line.{Line};
 
-use crate::name::Name;
 use crate::packed::line_size;
 use gm_model::{OutOfMemory, Schema};
 use std::alloc::{AllocError, Global};
@@ -22,29 +22,32 @@ struct Line {
     at: u32,
 }
 
-/// Brings the lines into ascending order of their names.
+/// Brings the lines into ascending order of their names. The answer is above each of these.
 pub(crate) fn in_order(
     alloc: Global,
     schema: &Schema,
-    numbers: &mut Vec<Name>,
+    numbers: &mut Vec<u32>,
     words: &mut Vec<i64>,
-) -> Result<(), OutOfMemory>
+) -> Result<u32, OutOfMemory>
     requires embeds { length schema.now.embeds ≤ 8 }
     requires room { AreInRoom schema.now numbers.old.items words.old.items }
-    ensures room { OnOk result (AreInRoom schema.now numbers.new.items words.new.items) }
-    ensures darts { OnOk result (IsPermutation (darts_in schema.now numbers.old.items words.old.items) (darts_in schema.now numbers.new.items words.new.items)) }
+    ensures room { IfOk result (λ _. AreInRoom schema.now numbers.new.items words.new.items) }
+    ensures darts { IfOk result (λ _. IsPermutation (darts_in schema.now numbers.old.items words.old.items) (darts_in schema.now numbers.new.items words.new.items)) }
+    ensures end { IfOk result (AreBelow (rows_in schema.now.dim numbers.new.items)) }
+    ensures names { IfOk result (λ end. end ≤ most_names) }
 {
-    if is_ascending(numbers.as_slice(), schema.dim.top() as usize + 2) {
-        return Ok(());
+    if let Some(end) = ascending_end(numbers.as_slice(), schema.dim.top()) {
+        return Ok(end);
     }
-    order(alloc, schema, numbers, words)
+    order(alloc, schema, numbers, words)?;
+    Ok(names_end(numbers.as_slice()))
 }
 
 /// The same, whatever order they have.
 fn order(
     alloc: Global,
     schema: &Schema,
-    numbers: &mut Vec<Name>,
+    numbers: &mut Vec<u32>,
     words: &mut Vec<i64>,
 ) -> Result<(), OutOfMemory>
     requires embeds { length schema.now.embeds ≤ 8 }
@@ -59,24 +62,39 @@ fn order(
     order_lines(alloc, lines.as_slice(), size, words)
 }
 
-/// Whether the lines stand in ascending order of their names. Both orders are right, so nothing
-/// rests on the answer but the time that is taken.
-fn is_ascending(numbers: &[Name], width: usize) -> bool
-    requires { 0 < width }
+/// One more than the last name, where the lines stand in ascending order of their names, or 0 where
+/// there is none.
+fn ascending_end(numbers: &[u32], top: u8) -> Option<u32>
+    requires { All (λ x. x < most_names) numbers.now }
+    ensures end { IfSome result (AreBelow (rows_in top numbers.now)) }
+    ensures names { IfSome result (λ end. end ≤ most_names) }
 {
-    let mut least = 0;
-    for line in numbers.chunks_exact(width) {
-        let name = line[0].number();
-        if name < least {
-            return false;
+    let mut end = 0;
+    for line in numbers.chunks_exact(top as usize + 2) {
+        let name = line[0];
+        if name < end {
+            return None;
         }
-        least = name;
+        end = name + 1;
     }
-    true
+    Some(end)
+}
+
+/// One more than the greatest of the numbers, or 0 where there is none.
+fn names_end(numbers: &[u32]) -> u32
+    requires { All (λ x. x < most_names) numbers.now }
+    ensures above { All (λ x. x < result) numbers.now }
+    ensures few { result ≤ most_names }
+{
+    let mut end = 0;
+    for number in numbers {
+        end = end.max(number + 1);
+    }
+    end
 }
 
 /// The lines, each of so many numbers, in the order in which they stand.
-fn lines_of(alloc: Global, numbers: &[Name], width: usize) -> Result<Vec<Line>, OutOfMemory>
+fn lines_of(alloc: Global, numbers: &[u32], width: usize) -> Result<Vec<Line>, OutOfMemory>
     requires some { 0 < width }
     requires few { length numbers.now / width ≤ most_darts }
     ensures { IfOk result (λ lines. map (λ (line : Line). line.at) lines.items ≡ counted_from 0 (length numbers.now / width)) }
@@ -85,7 +103,7 @@ fn lines_of(alloc: Global, numbers: &[Name], width: usize) -> Result<Vec<Line>, 
     let mut lines = Vec::with_capacity(alloc, count)?;
     for at in 0..count {
         lines.push(Line {
-            name: numbers[at * width].number(),
+            name: numbers[at * width],
             at: at as u32,
         })?;
     }
@@ -93,7 +111,7 @@ fn lines_of(alloc: Global, numbers: &[Name], width: usize) -> Result<Vec<Line>, 
 }
 
 /// The lines in ascending order of their names.
-fn lines_by_name(alloc: Global, numbers: &[Name], width: usize) -> Result<Vec<Line>, OutOfMemory>
+fn lines_by_name(alloc: Global, numbers: &[u32], width: usize) -> Result<Vec<Line>, OutOfMemory>
     requires some { 0 < width }
     requires few { length numbers.now / width ≤ most_darts }
     ensures { IfOk result (λ lines. IsPermutation (counted_from 0 (length numbers.now / width)) (map (λ (line : Line). line.at) lines.items)) }

@@ -2,31 +2,31 @@
 //!
 //! `read_text` knows the grammar, its limits and the schema's declarations alone. Whether the darts
 //! that it lists are a map is tested afterwards.
-ghost use Rattle.std.specs.Prelude.{◌≡◌, ℕ, ◌+◌, ◌*◌, ◌≤◌, [], ◌∷◌, length, pos, replicate, Bool, IfOk, IfErr, IfSome, OnOk};
+ghost use Rattle.std.specs.Prelude.{◌≡◌, ℕ, ◌+◌, ◌*◌, ◌≤◌, List, [], ◌∷◌, length, pos, replicate, Bool, IfOk, IfErr, IfSome, OnOk};
 ghost use Rattle.gm_model.specs.declared.schema.Schema.{Schema};
 ghost use Rattle.gm_model.specs.Limits.{most_darts, most_names};
 ghost use Rattle.gm_model.specs.Maps.{IsSchema, IsSound};
 ghost use Rattle.gm_arena.specs.ArenaAsMap.{as_map};
 ghost use Rattle.gm_text.specs.Nested.{Outside};
 ghost use Rattle.gm_mapfile.specs.MapText.{DartName, ListedMap, MapText, version_of};
-ghost use Rattle.gm_mapfile.specs.Draft.{IsDraft, IsFaultIn, version_in};
+ghost use Rattle.gm_mapfile.specs.Draft.{IsDraft, IsDraftOf, IsFaultIn, version_in};
 ghost use Rattle.gm_mapfile.specs.Words.{IsEndNext, IsMoreNext};
 ghost use Rattle.gm_mapfile.specs.Rows.{listed_of};
-ghost use Rattle.gm_mapfile.specs.Faults.{IsFaultOf};
+ghost use Rattle.gm_mapfile.specs.Answered.{map_fault_of_laws, name_told};
+ghost use Rattle.gm_mapfile.specs.Faults.{IsFaultOf, IsWhyNot};
 ghost use Rattle.gm_mapfile.specs.MapReading as states;
 ghost use Rattle.gm_mapfile.specs.MapReading.{start, into_schema, behind_schema, AtDarts, TheNumber, Reads, Stops, Takes, Misses, among, darts_wants, dart_wants, ReadsNames, ReadsDarts, ReadsMap};
 ghost use Rattle.gm_mapfile.specs.declared.version.MapVersion.{MapVersion};
 
 use crate::building::build;
-use crate::fault::MapFault;
-use crate::name::Name;
+use crate::fault::{MapFault, NoMap};
 use crate::packed::line_size;
 use crate::values::read_values;
 use crate::version::MapVersion;
 use crate::words::{Numeral, read_number, read_word};
 use gm_arena::{Arena, Steps};
-use gm_laws::check_map;
-use gm_model::{Embed, LimitKind, MOST_DARTS, MOST_NAMES, Schema};
+use gm_laws::{LawFault, MapBreach, check_map};
+use gm_model::{Embed, LimitKind, MOST_DARTS, MOST_NAMES, Name, Schema};
 use gm_text::{Lexer, SchemaFault, read_schema};
 use std::alloc::Global;
 use std::sync::ledger::Ledger;
@@ -38,7 +38,7 @@ pub(crate) struct Draft {
     pub stated: Option<u32>,
     pub schema: Schema,
     /// For each dart its name, and then its neighbours from label 0 on.
-    pub numbers: Vec<Name>,
+    pub numbers: Vec<u32>,
     /// For each dart its values, packed, by embedding.
     pub words: Vec<i64>,
 }
@@ -52,7 +52,7 @@ struct Head {
 
 /// The lines of the darts.
 struct Lines {
-    numbers: Vec<Name>,
+    numbers: Vec<u32>,
     words: Vec<i64>,
 }
 
@@ -122,7 +122,7 @@ fn read_head(alloc: Global, lexer: &mut Lexer<'_>) -> Result<Head, SchemaFault>
     })
 }
 
-fn read_name(lexer: &mut Lexer<'_>) -> Result<Name, SchemaFault>
+fn read_name(lexer: &mut Lexer<'_>) -> Result<u32, SchemaFault>
     ensures takes { IfOk result (λ name. Takes (TheNumber DartName ∷ []) (pos name ∷ []) lexer.old lexer.new) }
     ensures misses { IfErr result (Misses (TheNumber DartName ∷ []) lexer.old) }
 {
@@ -131,13 +131,13 @@ fn read_name(lexer: &mut Lexer<'_>) -> Result<Name, SchemaFault>
         let what = LimitKind::DartName;
         return Err(SchemaFault::Limit { what, place });
     }
-    Ok(Name::new(value as u32))
+    Ok(value as u32)
 }
 
 /// So many names, behind those before them.
 // Inlined, as `read_number` is.
 #[inline(always)]
-fn read_names(lexer: &mut Lexer<'_>, count: usize, names: &mut Vec<Name>) -> Result<(), SchemaFault>
+fn read_names(lexer: &mut Lexer<'_>, count: usize, names: &mut Vec<u32>) -> Result<(), SchemaFault>
     ensures reads { OnOk result (ReadsNames count lexer.old lexer.new names.old.items names.new.items) }
     ensures stops { IfErr result (Misses (replicate count (TheNumber DartName)) lexer.old) }
 {
@@ -237,6 +237,51 @@ pub struct MapRead {
     pub version: MapVersion,
 }
 
+/// The name of the embedding whose values differ, where that is the fault.
+fn name_broken(fault: LawFault, embeds: &[Embed]) -> Option<Name>
+    ensures { result ≡ name_told embeds.now fault }
+{
+    match fault {
+        LawFault::Breach(MapBreach::Embedding { embed, .. }) => {
+            Some(embeds.get(usize::from(embed))?.name)
+        }
+        _ => None,
+    }
+}
+
+/// Why a text gives no map, where its darts break a law.
+fn why_broken(fault: LawFault, embeds: &[Embed]) -> NoMap
+    ensures fault { result.fault ≡ map_fault_of_laws fault }
+    ensures embed { result.embed ≡ name_told embeds.now fault }
+{
+    NoMap {
+        fault: fault.into(),
+        embed: name_broken(fault, embeds),
+    }
+}
+
+/// The map of the darts that a text lists, if they are one.
+fn map_of<L: Ledger>(alloc: Global, draft: Draft, steps: &mut Steps<L>) -> Result<MapRead, NoMap>
+    requires draft { (text : List ℕ) × IsDraftOf text draft }
+    requires schema { IsSchema draft.schema }
+    requires next { IfSome draft.stated (λ next. next ≤ most_names) }
+    ensures map { IfOk result (λ read. (text : List ℕ) → IsDraftOf text draft → MapText text read.version (listed_of read.arena)) }
+    ensures sound { IfOk result (λ read. IsSound (as_map read.arena)) }
+    ensures fault { IfErr result (λ no_map. (text : List ℕ) → IsDraftOf text draft → IsWhyNot text no_map) }
+    ensures most { (text : List ℕ) (version : MapVersion) (map : ListedMap) → IsDraftOf text draft → MapText text version map → steps.new ≤ steps.old + 32 * ((map.schema.dim + 1) * (map.schema.dim + 1)) * (length map.darts + 1) }
+    ensures least { IfOk result (λ read. steps.old + read.arena.count ≤ steps.new) }
+{
+    let version = version_told(draft.stated);
+    let arena = build(alloc, draft, steps)?;
+    prove!(arena.next() <= MOST_NAMES);
+    if let Err(fault) = check_map(alloc, &arena, steps) {
+        let no_map = why_broken(fault, arena.schema().embeds.as_slice());
+        drop(arena);
+        return Err(no_map);
+    }
+    Ok(MapRead { arena, version })
+}
+
 /// The map that the text stands for, with one step or more for each dart. It is a generalised map,
 /// and each embedding has one value on each of its orbits. A fault is the first of the text: of its
 /// grammar, limits and declarations by place, then of its darts' names, and then of the laws of a
@@ -253,12 +298,26 @@ pub fn read_map<L: Ledger>(
     ensures least { IfOk result (λ read. steps.old + read.arena.count ≤ steps.new) }
 {
     let draft = read_text(alloc, bytes)?;
-    let version = version_told(draft.stated);
-    let arena = build(alloc, draft, steps)?;
-    prove!(arena.next() <= MOST_NAMES);
-    if let Err(fault) = check_map(alloc, &arena, steps) {
-        drop(arena);
-        return Err(fault.into());
+    match map_of(alloc, draft, steps) {
+        Ok(read) => Ok(read),
+        Err(no_map) => Err(no_map.fault),
     }
-    Ok(MapRead { arena, version })
+}
+
+/// The same, where the text is let go as soon as its darts are known, so that it is never held
+/// beside the map.
+pub fn take_map<L: Ledger>(
+    alloc: Global,
+    bytes: Vec<u8>,
+    steps: &mut Steps<L>,
+) -> Result<MapRead, NoMap>
+    ensures map { IfOk result (λ read. MapText bytes.items read.version (listed_of read.arena)) }
+    ensures sound { IfOk result (λ read. IsSound (as_map read.arena)) }
+    ensures fault { IfErr result (IsWhyNot bytes.items) }
+    ensures most { (version : MapVersion) (map : ListedMap) → MapText bytes.items version map → steps.new ≤ steps.old + 32 * ((map.schema.dim + 1) * (map.schema.dim + 1)) * (length map.darts + 1) }
+    ensures least { IfOk result (λ read. steps.old + read.arena.count ≤ steps.new) }
+{
+    let draft = read_text(alloc, bytes.as_slice())?;
+    drop(bytes);
+    map_of(alloc, draft, steps)
 }

@@ -1,5 +1,5 @@
 -- The duals of a map and of a book that were read: their texts, what is put of them, and why there is none.
-use Rattle.std.proofs.Common.{◌≡◌, ◌⊎◌, ℕ, ◌+◌, ◌*◌, ◌<◌, ◌≤◌, List, [], ◌∷◌, ◌++◌, length, map, All, inl, inr, Some, None, Option, Result, Ok, Err, refl, sym, ap, subst, ◌∙◌, arith}
+use Rattle.std.proofs.Common.{◌≡◌, ◌⊎◌, ℕ, ◌+◌, ◌*◌, ◌<◌, ◌≤◌, List, [], ◌∷◌, length, map, All, inl, inr, Some, None, Option, Result, Ok, Err, refl, sym, ap, subst, ◌∙◌, arith}
 use Rattle.std.specs.Global.{Vec}
 use Rattle.std.specs.Prelude.{IfOk, IfSome}
 use Rattle.std.specs.List.{AllByRecursion}
@@ -21,7 +21,7 @@ use Rattle.gm_lines.specs.Refusing as refusing
 use Rattle.gm_lines.specs.Refusing.{TheMap, TheBook, TheScript}
 use Rattle.gm_mapfile.proofs.ArenaDarts.{darts_ascending}
 use Rattle.gm_mapfile.proofs.SoundRows.{same_map}
-use Rattle.gm_mapfile.specs.MapText.{canonical, map_of}
+use Rattle.gm_mapfile.specs.MapText.{canonical}
 use Rattle.gm_mapfile.specs.Rows.{listed_of}
 use Rattle.gm_mapfile.specs.declared.reading.MapRead.{MapRead}
 use Rattle.gm_mapfile.specs.declared.version.MapVersion.{MapVersion}
@@ -34,8 +34,8 @@ use Rattle.gm_model.specs.Rules.{Assignment, Rule, RuleNode, rule_of}
 use Rattle.gm_model.specs.Trees.{Tree, Number, Truth, Param, Field, Same, Count, Sum, Least, Greatest, Unary, Binary, If, MakeVec2, MakeVec3, MakeRgb}
 use Rattle.gm_theory.proofs.ValuesUnique.{one_count}
 use Rattle.gm_tool.specs.Answer.{Files, answers, HasFile}
-use Rattle.gm_tool.specs.DualAnswer.{DualNames, DualInputs, dual_inputs_of, IsListedDual, IsDualMapText, IsDualText, IsGoodDual, IsDualAnswer, MapFails, BookFails, LongOutput, Done, PassesDualAt, DualLoadsInOrder, IsDualUnloaded, dual_file_of, DualStopsInTime, BehindMap, BehindBook, IsDualLoadFailure, IsDualMade, IsDualReply}
-use Rattle.gm_tool.specs.Endings.{Whole, IsTextOf}
+use Rattle.gm_tool.specs.DualAnswer.{DualNames, DualInputs, dual_inputs_of, IsDualMapText, IsDualText, IsDualAnswer, MapFails, BookFails, LongOutput, Done, PassesDualAt, DualLoadsInOrder, IsDualUnloaded, dual_file_of, DualStopsInTime, BehindMap, BehindBook, IsDualLoadFailure, IsDualMade, IsDualReply}
+use Rattle.gm_tool.specs.Endings.{Whole}
 use Rattle.gm_tool.specs.Loads.{load_of, loads_after, UnlessNoMemory, UnlessNoMemoryToMake}
 use Rattle.gm_tool.specs.MadeRuns.{IsStopFor, IsSoundReply, LoadsAtMostThrice}
 use Rattle.gm_tool.specs.Refusals.{refusal_answer}

@@ -1,5 +1,5 @@
 -- What the end of a call says of the words, the loads and the save, command by command; and what a put makes of it.
-use Rattle.std.proofs.Common.{◌≡◌, ◌⊎◌, ℕ, List, inl, inr, Option, Result, Ok, refl, sym, subst}
+use Rattle.std.proofs.Common.{◌≡◌, ◌⊎◌, ℕ, List, inl, inr, Option, Result, refl, sym, subst}
 use Rattle.std.proofs.lemmas.Bool.{eqb-false}
 use Rattle.std.specs.Prelude.{IfOk, IfSome}
 use Rattle.gm_host.specs.Count.{counted, Rises}

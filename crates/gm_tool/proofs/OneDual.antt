@@ -1,20 +1,17 @@
 -- The duals of a map and a book have one answer at most to their files.
-use Rattle.std.proofs.Common.{◌≡◌, ◌⊎◌, ℕ, ◌<◌, ◌≤◌, List, ◌++◌, map, inl, inr, length, codes, refl, sym, ap, subst, ◌∙◌, arith}
+use Rattle.std.proofs.Common.{◌≡◌, ◌⊎◌, ℕ, ◌<◌, ◌≤◌, List, ◌++◌, map, inl, inr, length, codes, sym, subst, ◌∙◌, arith}
 use Rattle.gm_book.proofs.OneBook.{one_book}
 use Rattle.gm_book.specs.Canonical as books
-use Rattle.gm_dual.specs.Duals.{dual_map, dual_rule, dual_schema}
+use Rattle.gm_dual.specs.Duals.{dual_rule, dual_schema}
 use Rattle.gm_forms.specs.BookText.{BookText}
 use Rattle.gm_lines.specs.Refusing.{TheMap, TheBook, refusal}
 use Rattle.gm_mapfile.proofs.OneMap.{one_map}
 use Rattle.gm_mapfile.specs.MapText.{ListedMap, MapText, map_of, canonical}
 use Rattle.gm_mapfile.specs.declared.version.MapVersion.{MapVersion}
-use Rattle.gm_model.specs.declared.schema.Schema.{Schema}
-use Rattle.gm_model.specs.Maps.{Map}
-use Rattle.gm_model.specs.Rules.{Rule}
 use Rattle.gm_run.proofs.AlikeLemmas.{alike_self}
 use Rattle.gm_run.specs.Alike.{AreAlike}
 use Rattle.gm_tool.specs.Answer.{most_bytes, Files, Answer, answers}
-use Rattle.gm_tool.specs.DualAnswer.{DualNames, DualInputs, HasDualMap, HasDualBook, IsListedDual, IsDualMapText, IsDualText, IsGoodDual, IsDualAnswer, MapFails, BookFails, LongOutput, Done}
+use Rattle.gm_tool.specs.DualAnswer.{DualNames, DualInputs, HasDualMap, HasDualBook, IsListedDual, IsDualMapText, IsGoodDual, IsDualAnswer, MapFails, BookFails, LongOutput, Done}
 use Rattle.gm_tool.specs.RunAnswer.{IsFailing, IsBadMap, IsBadBookText}
 use Rattle.gm_tool.proofs.OneBad.{one_bad, no_bad_map, no_bad_book}
 use Rattle.gm_tool.proofs.OneFile.{same_bytes, one_failing, no_failing_good}

@@ -13,14 +13,14 @@ use crate::refusal::NoText;
 use crate::reply::{Reply, reply_within_limit};
 use gm_arena::{Arena, Steps};
 use gm_cells::{Counts, count, orient, print_cells};
-use gm_mapfile::read_map;
+use gm_mapfile::take_map;
 use gm_model::{MOST_DARTS, OutOfMemory};
 use gm_walk::Scratch;
 use std::alloc::Global;
 use std::sync::ledger::Ledger;
 
 /// The numbers and the orientation of the map that a file's text stands for, or the line that
-/// refuses it. The file's text is let go before they are counted.
+/// refuses it.
 pub fn cells<L: Ledger>(
     alloc: Global,
     bytes: Vec<u8>,
@@ -28,11 +28,10 @@ pub fn cells<L: Ledger>(
 ) -> Result<Reply, NoText>
     ensures { IsJudged bytes.items Cells result }
 {
-    let read = match read_map(alloc, bytes.as_slice(), steps) {
+    let read = match take_map(alloc, bytes, steps) {
         Ok(read) => read,
-        Err(fault) => return refused(alloc, bytes.as_slice(), fault),
+        Err(no_map) => return refused(alloc, no_map),
     };
-    drop(bytes);
     told(alloc, &read.arena, steps)
 }
 

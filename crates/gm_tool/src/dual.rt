@@ -18,20 +18,19 @@ ghost use Rattle.gm_tool.specs.Stops.{IsReadBook, IsReadMap, IsSoundStop};
 use crate::command::DualFiles;
 use crate::refusal::{NoText, Stop};
 use crate::reply::{Reply, reply_within_limit, stopped};
-use crate::running::{LoadedMap, load_book, load_map};
+use crate::running::{load_book, load_map};
 use gm_arena::{Arena, Steps};
 use gm_book::print_book;
 use gm_dual::{dual_book, dual_map};
 use gm_host::Store;
-use gm_mapfile::{MapRead, MapVersion, print_map_in_place_of};
+use gm_mapfile::{MapRead, MapVersion, print_map};
 use gm_model::{Book, MOST_DARTS, OutOfMemory};
 use std::alloc::Global;
 use std::sync::ledger::Ledger;
 
-/// The text of the dual of the map, in the version and in the room of the bytes.
+/// The text of the dual of the map, in the version.
 fn map_text<L: Ledger>(
     alloc: Global,
-    room: Vec<u8>,
     arena: &Arena,
     version: MapVersion,
     steps: &mut Steps<L>,
@@ -44,7 +43,7 @@ fn map_text<L: Ledger>(
     prove!(arena.count() <= MOST_DARTS);
     let dual = dual_map(alloc, arena, steps)?;
     prove!(dual.count() <= MOST_DARTS);
-    print_map_in_place_of(room, &dual, version, steps)
+    print_map(alloc, &dual, version, steps)
 }
 
 /// The text of the dual of the book.
@@ -57,11 +56,9 @@ fn book_text(alloc: Global, book: &Book) -> Result<Vec<u8>, OutOfMemory>
     print_book(alloc, &dual)
 }
 
-/// The text of the dual of the map in the room of the bytes, and directly behind it that of the dual
-/// of the book.
+/// The text of the dual of the map, and directly behind it that of the dual of the book.
 fn texts<L: Ledger>(
     alloc: Global,
-    room: Vec<u8>,
     read: &MapRead,
     book: &Book,
     steps: &mut Steps<L>,
@@ -73,7 +70,7 @@ fn texts<L: Ledger>(
     ensures lawful { IsLawful read.now.arena }
     ensures most { steps.new ≤ steps.old + turning read.now.arena.schema.dim read.now.arena.count }
 {
-    let mut text = map_text(alloc, room, &read.arena, read.version, steps)?;
+    let mut text = map_text(alloc, &read.arena, read.version, steps)?;
     let more = book_text(alloc, book)?;
     text.extend_from_slice(more.as_slice())?;
     Ok(text)
@@ -95,9 +92,9 @@ fn texts_of<S: Store, L: Ledger>(
     ensures most { FileDualsWithin (S.holds store.old) files.entry.map.now steps.old steps.new }
     ensures sound { IfErr result (λ stop. IsSoundStop stop (IsDualUnloaded (S.holds store.old) (dual_names_of files.entry) (FailsAt (S.load_faults store.old) (S.load_faults store.new) (S.loads store.old) (S.loads store.new)))) }
 {
-    let LoadedMap { read, bytes } = load_map(alloc, files.map, store, steps)?;
+    let read = load_map(alloc, files.map, store, steps)?;
     let book = load_book(alloc, files.book, store)?;
-    Ok(texts(alloc, bytes, &read, &book, steps)?)
+    Ok(texts(alloc, &read, &book, steps)?)
 }
 
 /// The texts of the duals, or the line that refuses one of the files. Map and book needn't agree, and

@@ -1,6 +1,6 @@
 ghost use Rattle.std.specs.Prelude.{ℕ, ◌+◌, ◌≤◌, IfOk, IfErr, List};
 ghost use Rattle.gm_arena.specs.Lawful.{IsLawful};
-ghost use Rattle.gm_mapfile.specs.Faults.{IsFaultOf};
+ghost use Rattle.gm_mapfile.specs.Faults.{IsWhyNot};
 ghost use Rattle.gm_mapfile.specs.MapText.{MapText};
 ghost use Rattle.gm_mapfile.specs.Rows.{listed_of};
 ghost use Rattle.gm_tool.specs.Answer as answer;
@@ -15,27 +15,26 @@ use crate::refusal::{NoText, Stop};
 use crate::reply::{Reply, reply_within_limit};
 use gm_arena::{Arena, Steps};
 use gm_lines::map_line;
-use gm_mapfile::{MapFault, MapRead, MapVersion, print_map_in_place_of, read_map};
+use gm_mapfile::{MapRead, MapVersion, NoMap, print_map, take_map};
 use gm_model::MOST_DARTS;
 use std::alloc::Global;
 use std::sync::ledger::Ledger;
 
-/// The canonical text of the map that a file's text stands for, or the line that refuses it. It is
-/// written in the room of the file's text, so that both are never held at once.
+/// The canonical text of the map that a file's text stands for, or the line that refuses it.
 pub fn show<L: Ledger>(alloc: Global, bytes: Vec<u8>, steps: &mut Steps<L>) -> Result<Reply, NoText>
     ensures judged { IsJudged bytes.items Show result }
     ensures most { ShowsWithin bytes.items steps.old steps.new }
 {
-    let read = match read_map(alloc, bytes.as_slice(), steps) {
+    let read = match take_map(alloc, bytes, steps) {
         Ok(read) => read,
-        Err(fault) => return refused(alloc, bytes.as_slice(), fault),
+        Err(no_map) => return refused(alloc, no_map),
     };
-    printed(bytes, &read.arena, read.version, steps)
+    printed(alloc, &read.arena, read.version, steps)
 }
 
-/// The canonical text of a map, which its owner lets go in one place, in the room of the bytes.
+/// The canonical text of a map, which its owner lets go in one place.
 fn printed<L: Ledger>(
-    room: Vec<u8>,
+    alloc: Global,
     arena: &Arena,
     version: MapVersion,
     steps: &mut Steps<L>,
@@ -45,28 +44,27 @@ fn printed<L: Ledger>(
     ensures most { steps.new ≤ steps.old + printing arena.now.schema.dim arena.now.count }
 {
     prove!(arena.count() <= MOST_DARTS);
-    let text = print_map_in_place_of(room, arena, version, steps)?;
+    let text = print_map(alloc, arena, version, steps)?;
     reply_within_limit(0, text)
 }
 
 /// The line that refuses the text of a map.
-pub fn refused(alloc: Global, bytes: &[u8], fault: MapFault) -> Result<Reply, NoText>
-    requires { IsFaultOf bytes.now fault }
-    ensures { IsMapRefusal bytes.now result }
+pub fn refused(alloc: Global, no_map: NoMap) -> Result<Reply, NoText>
+    ensures { (bytes : List ℕ) → IsWhyNot bytes no_map → IsMapRefusal bytes result }
 {
-    let text = map_line(alloc, bytes, fault)?;
+    let text = map_line(alloc, no_map)?;
     Ok(Reply { status: 4, text })
 }
 
 /// The map that a file's text stands for, or the line that refuses it.
-pub fn read<L: Ledger>(alloc: Global, bytes: &[u8], steps: &mut Steps<L>) -> Result<MapRead, Stop>
-    ensures map { IfOk result (IsReadMap bytes.now) }
-    ensures stop { IfErr result (IsBadFor TheMap (IsBadMap bytes.now)) }
-    ensures most { BytesReadWithin bytes.now steps.old steps.new }
+pub fn read<L: Ledger>(alloc: Global, bytes: Vec<u8>, steps: &mut Steps<L>) -> Result<MapRead, Stop>
+    ensures map { IfOk result (IsReadMap bytes.items) }
+    ensures stop { IfErr result (IsBadFor TheMap (IsBadMap bytes.items)) }
+    ensures most { BytesReadWithin bytes.items steps.old steps.new }
     ensures least { IfOk result (λ read. steps.old + read.arena.count ≤ steps.new) }
 {
-    match read_map(alloc, bytes, steps) {
+    match take_map(alloc, bytes, steps) {
         Ok(read) => Ok(read),
-        Err(fault) => Err(Stop::because(map_line(alloc, bytes, fault))),
+        Err(no_map) => Err(Stop::because(map_line(alloc, no_map))),
     }
 }

@@ -17,11 +17,11 @@ ghost use Rattle.gm_tool.specs.declared.refusal.NoText.TheVariants as nothing;
 use crate::command::MigrateFiles;
 use crate::refusal::{NoText, Refusal};
 use crate::reply::{MOST_BYTES, Reply, stopped};
-use crate::running::{LoadedMap, Made, load_map, saved};
+use crate::running::{Made, load_map, saved};
 use gm_arena::{Arena, Steps};
 use gm_host::Store;
 use gm_lines::put_at;
-use gm_mapfile::{MapVersion, print_map_in_place_of};
+use gm_mapfile::{MapVersion, print_map};
 use gm_model::{MOST_DARTS, OutOfMemory};
 use gm_text::Text;
 use std::alloc::Global;
@@ -38,21 +38,15 @@ fn line_of(alloc: Global, arena: &Arena) -> Result<Vec<u8>, OutOfMemory>
     Ok(text.into_bytes())
 }
 
-/// The text of the map in the second version of the format, in the room of the bytes, and the line
-/// that is put.
-fn prepared<L: Ledger>(
-    alloc: Global,
-    room: Vec<u8>,
-    arena: &Arena,
-    steps: &mut Steps<L>,
-) -> Result<Made, NoText>
+/// The text of the map in the second version of the format, and the line that is put.
+fn prepared<L: Ledger>(alloc: Global, arena: &Arena, steps: &mut Steps<L>) -> Result<Made, NoText>
     ensures lawful { IsLawful arena.now }
     ensures made { IsMigrated (listed_of arena.now) result }
     ensures map { IfOk result (λ made. IsSound (as_map arena.now) → IsMapBytes made.map.items) }
     ensures most { steps.new ≤ steps.old + printing arena.now.schema.dim arena.now.count }
 {
     prove!(arena.count() <= MOST_DARTS);
-    let map = print_map_in_place_of(room, arena, MapVersion::Two, steps)?;
+    let map = print_map(alloc, arena, MapVersion::Two, steps)?;
     if map.len() > MOST_BYTES {
         return Err(NoText::Refused(Refusal::SizeOutput));
     }
@@ -86,10 +80,10 @@ pub fn answer<S: Store, L: Ledger>(
     ensures saves { CountsSaves (status_given result) (S.saves store.old) (S.saves store.new) }
     ensures no_save_fault { IfOk result (λ _. S.save_faults store.new ≡ S.save_faults store.old) }
 {
-    let LoadedMap { read, bytes } = match load_map(alloc, files.map, store, steps) {
-        Ok(loaded) => loaded,
+    let read = match load_map(alloc, files.map, store, steps) {
+        Ok(read) => read,
         Err(stop) => return stopped(stop),
     };
-    let made = prepared(alloc, bytes, &read.arena, steps)?;
+    let made = prepared(alloc, &read.arena, steps)?;
     saved(files.out, made, store)
 }

@@ -29,12 +29,11 @@ use crate::reply::{MOST_BYTES, Reply, stopped};
 use crate::{book, map, script};
 use gm_arena::{Arena, Steps};
 use gm_host::{SaveFault, Store};
-use gm_mapfile::{MapRead, MapVersion, print_map_in_place_of};
+use gm_mapfile::{MapRead, MapVersion, print_map};
 use gm_model::{Book, Embed, MOST_DARTS, Schema, Script};
 use gm_plan::Plan;
 use gm_run::{Outcome, Report, print_report};
 use std::alloc::Global;
-use std::mem;
 use std::sync::ledger::Ledger;
 
 /// What is saved and put, with the status where that goes well.
@@ -45,33 +44,25 @@ pub struct Made {
     pub map: Vec<u8>,
 }
 
-/// A map, and the bytes of its file, in whose room a text can be written.
-#[derive(Drop)]
-pub struct LoadedMap {
-    pub read: MapRead,
-    pub bytes: Vec<u8>,
-}
-
 /// The map in the file of this name, or why there is none.
 pub fn load_map<S: Store, L: Ledger>(
     alloc: Global,
     name: &str,
     store: &mut S,
     steps: &mut Steps<L>,
-) -> Result<LoadedMap, Stop>
+) -> Result<MapRead, Stop>
     ensures held { S.holds store.new ≡ S.holds store.old }
     ensures no_save { S.saves store.new ≡ S.saves store.old }
     ensures no_save_fault { S.save_faults store.new ≡ S.save_faults store.old }
     ensures faults_never_fall { S.load_faults store.old ≤ S.load_faults store.new }
     ensures once { S.loads store.new ≡ counted (S.loads store.old) }
-    ensures read { IfOk result (λ loaded. (bytes : List ℕ) × IsReadMap bytes loaded.read) }
-    ensures from { IsFrom (S.holds store.old) TheMap name.now (λ bytes loaded. IsReadMap bytes loaded.read) IsBadMap (Rises (S.load_faults store.old) (S.load_faults store.new)) result }
+    ensures read { IfOk result (λ read. (bytes : List ℕ) × IsReadMap bytes read) }
+    ensures from { IsFrom (S.holds store.old) TheMap name.now IsReadMap IsBadMap (Rises (S.load_faults store.old) (S.load_faults store.new)) result }
     ensures most { ReadsWithin (S.holds store.old) name.now steps.old steps.new }
-    ensures least { IfOk result (λ loaded. steps.old + loaded.read.arena.count ≤ steps.new) }
+    ensures least { IfOk result (λ read. steps.old + read.arena.count ≤ steps.new) }
 {
     let bytes = load_file(alloc, name, Role::Map, store)?;
-    let read = map::read(alloc, bytes.as_slice(), steps)?;
-    Ok(LoadedMap { read, bytes })
+    map::read(alloc, bytes, steps)
 }
 
 /// The book in the file of this name, or why there is none.
@@ -150,11 +141,9 @@ fn within_limit(status: u8, report: Vec<u8>, map: Vec<u8>) -> Result<Made, Stop>
     })
 }
 
-/// The report of the statements, and the text of the map that they left, in the version. The room is that
-/// of bytes that are no longer used, and it is taken.
+/// The report of the statements, and the text of the map that they left, in the version.
 fn printed<L: Ledger>(
     alloc: Global,
-    room: &mut Vec<u8>,
     book: &Book,
     script: Script,
     report: Report,
@@ -177,15 +166,13 @@ fn printed<L: Ledger>(
     // The map's text, which is the longest, takes its room when theirs is free again.
     drop(script);
     drop(report);
-    let room = mem::replace(room, Vec::new(alloc));
-    let map = print_map_in_place_of(room, arena, version, steps)?;
+    let map = print_map(alloc, arena, version, steps)?;
     within_limit(status, text, map)
 }
 
 /// Runs the statements over the map, and makes the report and the text of the map that they leave.
 fn applied<L: Ledger>(
     alloc: Global,
-    room: &mut Vec<u8>,
     plans: &[Plan<'_>],
     book: &Book,
     script: Script,
@@ -202,7 +189,7 @@ fn applied<L: Ledger>(
 {
     prove!(arena.count() <= MOST_DARTS);
     let report = gm_run::run(alloc, plans, &script, arena, steps)?;
-    printed(alloc, room, book, script, report, arena, version, steps)
+    printed(alloc, book, script, report, arena, version, steps)
 }
 
 /// The map and the book are of one dimension, with the same embeddings in the same order.
@@ -253,19 +240,15 @@ fn prepared<S: Store, L: Ledger>(
     ensures least { IfOk result (λ _. IfSome (S.holds store.old) (λ held. AtLeast held (names_of files.entry) steps.old steps.new)) }
     ensures sound { IfErr result (λ stop. IsSoundStop stop (IsUnloaded (S.holds store.old) (names_of files.entry) (FailsAt (S.load_faults store.old) (S.load_faults store.new) (S.loads store.old) (S.loads store.new)))) }
 {
-    let LoadedMap {
-        mut read,
-        mut bytes,
-    } = load_map(alloc, files.map, store, steps)?;
+    let mut read = load_map(alloc, files.map, store, steps)?;
     let book = load_book(alloc, files.book, store)?;
-    prepared_behind(alloc, files, &mut bytes, &mut read, &book, store, steps)
+    prepared_behind(alloc, files, &mut read, &book, store, steps)
 }
 
 /// The same of a run whose map and book were read, which their owner lets go in one place.
 fn prepared_behind<S: Store, L: Ledger>(
     alloc: Global,
     files: RunFiles<'_>,
-    room: &mut Vec<u8>,
     read: &mut MapRead,
     book: &Book,
     store: &mut S,
@@ -299,7 +282,6 @@ fn prepared_behind<S: Store, L: Ledger>(
     }
     applied(
         alloc,
-        room,
         plans.as_slice(),
         book,
         script,

@@ -1,4 +1,4 @@
-use Rattle.std.proofs.Common.{◌≡◌, not, ◌+◌, ◌≤◌, ◌∷◌, [], ◌++◌, length, drop, None, refl, sym, ap, subst, ◌∙◌, arith}
+use Rattle.std.proofs.Common.{◌≡◌, not, ◌+◌, ◌≤◌, ◌∷◌, [], ◌++◌, length, drop, get_or, None, refl, sym, ap, subst, ◌∙◌, arith}
 use Rattle.std.proofs.lemmas.List.{length_push}
 use Rattle.std.specs.FinMap.{get}
 use Rattle.std.specs.Slice.Iter.{chunks_exact_rest}
@@ -9,9 +9,9 @@ use Rattle.gm_mapfile.specs.MapText.{rows_of}
 use Rattle.gm_mapfile.specs.Packed.{size_of_line, values_in}
 use Rattle.gm_mapfile.specs.Rows.{row_in, valued, darts_in}
 use Rattle.gm_mapfile.specs.Building.{AreAdded, AreValued}
-use Rattle.gm_mapfile.proofs.Chunks.{first_values, below_first, below_rest, name_read, read_at, none_left, darts_end, rows_of_darts_in, length_darts_in}
+use Rattle.gm_mapfile.proofs.Chunks.{first_values, name_of_line, none_left, darts_end, rows_of_darts_in, length_darts_in}
 use Rattle.gm_mapfile.proofs.Adding.{answered_none, answered_some}
-use Rattle.gm_mapfile.proofs.AddedDarts.{HasDarts, has_none, has_more_named, has_again_named, line_split, line_good, line_spare, line_long, line_words, behind_read, values_read, good_read, own_long, schema_kept}
+use Rattle.gm_mapfile.proofs.AddedDarts.{HasDarts, has_none, has_more_named, has_again_named, line_split, line_good, line_spare, line_long, line_words, line_below, behind_read, values_read, good_read, own_long, schema_kept}
 use Rattle.gm_mapfile.proofs.Unpacked.{size_read}
 use Rattle.gm_mapfile.proofs.building.add_darts.Goals as goal
 
@@ -26,7 +26,7 @@ loop-line-init g c =
       split = ap (λ numbers. darts_in schema numbers c.args.words.now) rest;
       schema = refl;
       room = rw rest c.requires.spare;
-      reserved = rw rest c.requires.reserved;
+      reserved = refl;
       long = rw rest c.requires.room.long;
       good = rw rest c.requires.room.good;
       has = has_none n c.args.arena.now c.requires.fresh;
@@ -44,9 +44,10 @@ split_at-requires g c =
 
 pub add_packed-requires-clause-reserved : goal.add_packed-requires-clause-reserved
 add_packed-requires-clause-reserved g c =
+    let before = c.loop-line.invariant in
     let steps = c.in-Some.ensures.steps in
-    let long : length c.in-Some.line.now ≡ c.args.arena.now.schema.dim + 2 = steps.1.1 ∙ c.loop-line.invariant.size in
-    rw (read_at c.in-Some.line.now 0 _ _ (omega (arith, long)) c.index-line-0.is c.number-name.ensures) (below_first c.loop-line.arena.reserved _ c.in-Some.line.now _ c.loop-line.invariant.reserved steps.1.0 (omega (arith, long)))
+    let below = line_below c.args.arena.now.schema before.front c.args.numbers.now _ c.in-Some.line.now _ c.args.words.now c.loop-line.rest.now before.split steps.1.0 (steps.1.1 ∙ before.size) c.args.arena.now.reserved c.requires.reserved in
+    omega (arith, below, before.reserved)
 
 pub add_packed-requires-clause-values : goal.add_packed-requires-clause-values
 add_packed-requires-clause-values g c =
@@ -67,7 +68,7 @@ add_packed-requires-clause-room g c =
 
 pub add_packed-requires-clause-new_name : goal.add_packed-requires-clause-new_name
 add_packed-requires-clause-new_name g c =
-    answered_none (get c.loop-line.arena.darts c.number-name.result ≡ None) (λ (s : Slot). IsAt c.loop-line.arena s.at c.number-name.result) c.slot_of.result c.slot_of.ensures.slot (c.is_none.ensures ∙ ap not c.if-is_none.true)
+    answered_none (get c.loop-line.arena.darts (get_or c.in-Some.line.now 0 0) ≡ None) (λ (s : Slot). IsAt c.loop-line.arena s.at (get_or c.in-Some.line.now 0 0) × (c.slot_there.new.steps ≡ c.loop-line.steps + 1)) c.slot_there.result c.slot_there.ensures.slot (c.is_none.ensures ∙ ap not c.if-is_none.true)
 
 pub add_packed-requires-clause-embeds : goal.add_packed-requires-clause-embeds
 add_packed-requires-clause-embeds g c = subst (λ (s : Schema). length s.embeds ≤ 8) (sym c.loop-line.invariant.schema) c.requires.embeds
@@ -88,8 +89,8 @@ loop-line-preserved-then-is_none g c =
     let before = c.loop-line.invariant in
     let steps = c.in-Some.ensures.steps in
     let line = c.in-Some.line.now in
-    let name = c.number-name.result in
-    let named = name_read line _ name (omega (arith, steps.1.1, before.size)) c.index-line-0.is c.number-name.ensures in
+    let name = get_or line 0 0 in
+    let named = name_of_line line in
     let words = c.loop-line.rest.now in
     let others = c.split_at.result.1.now in
     let wide : length line ≡ n + 2 = steps.1.1 ∙ before.size in
@@ -97,7 +98,7 @@ loop-line-preserved-then-is_none g c =
     let left = behind_read schema c.line_size-size.result words c.split_at.result.0.now others size c.split_at.ensures.back in
     let own = values_read schema c.line_size-size.result words c.split_at.result.0.now others size c.loop-line.arena.schema before.schema c.split_at.ensures.front in
     let dart = valued (row_in line) (first_values schema words) in
-    let new_name = answered_none (get c.loop-line.arena.darts name ≡ None) (λ (s : Slot). IsAt c.loop-line.arena s.at name) c.slot_of.result c.slot_of.ensures.slot (c.is_none.ensures ∙ ap not c.if-is_none.true) in
+    let new_name = answered_none (get c.loop-line.arena.darts name ≡ None) (λ (s : Slot). IsAt c.loop-line.arena s.at name × (c.slot_there.new.steps ≡ c.loop-line.steps + 1)) c.slot_there.result c.slot_there.ensures.slot (c.is_none.ensures ∙ ap not c.if-is_none.true) in
     let m = c.loop-line.arena in
     let after = c.add_packed.ensures.map in
     let room = line_spare schema _ line _ words others steps.1.0 wide left m.spare before.room in
@@ -107,13 +108,13 @@ loop-line-preserved-then-is_none g c =
       split = line_split schema _ line _ words others steps.1.0 wide left before.front _ before.split;
       schema = schema_kept m c.add_packed.new.arena c.add_packed.result.at name (values_in m.schema.embeds c.split_at.result.0.now) schema after before.schema;
       room = rw after room.1;
-      reserved = rw after (below_rest m.reserved _ line _ before.reserved steps.1.0);
+      reserved = rw after before.reserved;
       long = line_long schema _ line _ words others steps.1.0 wide left before.long;
       good = (line_good schema _ line _ words others steps.1.0 wide left before.good).1;
       has = subst (λ x. HasDarts n (before.front ++ dart ∷ []) x c.loop-line.twice) (sym after)
           (has_more_named n before.front dart m c.loop-line.twice before.has c.add_packed.result.at name (values_in m.schema.embeds c.split_at.result.0.now) (ap (λ (s : Schema). s.dim) before.schema) named own new_name);
-      most = omega (arith, before.most, length_push before.front dart, c.slot_of.ensures.cost, c.add_packed.ensures.cost);
-      least = omega (arith, before.least, length_push before.front dart, c.slot_of.ensures.cost, c.add_packed.ensures.cost);
+      most = omega (arith, before.most, length_push before.front dart, c.slot_there.ensures.most, c.add_packed.ensures.cost);
+      least = omega (arith, before.least, length_push before.front dart, c.slot_there.ensures.least, c.add_packed.ensures.cost);
     }
 
 pub loop-line-preserved : goal.loop-line-preserved
@@ -123,8 +124,8 @@ loop-line-preserved g c =
     let before = c.loop-line.invariant in
     let steps = c.in-Some.ensures.steps in
     let line = c.in-Some.line.now in
-    let name = c.number-name.result in
-    let named = name_read line _ name (omega (arith, steps.1.1, before.size)) c.index-line-0.is c.number-name.ensures in
+    let name = get_or line 0 0 in
+    let named = name_of_line line in
     let words = c.loop-line.rest.now in
     let others = c.split_at.result.1.now in
     let wide : length line ≡ n + 2 = steps.1.1 ∙ before.size in
@@ -132,7 +133,7 @@ loop-line-preserved g c =
     let left = behind_read schema c.line_size-size.result words c.split_at.result.0.now others size c.split_at.ensures.back in
     let dart = valued (row_in line) (first_values schema words) in
     let m = c.loop-line.arena in
-    let there = answered_some (get m.darts name ≡ None) (λ (s : Slot). IsAt m s.at name) c.slot_of.result c.slot_of.ensures.slot c.if-is_none.ensures in
+    let there = answered_some (get m.darts name ≡ None) (λ (s : Slot). IsAt m s.at name × (c.slot_there.new.steps ≡ c.loop-line.steps + 1)) c.slot_there.result c.slot_there.ensures.slot c.if-is_none.ensures in
     let room = line_spare schema _ line _ words others steps.1.0 wide left m.spare before.room in
     record {
       front = before.front ++ dart ∷ [];
@@ -140,12 +141,12 @@ loop-line-preserved g c =
       split = line_split schema _ line _ words others steps.1.0 wide left before.front _ before.split;
       schema = before.schema;
       room = omega (arith, room.1);
-      reserved = below_rest m.reserved _ line _ before.reserved steps.1.0;
+      reserved = before.reserved;
       long = line_long schema _ line _ words others steps.1.0 wide left before.long;
       good = (line_good schema _ line _ words others steps.1.0 wide left before.good).1;
-      has = has_again_named n before.front dart m c.loop-line.twice before.has name c.lesser.result named (before.has.added.slots there.0.at name there.1) c.lesser.ensures;
-      most = omega (arith, before.most, length_push before.front dart, c.slot_of.ensures.cost);
-      least = omega (arith, before.least, length_push before.front dart, c.slot_of.ensures.cost);
+      has = has_again_named n before.front dart m c.loop-line.twice before.has name c.lesser.result named (before.has.added.slots there.0.at name there.1.0) c.lesser.ensures;
+      most = omega (arith, before.most, length_push before.front dart, there.1.1);
+      least = omega (arith, before.least, length_push before.front dart, there.1.1);
     }
 
 pub returns-clause-schema : goal.returns-clause-schema

@@ -1,4 +1,4 @@
-use Rattle.std.proofs.Common.{◌≡◌, ◌+◌, ◌*◌, ◌/◌, ◌<◌, ◌≤◌, List, ◌++◌, length, All}
+use Rattle.std.proofs.Common.{◌≡◌, ◌+◌, ◌*◌, ◌/◌, ◌≤◌, List, ◌++◌, length}
 use Rattle.std.specs.List.{AllByRecursion}
 use Rattle.std.specs.Slice.Iter.{chunks_exact_rest, chunks_exact_size}
 use Rattle.gm_arena.specs.Lawful.{AreGoodValues}
@@ -15,7 +15,7 @@ invariant-loop-line g l = record {
   split : front ++ darts_in l.fn.arena.schema (chunks_exact_rest l.line-iterator) l.rest ≡ darts_in l.fn.arena.schema l.fn.numbers l.fn.words;
   schema : l.arena.schema ≡ l.fn.arena.schema;
   room : length (chunks_exact_rest l.line-iterator) / (l.fn.arena.schema.dim + 2) ≤ l.arena.spare;
-  reserved : All (λ x. x < l.arena.reserved) (chunks_exact_rest l.line-iterator);
+  reserved : l.arena.reserved ≡ l.fn.arena.reserved;
   long : length l.rest ≡ length (chunks_exact_rest l.line-iterator) / (l.fn.arena.schema.dim + 2) * size_of_line l.fn.arena.schema.embeds;
   good : AllByRecursion (λ (dart : DartRow). AreGoodValues l.fn.arena.schema dart.values) (darts_in l.fn.arena.schema (chunks_exact_rest l.line-iterator) l.rest);
   has : HasDarts l.fn.arena.schema.dim front l.arena l.twice;

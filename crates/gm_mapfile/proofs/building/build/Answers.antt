@@ -12,7 +12,7 @@ returns-clause-held g c =
     let darts = darts_in schema c.args.draft.numbers.items c.args.draft.words.items in
     let xs = c.as_slice-numbers.result.now in
     let vs = c.as_slice-words.result.now in
-    let same = same_read darts schema c.in_order.new.numbers.items xs c.in_order.new.words.items vs c.as_slice-numbers.ensures.value c.as_slice-words.ensures.value c.in_ok-in_order.ensures.darts in
+    let same = same_read darts schema c.in_order.new.numbers.items xs c.in_order.new.words.items vs c.as_slice-numbers.ensures.value c.as_slice-words.ensures.value c.in_ok-end.ensures.darts in
     if_ok_both c.build_lines.result (λ m held _. held_moved darts (darts_in schema xs vs) same (version_in c.args.draft.stated) schema m held) c.build_lines.ensures.held c.build_lines.ensures.held
 
 pub returns-clause-fault : goal.returns-clause-fault
@@ -21,7 +21,7 @@ returns-clause-fault g c =
     let darts = darts_in schema c.args.draft.numbers.items c.args.draft.words.items in
     let xs = c.as_slice-numbers.result.now in
     let vs = c.as_slice-words.result.now in
-    let same = same_read darts schema c.in_order.new.numbers.items xs c.in_order.new.words.items vs c.as_slice-numbers.ensures.value c.as_slice-words.ensures.value c.in_ok-in_order.ensures.darts in
+    let same = same_read darts schema c.in_order.new.numbers.items xs c.in_order.new.words.items vs c.as_slice-numbers.ensures.value c.as_slice-words.ensures.value c.in_ok-end.ensures.darts in
     if_err c.build_lines.result (fault_moved darts (darts_in schema xs vs) same (version_in c.args.draft.stated) schema.dim) c.build_lines.ensures.fault
 
 pub returns-clause-most : goal.returns-clause-most
@@ -30,11 +30,11 @@ returns-clause-most g c =
     let darts = darts_in schema c.args.draft.numbers.items c.args.draft.words.items in
     let xs = c.as_slice-numbers.result.now in
     let vs = c.as_slice-words.result.now in
-    let same = same_read darts schema c.in_order.new.numbers.items xs c.in_order.new.words.items vs c.as_slice-numbers.ensures.value c.as_slice-words.ensures.value c.in_ok-in_order.ensures.darts in
+    let same = same_read darts schema c.in_order.new.numbers.items xs c.in_order.new.words.items vs c.as_slice-numbers.ensures.value c.as_slice-words.ensures.value c.in_ok-end.ensures.darts in
     most_moved darts (darts_in schema xs vs) same (2 * schema.dim + 5) c.args.steps.now c.build_lines.new.steps c.build_lines.ensures.most
 
-pub returns-in_err-in_order-clause-held : goal.returns-in_err-in_order-clause-held
-returns-in_err-in_order-clause-held g c = unless_ok _ c.from_residual.result c.from_residual.ensures.0
+pub returns-in_err-end-clause-held : goal.returns-in_err-end-clause-held
+returns-in_err-end-clause-held g c = unless_ok _ c.from_residual.result c.from_residual.ensures.0
 
-pub returns-in_err-in_order-clause-least : goal.returns-in_err-in_order-clause-least
-returns-in_err-in_order-clause-least g c = unless_ok _ c.from_residual.result c.from_residual.ensures.0
+pub returns-in_err-end-clause-least : goal.returns-in_err-end-clause-least
+returns-in_err-end-clause-least g c = unless_ok _ c.from_residual.result c.from_residual.ensures.0

@@ -3,7 +3,8 @@ use Rattle.gm_arena.specs.ArenaMap.{ArenaMap}
 use Rattle.gm_model.specs.declared.schema.Schema.{Schema}
 use Rattle.gm_mapfile.specs.Building.{AreInRoom, IsHeld}
 use Rattle.gm_mapfile.specs.Draft.{version_in}
-use Rattle.gm_mapfile.specs.Rows.{darts_in}
+use Rattle.gm_mapfile.specs.MapFaults.{AreBelow}
+use Rattle.gm_mapfile.specs.Rows.{darts_in, rows_in}
 use Rattle.gm_mapfile.specs.Faults.{IsNameFault}
 use Rattle.gm_mapfile.proofs.Whole.{fresh_map}
 use Rattle.gm_mapfile.proofs.building.build_lines.Goals as goal
@@ -20,6 +21,14 @@ pub fill_with_room-requires-clause-room : goal.fill_with_room-requires-clause-ro
 fill_with_room-requires-clause-room g c =
     let schema_is : c.new-arena.result.schema ≡ c.args.schema = ap (λ (x : ArenaMap). x.schema) c.new-arena.ensures in
     subst (λ s. AreInRoom s c.args.numbers.now c.args.words.now) (sym schema_is) c.requires.room
+
+pub fill_with_room-requires-clause-end : goal.fill_with_room-requires-clause-end
+fill_with_room-requires-clause-end g c =
+    let schema_is : c.new-arena.result.schema ≡ c.args.schema = ap (λ (x : ArenaMap). x.schema) c.new-arena.ensures in
+    subst (λ (s : Schema). AreBelow (rows_in s.dim c.args.numbers.now) c.args.end) (sym schema_is) c.requires.end
+
+pub fill_with_room-requires-clause-names : goal.fill_with_room-requires-clause-names
+fill_with_room-requires-clause-names g c = c.requires.names
 
 pub fill_with_room-requires-clause-next : goal.fill_with_room-requires-clause-next
 fill_with_room-requires-clause-next g c = c.requires.next

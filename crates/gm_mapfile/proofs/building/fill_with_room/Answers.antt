@@ -3,9 +3,10 @@ use Rattle.std.proofs.lemmas.Result.{err_from_is_err_and}
 use Rattle.std.proofs.Common.{◌≡◌, ◌+◌, ◌*◌, ◌≤◌, length, sym, ap, subst, ◌∙◌, arith, ◌/◌}
 use Rattle.gm_arena.specs.ArenaMap.{ArenaMap}
 use Rattle.gm_model.specs.declared.schema.Schema.{Schema}
+use Rattle.gm_model.specs.GMap.{IsLive}
 use Rattle.gm_mapfile.specs.Building.{AreInRoom, IsHeld}
 use Rattle.gm_mapfile.specs.Draft.{version_in}
-use Rattle.gm_mapfile.specs.Rows.{darts_in}
+use Rattle.gm_mapfile.specs.Rows.{darts_in, rows_in}
 use Rattle.gm_model.specs.Limits.{most_darts}
 use Rattle.gm_mapfile.specs.Faults.{IsNameFault}
 use Rattle.gm_model.proofs.Exits.{never_ok}
@@ -13,7 +14,7 @@ use Rattle.gm_mapfile.proofs.Whole.{still_fresh}
 use Rattle.gm_mapfile.proofs.building.fill_with_room.Goals as goal
 
 pub reserve-requires-clause-names : goal.reserve-requires-clause-names
-reserve-requires-clause-names g c = c.names_end.ensures.few
+reserve-requires-clause-names g c = c.requires.names
 
 pub reserve-requires-clause-darts : goal.reserve-requires-clause-darts
 reserve-requires-clause-darts g c =
@@ -38,7 +39,9 @@ pub fill-requires-clause-fresh : goal.fill-requires-clause-fresh
 fill-requires-clause-fresh g c = still_fresh _ _ c.reserve.new.self.spare c.reserve.new.self.reserved c.in_ok-reserve.ensures.map c.requires.fresh
 
 pub fill-requires-clause-reserved : goal.fill-requires-clause-reserved
-fill-requires-clause-reserved g c = λ k d lt. omega (arith, c.names_end.ensures.above k d lt, c.in_ok-reserve.ensures.names)
+fill-requires-clause-reserved g c d live =
+    let schema_is : c.reserve.new.self.schema ≡ c.args.arena.now.schema = ap (λ (x : ArenaMap). x.schema) c.in_ok-reserve.ensures.map in
+    omega (arith, c.requires.end d (subst (λ (s : Schema). IsLive (rows_in s.dim c.args.numbers.now) d) schema_is live), c.in_ok-reserve.ensures.names)
 
 pub fill-requires-clause-room : goal.fill-requires-clause-room
 fill-requires-clause-room g c =

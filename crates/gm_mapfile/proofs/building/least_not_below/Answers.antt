@@ -1,7 +1,7 @@
-use Rattle.std.proofs.Common.{◌∷◌, [], ◌++◌, subst, sym, ◌∙◌, arith}
+use Rattle.std.proofs.Common.{◌∷◌, [], ◌++◌, subst, ◌∙◌, arith}
 use Rattle.gm_mapfile.specs.Building.{IsNotBelow}
 use Rattle.gm_mapfile.specs.Rows.{row_in, rows_in}
-use Rattle.gm_mapfile.proofs.Chunks.{one_more, no_more, name_of_line, read_at}
+use Rattle.gm_mapfile.proofs.Chunks.{one_more, no_more, name_of_line}
 use Rattle.gm_mapfile.proofs.NextName.{low_more_named, high_more_named}
 use Rattle.gm_mapfile.proofs.building.least_not_below.Goals as goal
 
@@ -15,7 +15,7 @@ loop-line-preserved-then-name-next c =
       front = before.front ++ row_in line ∷ [];
       size = steps.0 ∙ before.size;
       split = one_more n before.front _ _ line _ before.split steps.1.0 (steps.1.1 ∙ before.size);
-      least = high_more_named before.front (row_in line) c.args.next _ c.loop-line.least _ (name_of_line line ∙ sym (read_at c.in-Some.line.now 0 _ _ (omega (arith, steps.1.1, before.size)) c.index-line-0.is c.number-name.ensures)) c.if-name-next.true c.lesser.ensures before.least;
+      least = high_more_named before.front (row_in line) c.args.next _ c.loop-line.least _ (name_of_line line) c.if-name-next.true c.lesser.ensures before.least;
     }
 
 pub loop-line-preserved : goal.loop-line-preserved
@@ -28,7 +28,7 @@ loop-line-preserved c =
       front = before.front ++ row_in line ∷ [];
       size = steps.0 ∙ before.size;
       split = one_more n before.front _ _ line _ before.split steps.1.0 (steps.1.1 ∙ before.size);
-      least = low_more_named before.front (row_in line) c.args.next _ c.loop-line.least (name_of_line line ∙ sym (read_at c.in-Some.line.now 0 _ _ (omega (arith, steps.1.1, before.size)) c.index-line-0.is c.number-name.ensures)) c.if-name-next.false before.least;
+      least = low_more_named before.front (row_in line) c.args.next _ c.loop-line.least (name_of_line line) c.if-name-next.false before.least;
     }
 
 pub returns : goal.returns

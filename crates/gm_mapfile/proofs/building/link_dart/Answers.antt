@@ -1,7 +1,6 @@
 use Rattle.std.proofs.Common.{◌≡◌, ◌+◌, ◌<◌, ap, subst, arith, refl}
-use Rattle.gm_arena.specs.ArenaMap.{IsAt, ArenaMap}
+use Rattle.gm_arena.specs.ArenaMap.{ArenaMap}
 use Rattle.gm_mapfile.specs.Building.{IsDartLinked}
-use Rattle.gm_mapfile.proofs.Chunks.{read_at}
 use Rattle.gm_mapfile.proofs.Linking.{none_linked, linked_at, not_live, no_target, slot_live}
 use Rattle.gm_mapfile.proofs.building.link_dart.Goals as goal
 
@@ -18,9 +17,8 @@ pub loop-label-preserved : goal.loop-label-preserved
 loop-label-preserved g c =
     let before = c.loop-label.invariant in
     let old = c.args.arena.now in
-    let low : c.loop-label.label < old.schema.dim + 1 = omega (arith, c.loop-label-test.true, c.top-label-end.ensures.value, ap (λ s. s.dim) c.schema.ensures) in
     record {
-      linked = linked_at old.schema.dim old c.loop-label.arena c.set_alpha.new.self c.args.name c.args.neighbours.now c.loop-label.label c.in_ok-slot.slot.at c.in-Some.to.at before.linked before.at (subst (IsAt c.loop-label.arena c.in-Some.to.at) (read_at c.args.neighbours.now c.loop-label.label _ _ (omega (arith, low, c.requires.labels)) c.index-neighbours-label.is c.number.ensures) c.in-Some.ensures.slot) c.set_alpha.ensures.map c.requires.slots c.requires.live
+      linked = linked_at old.schema.dim old c.loop-label.arena c.set_alpha.new.self c.args.name c.args.neighbours.now c.loop-label.label c.in_ok-slot.slot.at c.in-Some.to.at before.linked before.at c.in-Some.ensures.slot c.set_alpha.ensures.map c.requires.slots c.requires.live
           (omega (arith, c.loop-label-test.true, c.top-label-end.ensures.value, ap (λ s. s.dim) c.schema.ensures));
       at = before.at;
       most = omega (arith, before.most, c.slot_of-in-loop-label.ensures.cost, c.set_alpha.ensures.cost);
@@ -31,10 +29,9 @@ pub returns-in-Some-clause-linked : goal.returns-in-Some-clause-linked
 returns-in-Some-clause-linked g c =
     let before = c.loop-label.invariant in
     let old = c.args.arena.now in
-    let low : c.loop-label.label < old.schema.dim + 1 = omega (arith, c.loop-label-test.true, c.top-label-end.ensures.value, ap (λ s. s.dim) c.schema.ensures) in
     let top : c.loop-label.label + 1 ≡ old.schema.dim + 1 = omega (arith, c.loop-label-test.true, c.top-label-end.ensures.value, ap (λ s. s.dim) c.schema.ensures) in
     subst (λ label. IsDartLinked old.schema.dim old c.set_alpha.new.self c.args.name c.args.neighbours.now label) top
-    (linked_at old.schema.dim old c.loop-label.arena c.set_alpha.new.self c.args.name c.args.neighbours.now c.loop-label.label c.in_ok-slot.slot.at c.in-Some.to.at before.linked before.at (subst (IsAt c.loop-label.arena c.in-Some.to.at) (read_at c.args.neighbours.now c.loop-label.label _ _ (omega (arith, low, c.requires.labels)) c.index-neighbours-label.is c.number.ensures) c.in-Some.ensures.slot) c.set_alpha.ensures.map c.requires.slots c.requires.live
+    (linked_at old.schema.dim old c.loop-label.arena c.set_alpha.new.self c.args.name c.args.neighbours.now c.loop-label.label c.in_ok-slot.slot.at c.in-Some.to.at before.linked before.at c.in-Some.ensures.slot c.set_alpha.ensures.map c.requires.slots c.requires.live
     (omega (arith, c.loop-label-test.true, c.top-label-end.ensures.value, ap (λ s. s.dim) c.schema.ensures)))
 
 pub returns-in_err-slot-clause-linked : goal.returns-in_err-slot-clause-linked
@@ -55,8 +52,7 @@ pub returns-in_default-clause-linked : goal.returns-in_default-clause-linked
 returns-in_default-clause-linked g c =
     let low : c.loop-label.label < c.args.arena.now.schema.dim + 1 = omega (arith, c.loop-label-test.true, c.top-label-end.ensures.value, ap (λ s. s.dim) c.schema.ensures) in
     let before = c.loop-label.invariant in
-    let there = read_at c.args.neighbours.now c.loop-label.label _ _ (omega (arith, low, c.requires.labels)) c.index-neighbours-label.is c.number.ensures in
-    (before.linked, no_target _ _ _ _ _ _ _ before.linked there c.in_default.ensures.slot (omega (arith, low)))
+    (before.linked, no_target _ _ _ _ _ _ _ before.linked refl c.in_default.ensures.slot (omega (arith, low)))
 
 pub returns-in_default-clause-most : goal.returns-in_default-clause-most
 returns-in_default-clause-most g c =

@@ -4,7 +4,7 @@ use Rattle.std.specs.Slice.Iter.{chunks_exact_rest}
 use Rattle.gm_arena.specs.ArenaMap.{ArenaMap}
 use Rattle.gm_mapfile.specs.Rows.{row_in, rows_in}
 use Rattle.gm_mapfile.specs.Building.{AreLinkedUnless, AreWhole}
-use Rattle.gm_mapfile.proofs.Chunks.{one_more, no_more, read_at}
+use Rattle.gm_mapfile.proofs.Chunks.{one_more, no_more}
 use Rattle.gm_mapfile.proofs.Linking.{none_relinked, slots_live}
 use Rattle.gm_mapfile.proofs.LinkedLine.{line_live, line_linked, line_lacks, steps_more, neighbours_long}
 use Rattle.gm_mapfile.proofs.building.link_darts.Goals as goal
@@ -30,7 +30,7 @@ link_dart-requires-clause-live g c =
     let before = c.loop-line.invariant in
     let steps = c.in-Some.ensures.steps in
     let listed = line_live n old c.loop-line.arena c.loop-line.arena before.front c.args.numbers.now _ c.in-Some.line.now _ before.split steps.1.0 (steps.1.1 ∙ before.size) in
-    rw (read_at c.in-Some.line.now 0 _ _ (omega (arith, steps.1.1, before.size)) c.index-line-0.is c.number-name.ensures) (before.relinked.live _ ∙ (c.requires.added.live _ ∙ listed))
+    before.relinked.live _ ∙ (c.requires.added.live _ ∙ listed)
 
 pub loop-line-preserved-in-Some-link_dart : goal.loop-line-preserved-in-Some-link_dart
 loop-line-preserved-in-Some-link_dart g c =
@@ -39,10 +39,9 @@ loop-line-preserved-in-Some-link_dart g c =
     let steps = c.in-Some.ensures.steps in
     let line = c.in-Some.line.now in
     let long = steps.1.1 ∙ before.size in
-    let name = read_at c.in-Some.line.now 0 _ _ (omega (arith, steps.1.1, before.size)) c.index-line-0.is c.number-name.ensures in
     let dim = ap (λ (x : ArenaMap). x.schema.dim) before.relinked.frame in
-    let said = rw name at c.in-Some-link_dart.ensures.linked in
-    let turn = line_lacks n c.args.arena.now c.loop-line.arena c.link_dart.new.arena before.front c.args.numbers.now _ line _ before.split steps.1.0 long c.requires.added.twice.0 before.relinked c.loop-line.missing before.linked dim c.in-Some-link_dart.label c.earlier.result said.0 said.1 (rw name at c.earlier.ensures) in
+    let said = c.in-Some-link_dart.ensures.linked in
+    let turn = line_lacks n c.args.arena.now c.loop-line.arena c.link_dart.new.arena before.front c.args.numbers.now _ line _ before.split steps.1.0 long c.requires.added.twice.0 before.relinked c.loop-line.missing before.linked dim c.in-Some-link_dart.label c.earlier.result said.0 said.1 c.earlier.ensures in
     record {
       front = before.front ++ row_in line ∷ [];
       size = steps.0 ∙ before.size;
@@ -60,9 +59,8 @@ loop-line-preserved g c =
     let steps = c.in-Some.ensures.steps in
     let line = c.in-Some.line.now in
     let long = steps.1.1 ∙ before.size in
-    let name = read_at c.in-Some.line.now 0 _ _ (omega (arith, steps.1.1, before.size)) c.index-line-0.is c.number-name.ensures in
     let dim = ap (λ (x : ArenaMap). x.schema.dim) before.relinked.frame in
-    let turn = line_linked n c.args.arena.now c.loop-line.arena c.link_dart.new.arena before.front c.args.numbers.now _ line _ before.split steps.1.0 long c.requires.added.twice.0 before.relinked c.loop-line.missing before.linked dim (rw name at c.in_default.ensures.linked) in
+    let turn = line_linked n c.args.arena.now c.loop-line.arena c.link_dart.new.arena before.front c.args.numbers.now _ line _ before.split steps.1.0 long c.requires.added.twice.0 before.relinked c.loop-line.missing before.linked dim c.in_default.ensures.linked in
     record {
       front = before.front ++ row_in line ∷ [];
       size = steps.0 ∙ before.size;

@@ -10,7 +10,7 @@ returns-in_err-value-clause-misses c =
     rw (p.1, p.2) (name_lacks c.args.lexer.now c.in_err-value.field-0.0 c.in_err-value.ensures.none)
 
 pub returns-clause-takes : goal.returns-clause-takes
-returns-clause-takes c = rw c.new.ensures (name_takes c.args.lexer.now c.in_ok-value.field-0.value c.in_ok-value.field-0.place c.read_number.new.lexer c.in_ok-value.ensures.next (omega (arith, c.if-value-from.false, c.from.ensures)))
+returns-clause-takes c = (name_takes c.args.lexer.now c.in_ok-value.field-0.value c.in_ok-value.field-0.place c.read_number.new.lexer c.in_ok-value.ensures.next (omega (arith, c.if-value-from.false, c.from.ensures)))
 
 pub returns-in_err-value-clause-takes : goal.returns-in_err-value-clause-takes
 returns-in_err-value-clause-takes c = unless_ok _ c.from_residual.result c.from_residual.ensures.0

@@ -1,0 +1,31 @@
+use Rattle.std.proofs.Common.{◌∷◌, [], ◌++◌, get_or, subst, ◌∙◌, arith}
+use Rattle.gm_model.specs.Limits.{most_names}
+use Rattle.gm_mapfile.specs.MapFaults.{AreBelow}
+use Rattle.gm_mapfile.specs.Rows.{row_in, rows_in}
+use Rattle.gm_mapfile.proofs.Chunks.{one_more, no_more, name_live, name_of_line, rows_below}
+use Rattle.gm_mapfile.proofs.NextName.{below_more}
+use Rattle.gm_mapfile.proofs.ordering.ascending_end.Goals as goal
+
+pub loop-line-preserved : goal.loop-line-preserved
+loop-line-preserved c =
+    let n = c.args.top in
+    let before = c.loop-line.invariant in
+    let steps = c.in-Some.ensures.steps in
+    let line = c.in-Some.line.now in
+    let long = steps.1.1 ∙ before.size in
+    let live = name_live n before.front c.args.numbers.now _ line _ before.split steps.1.0 long in
+    record {
+      front = before.front ++ row_in line ∷ [];
+      size = steps.0 ∙ before.size;
+      split = one_more n before.front _ _ line _ before.split steps.1.0 long;
+      below = below_more before.front (row_in line) (get_or line 0 0) c.loop-line.end (name_of_line line) (omega (arith, c.if-name-end.false)) before.below;
+      names = omega (arith, rows_below n most_names c.args.numbers.now c.requires (get_or line 0 0) live);
+    }
+
+pub returns-clause-end : goal.returns-clause-end
+returns-clause-end c =
+    let n = c.args.top in
+    let before = c.loop-line.invariant in
+    let steps = c.in-None.ensures.steps in
+    let whole = no_more n before.front (rows_in n c.args.numbers.now) _ before.split (omega (arith, steps.1.0, before.size)) in
+    subst (λ rows. AreBelow rows c.loop-line.end) whole before.below
