@@ -82,8 +82,7 @@ fn count_with<L: Ledger>(
 {
     let darts = arena.count();
     let cells = count_cells(alloc, arena, scratch, steps)?;
-    let names = arena.names(alloc, steps)?;
-    let free = count_free(alloc, arena, &names, steps)?;
+    let free = count_free(alloc, arena, steps)?;
     Ok(Counts {
         darts,
         cells: Items::new(cells),
