@@ -1,6 +1,6 @@
 -- The labels of a map but one, and numbers by label, one label after another.
-use Rattle.std.proofs.Common.{◌≡◌, ◌≢◌, ℕ, ◌+◌, ◌*◌, ◌<◌, ◌≤◌, Bool, true, false, ◌&&◌, List, [], ◌∷◌, ◌++◌, IsTrue, length, get_or, refl, sym, ap, subst, ◌∙◌, inl, inr, arith}
-use Rattle.std.proofs.lemmas.Bool.{cases_lt, le-leb, leb-true, ne_eqb, false≢true}
+use Rattle.std.proofs.Common.{◌≡◌, ℕ, ◌+◌, ◌*◌, ◌<◌, ◌≤◌, Bool, true, false, ◌&&◌, List, [], ◌∷◌, ◌++◌, IsTrue, length, get_or, refl, sym, ap, subst, ◌∙◌, inl, inr, arith}
+use Rattle.std.proofs.lemmas.Bool.{cases_lt, leb-true, false≢true}
 use Rattle.std.proofs.lemmas.Nat.{mul-le}
 use Rattle.std.proofs.lemmas.List.{get_or_append_left, get_or_push}
 use Rattle.gm_model.specs.Labels.{has}
@@ -8,12 +8,9 @@ use Rattle.gm_model.specs.Maps.{Map, IsDart, dimension}
 use Rattle.gm_model.specs.Orbits.{HasOrbits}
 use Rattle.gm_model.specs.declared.word.Mask.{Mask}
 use Rattle.gm_walk.proofs.OrbitLemmas.{orbits_alike}
-use Rattle.gm_cells.specs.Cells.{AreByLabel, HasCellsOf, labels_to, labels_but}
+use Rattle.gm_cells.specs.Cells.{AreByLabel, HasCellsOf, labels_but}
 
 -- ---- sets of labels
-
-pub has_but : (n i j : ℕ) → j ≤ n → j ≢ i → IsTrue (labels_but n i j)
-has_but n i j within apart = rw (le-leb j n within, ne_eqb j i apart) refl
 
 both : (a b : Bool) → IsTrue (a && b) → IsTrue a × IsTrue b
 both true b h = (refl, h)
@@ -36,12 +33,6 @@ module _ (map : Map) (mask : Mask) (top label : ℕ) (whole : top ≡ dimension 
 
   pub cells_counted : (count : ℕ) → HasOrbits (IsDart map) map.alpha (has mask) count → HasCellsOf map label count
   cells_counted = orbits_alike (IsDart map) map.alpha (has mask) (labels_but (dimension map) label) (λ i h. sym (leaves i) ∙ h) (λ i h. leaves i ∙ h)
-
--- a label above the dimension leaves none out
-pub components_counted : (map : Map) (mask : Mask) (top : ℕ) → top ≡ dimension map → ((i : ℕ) → has mask i ≡ labels_but top (top + 1) i) → (count : ℕ) → HasOrbits (IsDart map) map.alpha (has mask) count → HasOrbits (IsDart map) map.alpha (labels_to (dimension map)) count
-components_counted map mask top whole same = orbits_alike (IsDart map) map.alpha (has mask) (labels_to (dimension map))
-    (λ i h. le-leb i (dimension map) (within map mask top (top + 1) whole same i h))
-    (λ i h. let within = leb-true i (dimension map) h in same i ∙ has_but top (top + 1) i (omega arith) (λ e. omega arith))
 
 -- ---- numbers by label
 

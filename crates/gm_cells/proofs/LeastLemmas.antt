@@ -9,7 +9,7 @@ use Rattle.gm_arena.specs.Lawful.{IsLawful}
 use Rattle.gm_arena.proofs.MapLemmas.{name_at-is, IsLiveName-name_at, slot_of_name}
 use Rattle.gm_cells.specs.Colours.{IsLower, IsOddWalk, IsLeastOddWalk, IsFirstOdd}
 use Rattle.gm_cells.specs.Search.{mark_of, Leads, IsMarkedBy}
-use Rattle.gm_cells.specs.Settled.{IsOddStart, IsNearer, IsFirstNearer}
+use Rattle.gm_cells.specs.OddStart.{IsOddStart, IsNearer, IsFirstNearer}
 use Rattle.gm_cells.proofs.SearchLemmas.{mark_parity}
 use Rattle.gm_cells.proofs.WalkLemmas.{step_back, no_colours}
 

@@ -23,7 +23,7 @@ place_tells : (s t k l : ℕ) → 2 * s + k % 2 ≡ 2 * t + l % 2 → (s ≡ t) 
 place_tells s t k l e = (omega arith, omega arith)
 
 -- the pairs before the next label
-before_next : (q i at label : ℕ) → IsPairBefore q i at (label + 1) → IsPairBefore q i at label ⊎ ((q ≡ at) × (i ≡ label))
+pub before_next : (q i at label : ℕ) → IsPairBefore q i at (label + 1) → IsPairBefore q i at label ⊎ ((q ≡ at) × (i ≡ label))
 before_next q i at label (inl h) = inl (inl h)
 before_next q i at label (inr h) = elim (cases_lt i label) [ inl k ↦ inl (inr (h.0, k)) | inr k ↦ inr (h.0, (let less = h.1 in omega arith)) ]
 

@@ -1,6 +1,8 @@
 -- A text that is written part by part.
-use Rattle.std.proofs.Common.{◌≡◌, ℕ, zero, suc, ◌+◌, ◌<◌, ◌≤◌, List, [], ◌∷◌, ◌++◌, Result, length, drop, get_or, refl, sym, ap, ◌∙◌, append_assoc, append-nil, arith}
+use Rattle.std.proofs.Common.{◌≡◌, ℕ, zero, suc, ◌+◌, ◌-◌, ◌^◌, ◌<◌, ◌≤◌, List, [], ◌∷◌, ◌++◌, Result, length, take, drop, set, get_or, refl, sym, ap, ◌∙◌, append_assoc, append-nil, arith}
 use Rattle.std.specs.Prelude.{OnOk, codes, decimal}
+use Rattle.std.proofs.lemmas.Fmt.{length-decimal-le}
+use Rattle.std.proofs.lemmas.List.{drop-drop, drop-set, drop_more}
 use Rattle.std.proofs.lemmas.Result.{on_ok_weaker}
 use Rattle.gm_text.proofs.Cuts.{IsSoFar}
 use Rattle.gm_cells.specs.CellsText.{listed}
@@ -19,19 +21,40 @@ three_parts result start one two end a b c e1 e2 h = on_ok_weaker result (λ e3.
 
 -- ---- numbers
 
--- the first of those that are left, and those behind it
-pub listed_more : (numbers : List ℕ) (k : ℕ) → k < length numbers → listed (drop k numbers) ≡ (codes " " ++ decimal (get_or numbers k 0)) ++ listed (drop (k + 1) numbers)
-listed_more [] k h = absurd (omega arith)
-listed_more (number ∷ numbers) zero h = refl
-listed_more (number ∷ numbers) (suc k) h =
-    let next : suc k + 1 ≡ suc (k + 1) = omega arith in
-    listed_more numbers k (omega (arith, h)) ∙ ap (λ m. (codes " " ++ decimal (get_or numbers k 0)) ++ listed (drop m (number ∷ numbers))) (sym next)
-
 none_left : (numbers : List ℕ) (k : ℕ) → length numbers ≤ k → listed (drop k numbers) ≡ []
 none_left [] zero h = refl
 none_left [] (suc k) h = refl
 none_left (number ∷ numbers) zero h = absurd (omega arith)
 none_left (number ∷ numbers) (suc k) h = none_left numbers k (omega (arith, h))
+
+-- those that are taken, and those behind them
+listed_taken : (numbers : List ℕ) (k : ℕ) → listed numbers ≡ listed (take k numbers) ++ listed (drop k numbers)
+listed_taken [] zero = refl
+listed_taken [] (suc k) = refl
+listed_taken (number ∷ numbers) zero = refl
+listed_taken (number ∷ numbers) (suc k) =
+    ap (λ xs. (codes " " ++ decimal number) ++ xs) (listed_taken numbers k) ∙ sym (append_assoc (codes " " ++ decimal number) (listed (take k numbers)) (listed (drop k numbers)))
+
+-- a part of those that are left, and those behind it
+pub listed_part : (numbers : List ℕ) (from to : ℕ) → from ≤ to → listed (drop from numbers) ≡ listed (take (to - from) (drop from numbers)) ++ listed (drop to numbers)
+listed_part numbers from to h =
+    let end : from + (to - from) ≡ to = omega (arith, h) in
+    listed_taken (drop from numbers) (to - from) ∙ ap (λ xs. listed (take (to - from) (drop from numbers)) ++ listed xs) (drop-drop (to - from) from numbers ∙ ap (λ k. drop k numbers) end)
+
+-- one number more before those that are written
+pub listed_before : (numbers : List ℕ) (left at start : ℕ) (old put : List ℕ) → 0 < left → left ≤ length numbers → 0 < start → start ≤ length put
+    → drop start put ≡ decimal (get_or numbers (left - 1) 0) ++ drop at old → drop at old ≡ listed (drop left numbers) → drop (start - 1) (set put (start - 1) 32) ≡ listed (drop (left - 1) numbers)
+listed_before numbers left at start old put some few inside within written before =
+    let again : left - 1 + 1 ≡ left = omega (arith, some) in
+    let behind : start - 1 + 1 ≡ start = omega (arith, inside) in
+    drop-set put (start - 1) 32 (omega (arith, inside, within))
+    ∙ ap (λ k. 32 ∷ drop k put) behind
+    ∙ ap (λ (xs : List ℕ). 32 ∷ xs) (written ∙ ap (λ xs. decimal (get_or numbers (left - 1) 0) ++ xs) before)
+    ∙ sym (ap listed (drop_more numbers (left - 1) 0 (omega (arith, some, few)) ∙ ap (λ k. get_or numbers (left - 1) 0 ∷ drop k numbers) again))
+
+-- a number has ten digits at most
+pub short_number : (n : ℕ) → n < 2 ^ 32 → length (decimal n) ≤ 10
+short_number n small = length-decimal-le 10 n (omega arith) (omega (arith, small)) (omega (arith, small))
 
 pub written_all : (before : List ℕ) (numbers : List ℕ) (k : ℕ) (after : List ℕ) → length numbers ≤ k → IsSoFar before (listed numbers) after (listed (drop k numbers)) → after ≡ before ++ listed numbers
 written_all before numbers k after end so_far =

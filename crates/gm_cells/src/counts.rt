@@ -2,11 +2,16 @@
 
 ghost use Rattle.std.specs.Prelude.{◌+◌, ◌*◌, ◌≤◌, IfOk};
 ghost use Rattle.gm_arena.specs.ArenaAsMap.{as_map};
-ghost use Rattle.gm_cells.specs.Cells.{AreCounts, HasCells};
-ghost use Rattle.gm_model.specs.Maps.{IsGeneralised};
+ghost use Rattle.gm_cells.specs.Cells.{AreCounts, HasCells, labels_to};
+ghost use Rattle.gm_cells.specs.Colours.{IsOrientation};
+ghost use Rattle.gm_model.specs.Maps.{IsDart, IsGeneralised};
+ghost use Rattle.gm_model.specs.Orbits.{HasOrbits};
 
+use crate::colouring::orient_by;
+use crate::components::{Components, no_colours, paint_components};
 use crate::free::count_free;
 use crate::masks::mask_without;
+use crate::orientation::Orientation;
 use gm_arena::{Arena, Steps};
 use gm_model::{Items, OutOfMemory};
 use gm_walk::{Scratch, orbits};
@@ -36,18 +41,52 @@ pub fn count<L: Ledger>(
     ensures counts { IfOk result (AreCounts (as_map arena.now)) }
     ensures room { scratch.old.bound ≤ scratch.new.bound }
 {
+    let mut colours = no_colours(alloc, arena.bound())?;
+    let found = paint_components(alloc, arena, &mut colours, steps)?;
+    drop(colours);
+    count_with(alloc, arena, found, scratch, steps)
+}
+
+/// Counts, and tells whether the darts have two colours, as `count` and `orient` do. It goes through
+/// the components once for both.
+pub fn count_and_orient<L: Ledger>(
+    alloc: Global,
+    arena: &Arena,
+    scratch: &mut Scratch,
+    steps: &mut Steps<L>,
+) -> Result<(Counts, Orientation), OutOfMemory>
+    requires generalised { IsGeneralised (as_map arena.now) }
+    ensures counts { IfOk result (λ both. AreCounts (as_map arena.now) both.0) }
+    ensures orientation { IfOk result (λ both. IsOrientation (as_map arena.now) both.1) }
+    ensures room { scratch.old.bound ≤ scratch.new.bound }
+{
+    let mut colours = no_colours(alloc, arena.bound())?;
+    let found = paint_components(alloc, arena, &mut colours, steps)?;
+    let counts = count_with(alloc, arena, found, scratch, steps)?;
+    let orientation = orient_by(alloc, arena, &colours, found, steps)?;
+    Ok((counts, orientation))
+}
+
+/// The numbers of a map whose components were found.
+fn count_with<L: Ledger>(
+    alloc: Global,
+    arena: &Arena,
+    found: Components,
+    scratch: &mut Scratch,
+    steps: &mut Steps<L>,
+) -> Result<Counts, OutOfMemory>
+    requires generalised { IsGeneralised (as_map arena.now) }
+    requires components { HasOrbits (IsDart (as_map arena.now)) (as_map arena.now).alpha (labels_to arena.now.schema.dim) found.count }
+    ensures counts { IfOk result (AreCounts (as_map arena.now)) }
+    ensures room { scratch.old.bound ≤ scratch.new.bound }
+{
     let darts = arena.count();
     let cells = count_cells(alloc, arena, scratch, steps)?;
-    let top = arena.schema().dim.top();
-    // No label is above the dimension, so this mask leaves none out.
-    let all = mask_without(top, top + 1);
-    let components = orbits(alloc, arena, all, scratch, steps)?;
-    let names = arena.names(alloc, steps)?;
-    let free = count_free(alloc, arena, &names, steps)?;
+    let free = count_free(alloc, arena, steps)?;
     Ok(Counts {
         darts,
         cells: Items::new(cells),
-        components,
+        components: found.count,
         free: Items::new(free),
     })
 }

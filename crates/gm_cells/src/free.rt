@@ -1,12 +1,12 @@
 //! Counting the darts that have no neighbour along a label.
 
-ghost use Rattle.std.specs.Prelude.{◌≡◌, ◌≤◌, IfOk};
-ghost use Rattle.std.specs.FinMap.{keys};
+ghost use Rattle.std.specs.Prelude.{◌≡◌, ◌≢◌, ℕ, ◌+◌, ◌<◌, length, replicate, slice_index, IfOk};
 ghost use Rattle.gm_arena.specs.ArenaAsMap.{as_map};
 ghost use Rattle.gm_arena.specs.Lawful.{IsLawful};
-ghost use Rattle.gm_cells.specs.Cells.{HasFree, HasFreeDarts};
+ghost use Rattle.gm_cells.specs.Cells.{HasFreeDarts};
+ghost use Rattle.gm_cells.specs.Painted.{queued_at};
 
-use gm_arena::{Arena, Steps};
+use gm_arena::{Arena, Slot, Steps};
 use gm_model::OutOfMemory;
 use std::alloc::Global;
 use std::sync::ledger::Ledger;
@@ -15,33 +15,41 @@ use std::sync::ledger::Ledger;
 pub(crate) fn count_free<L: Ledger>(
     alloc: Global,
     arena: &Arena,
-    names: &[u32],
     steps: &mut Steps<L>,
 ) -> Result<Vec<u32>, OutOfMemory>
     requires lawful { IsLawful arena.now }
-    requires names { names.now ≡ keys arena.now.darts }
     ensures free { IfOk result (λ free. HasFreeDarts (as_map arena.now) free.items) }
 {
-    let mut free = Vec::new(alloc);
-    for label in 0..arena.schema().dim.top() + 1 {
-        free.push(count_free_along(arena, names, label, steps))?;
-    }
+    let mut free = vec![in alloc; 0u32; arena.schema().dim.top() as usize + 1]?;
+    add_darts(arena, &mut free, steps);
     Ok(free)
 }
 
-/// How many darts have no neighbour along the label.
-fn count_free_along<L: Ledger>(arena: &Arena, names: &[u32], label: u8, steps: &mut Steps<L>) -> u32
+/// Adds each dart at each label along which it has no neighbour.
+fn add_darts<L: Ledger>(arena: &Arena, free: &mut [u32], steps: &mut Steps<L>)
     requires lawful { IsLawful arena.now }
-    requires names { names.now ≡ keys arena.now.darts }
-    requires label { label ≤ arena.now.schema.dim }
-    ensures free { HasFree (as_map arena.now) label result }
+    requires none { free.old ≡ replicate (arena.now.schema.dim + 1) 0 }
+    ensures free { HasFreeDarts (as_map arena.now) free.new }
 {
-    let mut free = 0;
-    for name in names {
-        let slot = arena.slot_of(*name, steps).unwrap();
-        if arena.alpha(slot, label, steps) == slot {
-            free += 1;
+    let mut from = 0;
+    while let Some(slot) = arena.slot_from(from, steps) {
+        let row = arena.row(slot, steps);
+        add_dart(slot, row.alphas, free);
+        from = row.name + 1;
+    }
+}
+
+/// Adds one for each label along which the dart at the slot is its own neighbour.
+fn add_dart(slot: Slot, alphas: &[Slot], free: &mut [u32])
+    requires long { length alphas.now ≡ length free.old }
+    requires few { (label : ℕ) → slice_index free.old label < 4294967295 }
+    ensures own { (label : ℕ) → label < length alphas.now → queued_at alphas.now label ≡ slot.at → slice_index free.new label ≡ slice_index free.old label + 1 }
+    ensures other { (label : ℕ) → label < length alphas.now → queued_at alphas.now label ≢ slot.at → slice_index free.new label ≡ slice_index free.old label }
+    ensures long { length free.new ≡ length free.old }
+{
+    for (label, to) in alphas.iter().enumerate() {
+        if to.at == slot.at {
+            free[label] += 1;
         }
     }
-    free
 }

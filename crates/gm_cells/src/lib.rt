@@ -5,6 +5,7 @@
 #![tactic(auto)]
 
 mod colouring;
+mod components;
 mod counts;
 mod existence;
 mod free;
@@ -12,11 +13,12 @@ mod laws;
 mod masks;
 mod odd_walk;
 mod orientation;
+mod painting;
 mod printing;
 mod search;
 
 pub use colouring::orient;
-pub use counts::{Counts, count, count_cells};
+pub use counts::{Counts, count, count_and_orient, count_cells};
 pub use existence::{maps_have_counts, maps_have_orientations};
 pub use laws::{
     never_two_colours_and_an_odd_walk, one_orientation_at_most, two_colours_or_an_odd_walk,

@@ -4,7 +4,7 @@ ghost use Rattle.std.specs.Prelude.{◌≡◌, ℕ, ◌*◌, ◌<◌, length, If
 ghost use Rattle.gm_arena.specs.ArenaAsMap.{as_map};
 ghost use Rattle.gm_arena.specs.ArenaMap.{IsLiveSlot, alpha, name_at};
 ghost use Rattle.gm_cells.specs.Colours.{IsLeastOddWalk};
-ghost use Rattle.gm_cells.specs.Settled.{IsFirstNearer, IsNearer, IsOddStart};
+ghost use Rattle.gm_cells.specs.OddStart.{IsFirstNearer, IsNearer, IsOddStart};
 ghost use Rattle.gm_model.specs.Maps.{IsGeneralised};
 
 use gm_arena::{Arena, Slot, Steps};

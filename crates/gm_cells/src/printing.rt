@@ -1,6 +1,6 @@
 //! The text of the command that counts cells and orients a map.
 
-ghost use Rattle.std.specs.Prelude.{◌≡◌, ◌++◌, IfOk, OnErr, OnOk, decimal, codes};
+ghost use Rattle.std.specs.Prelude.{◌≡◌, ◌*◌, ◌≤◌, ◌++◌, length, drop, IfOk, OnErr, OnOk, decimal, codes};
 ghost use Rattle.gm_cells.specs.CellsText.{numbered, listed, counts_text, orientation_text};
 ghost use Rattle.gm_text.specs.SchemaPrinting.{IsCut};
 
@@ -8,7 +8,20 @@ use crate::counts::Counts;
 use crate::orientation::Orientation;
 use gm_model::OutOfMemory;
 use gm_text::Text;
+use itoa::write_digits;
 use std::alloc::Global;
+
+/// No more bytes are a number with a space before it.
+const NUMBER: usize = 11;
+
+/// No more bytes are the lines but for the numbers of the last.
+const OTHER_LINES: usize = 1024;
+
+/// So many numbers are composed before they are appended.
+const AT_ONCE: usize = 64;
+
+/// No more bytes are the numbers that are appended at once.
+const PART: usize = AT_ONCE * NUMBER;
 
 /// The lines of the numbers, and those of the orientation.
 pub fn print_cells(
@@ -18,10 +31,19 @@ pub fn print_cells(
 ) -> Result<Vec<u8>, OutOfMemory>
     ensures { IfOk result (λ text. text.items ≡ counts_text counts.now ++ orientation_text orientation.now) }
 {
-    let mut text = Text::new(alloc);
+    let mut text = Text::in_place_of(Vec::new(alloc), room_for(orientation))?;
     put_counts(&mut text, counts)?;
     put_orientation(&mut text, orientation)?;
     Ok(text.into_bytes())
+}
+
+/// As many bytes as the lines take, or more.
+fn room_for(orientation: &Orientation) -> usize {
+    let numbers = match orientation {
+        Orientation::Two { first } => first.as_slice().len(),
+        Orientation::Odd { labels, .. } => labels.as_slice().len(),
+    };
+    numbers.saturating_mul(NUMBER).saturating_add(OTHER_LINES)
 }
 
 fn put_counts(text: &mut Text, counts: &Counts) -> Result<(), OutOfMemory>
@@ -95,10 +117,41 @@ pub fn put_numbers(text: &mut Text, numbers: &[u32]) -> Result<(), OutOfMemory>
     ensures ok { OnOk result (text.new ≡ text.old ++ listed numbers.now) }
     ensures err { OnErr result (IsCut text.old (listed numbers.now) text.new) }
 {
-    for number in numbers {
-        put_spaced(text, u64::from(*number))?;
+    let mut part = [0; PART];
+    let mut from = 0;
+    while from < numbers.len() {
+        let to = numbers.len().min(from + AT_ONCE);
+        let start = write_numbers(&mut part, &numbers[from..to]);
+        put_from(text, &part, start)?;
+        from = to;
     }
     Ok(())
+}
+
+/// Writes the numbers at the end of the bytes, one space before each. The answer is where they begin.
+fn write_numbers(bytes: &mut [u8], numbers: &[u32]) -> usize
+    requires room { 11 * length numbers.now ≤ length bytes.old }
+    ensures within { result ≤ length bytes.new }
+    ensures written { drop result bytes.new ≡ listed numbers.now }
+    ensures long { length bytes.new ≡ length bytes.old }
+{
+    let mut at = bytes.len();
+    let mut left = numbers.len();
+    while left > 0 {
+        left -= 1;
+        at = write_digits(u64::from(numbers[left]), bytes, at) - 1;
+        bytes[at] = b' ';
+    }
+    at
+}
+
+/// Appends the bytes from a place on.
+fn put_from(text: &mut Text, bytes: &[u8], start: usize) -> Result<(), OutOfMemory>
+    requires { start ≤ length bytes.now }
+    ensures ok { OnOk result (text.new ≡ text.old ++ drop start bytes.now) }
+    ensures err { OnErr result (text.new ≡ text.old) }
+{
+    text.put(&bytes[start..])
 }
 
 /// The labels, one space before each.
@@ -106,16 +159,8 @@ fn put_labels(text: &mut Text, labels: &[u8]) -> Result<(), OutOfMemory>
     ensures { OnOk result (text.new ≡ text.old ++ listed labels.now) }
 {
     for label in labels {
-        put_spaced(text, u64::from(*label))?;
+        text.put(b" ")?;
+        text.number(u64::from(*label))?;
     }
     Ok(())
-}
-
-/// A number and a space before it.
-fn put_spaced(text: &mut Text, number: u64) -> Result<(), OutOfMemory>
-    ensures ok { OnOk result (text.new ≡ text.old ++ (codes " " ++ decimal number)) }
-    ensures err { OnErr result (IsCut text.old (codes " " ++ decimal number) text.new) }
-{
-    text.put(b" ")?;
-    text.number(number)
 }

@@ -1,6 +1,7 @@
 ghost use Rattle.std.specs.Prelude.{ℕ, IfOk, List};
 ghost use Rattle.gm_arena.specs.ArenaAsMap.{as_map};
 ghost use Rattle.gm_cells.specs.Cells.{AreCounts};
+ghost use Rattle.gm_cells.specs.Colours.{IsOrientation};
 ghost use Rattle.gm_mapfile.specs.MapText.{MapText};
 ghost use Rattle.gm_mapfile.specs.Rows.{listed_of};
 ghost use Rattle.gm_mapfile.specs.declared.version.MapVersion.{MapVersion};
@@ -12,7 +13,7 @@ use crate::map::refused;
 use crate::refusal::NoText;
 use crate::reply::{Reply, reply_within_limit};
 use gm_arena::{Arena, Steps};
-use gm_cells::{Counts, count, orient, print_cells};
+use gm_cells::{Counts, Orientation, count_and_orient, print_cells};
 use gm_mapfile::take_map;
 use gm_model::{MOST_DARTS, OutOfMemory};
 use gm_walk::Scratch;
@@ -54,19 +55,20 @@ fn text_of<L: Ledger>(
     requires { IsGeneralised (as_map arena.now) }
     ensures { IfOk result (λ text. TellsCells (as_map arena.now) text.items) }
 {
-    let counts = counts_of(alloc, arena, steps)?;
-    let orientation = orient(alloc, arena, steps)?;
-    print_cells(alloc, &counts, &orientation)
+    let found = found_in(alloc, arena, steps)?;
+    print_cells(alloc, &found.0, &found.1)
 }
 
-fn counts_of<L: Ledger>(
+/// The numbers and the orientation, in a scratch that is let go here.
+fn found_in<L: Ledger>(
     alloc: Global,
     arena: &Arena,
     steps: &mut Steps<L>,
-) -> Result<Counts, OutOfMemory>
+) -> Result<(Counts, Orientation), OutOfMemory>
     requires { IsGeneralised (as_map arena.now) }
-    ensures { IfOk result (AreCounts (as_map arena.now)) }
+    ensures counts { IfOk result (λ both. AreCounts (as_map arena.now) both.0) }
+    ensures orientation { IfOk result (λ both. IsOrientation (as_map arena.now) both.1) }
 {
     let mut scratch = Scratch::new(alloc);
-    count(alloc, arena, &mut scratch, steps)
+    count_and_orient(alloc, arena, &mut scratch, steps)
 }

@@ -1,62 +1,64 @@
-use Rattle.std.proofs.Common.{◌≡◌, ◌+◌, ℕ, true, get_or, sym, ap, subst, ◌∙◌, arith}
-use Rattle.std.proofs.lemmas.Bool.{false≢true}
-use Rattle.gm_arena.specs.ArenaMap.{IsLiveName}
-use Rattle.gm_walk.proofs.CountLemmas.{has_slot, name_of_slot}
-use Rattle.gm_model.proofs.Exits.{unless_ok}
-use Rattle.gm_cells.proofs.SettledLemmas.{AreListed, colour_of, colour_true, colour_false, listed_yes, listed_no, listed_none, first_colour_is, even_is}
+use Rattle.std.proofs.Common.{◌+◌, ◌≤◌, sym, ap, subst, ◌∙◌, arith}
+use Rattle.gm_arena.proofs.MapLemmas.{name_below}
+use Rattle.gm_cells.specs.Ascending.{IsAscendingOf}
+use Rattle.gm_cells.proofs.Ascending.{none_below, gap, next_has, next_not}
+use Rattle.gm_cells.proofs.ColouredLemmas.{IsOfFirst, has_first, has_other, first_colour_is}
+use Rattle.gm_cells.proofs.InOrder.{name_up, none_between, below_all}
 use Rattle.gm_cells.proofs.colouring.first_colour.Goals as goal
-use Rattle.gm_cells.proofs.colouring.first_colour.Goals.{then-marks-slot-ne0+in_ok-push, else-marks-slot-ne0}
+use Rattle.gm_cells.proofs.colouring.first_colour.Goals.{then-colours-slot-eq-FIRST+in_ok-push, else-colours-slot-eq-FIRST}
 
-pub unwrap-slot-requires : goal.unwrap-slot-requires
-unwrap-slot-requires g c = has_slot (λ d. ℕ) c.args.arena.now c.args.names.now c.requires.names c.loop-name.name-index 0 c.slot_of.result c.loop-name-test.true c.slot_of.ensures.slot
+pub loop-slot-init : goal.loop-slot-init
+loop-slot-init g c = record {
+  low = omega arith;
+  listed = λ lawful gmap. subst (IsAscendingOf (IsOfFirst c.args.arena.now lawful gmap c.args.colours.now) 0) (sym c.new-first.ensures.items) (none_below (IsOfFirst c.args.arena.now lawful gmap c.args.colours.now));
+}
 
-pub loop-name-preserved : goal.loop-name-preserved
-loop-name-preserved g c = λ lawful gmap.
+pub overflow_add-from : goal.overflow_add-from
+overflow_add-from g c =
+    let lawful = c.bound.ensures.lawful in
+    omega (arith, name_below c.args.arena.now c.name_of-name.result lawful (lawful.live c.in-Some.slot.at c.name_of-name.result c.name_of-name.ensures.name), lawful.few_names)
+
+pub loop-slot-smaller : goal.loop-slot-smaller
+loop-slot-smaller g c =
     let m = c.args.arena.now in
-    let names = c.args.names.now in
-    let p = c.loop-name.name-index in
-    let marks = c.args.marks.now in
-    let slot = c.unwrap-slot.result.at in
-    let old = c.loop-name.invariant lawful gmap in
-    let at = name_of_slot m (get_or names p 0) c.slot_of.result c.unwrap-slot.result c.slot_of.ensures.slot c.unwrap-slot.ensures in
-    let IsOne : ℕ → Type 0 = λ d. IsLiveName m d × (colour_of m lawful gmap marks d ≡ true) in
-    elim c.if-marks-slot-ne0.branch [
-      | then-marks-slot-ne0+in_ok-push w ↦ subst (AreListed IsOne names (p + 1)) (sym (ap (λ v. v.items) w.first-is ∙ w.in_ok-push.ensures.items))
-          (listed_yes IsOne m names c.requires.names p c.loop-name.first.items c.loop-name-test.true old (lawful.live slot _ at, colour_true m lawful gmap marks slot (get_or names p 0) at (λ e. w.if-marks-slot-ne0.true (sym (even_is marks slot) ∙ e))))
-      | else-marks-slot-ne0 w ↦ subst (AreListed IsOne names (p + 1)) (sym (ap (λ v. v.items) w.first-is))
-          (listed_no IsOne m names c.requires.names p c.loop-name.first.items c.loop-name-test.true old (λ one. false≢true (sym (colour_false m lawful gmap marks slot (get_or names p 0) at (even_is marks slot ∙ w.if-marks-slot-ne0.false)) ∙ one.1)))
+    let lawful = c.bound.ensures.lawful in
+    let low = name_up m c.loop-slot.from c.in-Some.slot.at c.name_of-name.result c.name_of-name.ensures.name c.in-Some.ensures.slot in
+    omega (arith, low, name_below m c.name_of-name.result lawful (lawful.live c.in-Some.slot.at c.name_of-name.result c.name_of-name.ensures.name))
+
+pub loop-slot-preserved : goal.loop-slot-preserved
+loop-slot-preserved g c =
+    let m = c.args.arena.now in
+    let colours = c.args.colours.now in
+    let from = c.loop-slot.from in
+    let slot = c.in-Some.slot.at in
+    let name = c.name_of-name.result in
+    let at = c.name_of-name.ensures.name in
+    let up = name_up m from slot name at c.in-Some.ensures.slot in
+    let below : name + 1 ≤ m.next = (let lawful = c.bound.ensures.lawful in omega (arith, name_below m name lawful (lawful.live slot name at))) in
+    elim c.if-colours-slot-eq-FIRST.branch [
+      | then-colours-slot-eq-FIRST+in_ok-push w ↦ record {
+        low = below;
+        listed = λ lawful gmap.
+            let P = IsOfFirst m lawful gmap colours in
+            subst (IsAscendingOf P (name + 1)) (sym (ap (λ v. v.items) w.first-is ∙ w.in_ok-push.ensures.items))
+            (next_has P from name c.loop-slot.first.items up (λ d low high one. none_between m from slot name at c.in-Some.ensures.slot d low high one.0) (lawful.live slot name at, has_first m lawful gmap colours slot name at w.if-colours-slot-eq-FIRST.true) (c.loop-slot.invariant.listed lawful gmap));
+      }
+      | else-colours-slot-eq-FIRST w ↦ record {
+        low = below;
+        listed = λ lawful gmap.
+            let P = IsOfFirst m lawful gmap colours in
+            subst (IsAscendingOf P (name + 1)) (sym (ap (λ v. v.items) w.first-is))
+            (next_not P from name c.loop-slot.first.items up (λ d low high one. none_between m from slot name at c.in-Some.ensures.slot d low high one.0) (λ one. has_other m lawful gmap colours slot name at w.if-colours-slot-eq-FIRST.false one.1) (c.loop-slot.invariant.listed lawful gmap));
+      }
     ]
 
 pub returns : goal.returns
-returns g c = record {
-  first = first_colour_is c.args.arena.now c.bound.ensures.lawful c.requires.generalised c.args.names.now c.requires.names c.args.marks.now c.requires.settled c.loop-name.name-index c.loop-name.first.items (omega (arith, c.loop-name-test.false)) (c.loop-name.invariant c.bound.ensures.lawful c.requires.generalised);
-}
-
-pub loop-name-init : goal.loop-name-init
-loop-name-init g c = λ lawful gmap. subst (AreListed (λ d. IsLiveName c.args.arena.now d × (colour_of c.args.arena.now lawful gmap c.args.marks.now d ≡ true)) c.args.names.now 0) (sym c.new-first.ensures.items) (listed_none _ c.args.names.now)
-
-pub overflow_mul-slot : goal.overflow_mul-slot
-overflow_mul-slot g c =
-    let at = name_of_slot c.args.arena.now (get_or c.args.names.now c.loop-name.name-index 0) c.slot_of.result c.unwrap-slot.result c.slot_of.ensures.slot c.unwrap-slot.ensures in
-    omega (arith, c.bound.ensures.lawful.below_bound _ _ at, c.requires.few)
-
-pub overflow_cast-slot : goal.overflow_cast-slot
-overflow_cast-slot g c =
-    let at = name_of_slot c.args.arena.now (get_or c.args.names.now c.loop-name.name-index 0) c.slot_of.result c.unwrap-slot.result c.slot_of.ensures.slot c.unwrap-slot.ensures in
-    omega (arith, c.bound.ensures.lawful.below_bound _ _ at, c.requires.few)
-
-pub offset_bounds-marks-slot : goal.offset_bounds-marks-slot
-offset_bounds-marks-slot g c =
-    let at = name_of_slot c.args.arena.now (get_or c.args.names.now c.loop-name.name-index 0) c.slot_of.result c.unwrap-slot.result c.slot_of.ensures.slot c.unwrap-slot.ensures in
-    omega (arith, c.bound.ensures.lawful.below_bound _ _ at, c.requires.few)
-
-pub bounds-marks-slot : goal.bounds-marks-slot
-bounds-marks-slot g c =
-    let at = name_of_slot c.args.arena.now (get_or c.args.names.now c.loop-name.name-index 0) c.slot_of.result c.unwrap-slot.result c.slot_of.ensures.slot c.unwrap-slot.ensures in
-    omega (arith, c.bound.ensures.lawful.below_bound _ _ at, c.requires.long)
-
-pub returns-in_err-push : goal.returns-in_err-push
-returns-in_err-push g c = record { first = unless_ok _ c.from_residual.result c.from_residual.ensures.0 }
-
-pub loop-name-smaller : goal.loop-name-smaller
-loop-name-smaller g c = omega (arith, c.loop-name-test.true)
+returns g c =
+    let m = c.args.arena.now in
+    let lawful = c.bound.ensures.lawful in
+    let gmap = c.requires.generalised in
+    let P = IsOfFirst m lawful gmap c.args.colours.now in
+    record {
+      first = first_colour_is m lawful gmap c.args.colours.now c.args.found c.requires.painted c.requires.fits c.loop-slot.first.items
+          (gap P c.loop-slot.from m.next c.loop-slot.first.items c.loop-slot.invariant.low (λ d low high one. (let b = below_all m c.loop-slot.from c.in_default.ensures.slot d one.0 in omega (arith, b, low))) (c.loop-slot.invariant.listed lawful gmap));
+    }

@@ -1,26 +1,9 @@
--- What the marks of several searches say of a map. No public clause cites this module.
-use Rattle.std.specs.Prelude.{◌≡◌, ◌≢◌, ℕ, ◌+◌, ◌-◌, ◌<◌, ◌≤◌, List, length, get_or}
+-- What the marks of a search say of the component in which an odd walk is looked for. No public clause cites this module.
+use Rattle.std.specs.Prelude.{◌≡◌, ◌≢◌, ℕ, ◌-◌, ◌<◌, ◌≤◌, List, length}
 use Rattle.gm_arena.specs.ArenaAsMap.{as_map}
 use Rattle.gm_arena.specs.ArenaMap.{ArenaMap, IsAt, IsLiveSlot, name_at, alpha}
 use Rattle.gm_cells.specs.Colours.{IsFirstDart, HasColoursAt}
 use Rattle.gm_cells.specs.Search.{mark_of, Leads, IsMarkedBy, IsReachedBy}
-
--- a walk from the dart to the least dart of its component, which has a mark of even length
-pub record HasMarkedLead (m : ArenaMap) (marks : List ℕ) (slot : ℕ) : Type 0 where
-  pub lead : ℕ
-  pub least : IsFirstDart (as_map m) lead
-  pub at : ℕ
-  pub is_at : IsAt m at lead
-  pub mark : mark_of marks at 0 ≢ 0
-  pub labels : List ℕ
-  pub leads : Leads m lead labels (name_at m slot)
-
--- the components of the first darts were searched, and have two colours: one parity of marks
-pub record IsSettled (m : ArenaMap) (names : List ℕ) (p : ℕ) (marks : List ℕ) : Type 0 where
-  pub done : (q slot : ℕ) → q < p → IsAt m slot (get_or names q 0) → (k : ℕ) × (mark_of marks slot k ≢ 0)
-  pub step : (slot to k i : ℕ) → IsLiveSlot m slot → mark_of marks slot k ≢ 0 → i ≤ m.schema.dim → alpha m i (name_at m slot) ≢ name_at m slot → IsAt m to (alpha m i (name_at m slot)) → mark_of marks to (k + 1) ≢ 0
-  pub once : (slot k : ℕ) → IsLiveSlot m slot → mark_of marks slot k ≢ 0 → mark_of marks slot (k + 1) ≡ 0
-  pub led : (slot k : ℕ) → IsLiveSlot m slot → mark_of marks slot k ≢ 0 → HasMarkedLead m marks slot
 
 -- the dart at the slot is the least of the first component with an odd walk, and the marks of this component are distances
 pub record IsOddStart (m : ArenaMap) (slot : ℕ) (marks : List ℕ) : Type 0 where
