@@ -9,6 +9,7 @@ ghost use Rattle.gm_model.specs.Rules.{has_word};
 ghost use Rattle.gm_theory.specs.Theorem.{Unfolded};
 ghost use Rattle.gm_pending.specs.declared.deciding_instance.DecidingInstance.{DecidingInstance};
 ghost use Rattle.gm_pending.specs.declared.marks.Mark.{Mark};
+ghost use Rattle.gm_pending.specs.KeptLabels.{AreKeptLabels};
 ghost use Rattle.gm_pending.specs.Marks.{key_of, HasKey};
 ghost use Rattle.gm_pending.specs.Reached.{AreReached, AreResultDarts, AreSomeReached, IsClosed, IsGrown, IsSpreadTo, IsFollowedTo, IsFollowed, IsDecidedUpTo, IsAlwaysOneOrbit, IsUnmarked, AreMarkedTo, ungiven};
 ghost use Rattle.gm_pending.specs.Results.{IsPrepared, AreDecidingInstances, IsAsked, IsResultDart, IsUnfoldedIn, IsWithinReach, instances_of, with_instances, name_of, rule_in};
@@ -20,7 +21,7 @@ use crate::lookup::Lookup;
 use crate::marks::{Mark, Marks};
 use crate::pending::Pending;
 use gm_arena::Steps;
-use gm_model::{Embed, OutOfMemory};
+use gm_model::{Embed, Mask, OutOfMemory};
 use std::sync::ledger::Ledger;
 
 /// So many instances are looked through one after another, since that is faster than any look-up.
@@ -250,11 +251,12 @@ impl Pending<'_, '_> {
     {
         // The application tells here what its type keeps.
         prove!(self.labels() <= 8);
+        let kept = self.kept_labels();
         let mut next = marks.len();
         marks.mark(at, index)?;
         while next < marks.len() {
             let from = marks.get(next);
-            self.spread(from, embed, declared, marks, steps)?;
+            self.spread(from, kept, embed, declared, marks, steps)?;
             next += 1;
         }
         Ok(())
@@ -264,6 +266,7 @@ impl Pending<'_, '_> {
     fn spread<L: Ledger>(
         &self,
         from: Mark,
+        kept: Mask,
         embed: u8,
         declared: &Embed,
         marks: &mut Marks,
@@ -272,6 +275,7 @@ impl Pending<'_, '_> {
         requires embed { IsEmbedAt self.now.map.schema embed declared.now }
         requires darts { AreResultDarts self.now marks.old }
         requires from { Contains marks.old from }
+        requires kept { AreKeptLabels self.now kept }
         ensures darts { AreResultDarts self.now marks.new }
         ensures followed { OnOk result (IsFollowedTo self.now declared.now from marks.old marks.new (self.now.map.schema.dim + 1)) }
         ensures grown { IsFollowed self.now declared.now from marks.old marks.new }
@@ -281,7 +285,7 @@ impl Pending<'_, '_> {
     {
         for label in 0..self.labels() {
             if declared.mask.has(label) {
-                let to = self.alpha(from.at, label, steps);
+                let to = self.neighbour(from.at, label, kept.has(label), steps);
                 marks.mark(to, from.instance)?;
             }
         }

@@ -4,7 +4,7 @@ use crate::at::At;
 use crate::decided_orbits::{OrbitsByEmbed, no_orbits};
 use crate::lookup::{Lookup, instance_at};
 use gm_arena::{Arena, Slot, Steps};
-use gm_model::{MOST_DARTS, OutOfMemory, Side, Step};
+use gm_model::{MOST_DARTS, Mask, OutOfMemory, Side, Step};
 use gm_plan::{Instances, Plan};
 use std::alloc::Global;
 use std::marker::Model;
@@ -46,9 +46,8 @@ impl<'a, 'm> Pending<'a, 'm> {
     ghost use Rattle.gm_model.specs.Rules.{rule_of};
     ghost use Rattle.gm_model.specs.Unfolding.{IsArcAfter, IsMadeArc};
     ghost use Rattle.gm_arena.specs.ArenaAsMap.{as_map};
-    ghost use Rattle.gm_model.specs.declared.step.Step.TheVariants.{Absent};
-    ghost use Rattle.gm_plan.specs.Changes.{made_step};
     ghost use Rattle.gm_plan.specs.InArena.{AreMatched, slot_number};
+    ghost use Rattle.gm_pending.specs.KeptLabels.{KeepsArcs, AreKeptLabels};
     ghost use Rattle.gm_pending.specs.Lookup.{IsWithin, IsAtSlot};
     ghost use Rattle.gm_pending.specs.Results.{IsPrepared, pending_of, scene_in, rule_in, name_of, IsResultDart, IsRightInstance};
 
@@ -89,8 +88,28 @@ impl<'a, 'm> Pending<'a, 'm> {
         ensures cost { steps.new ≤ steps.old + 1 }
         ensures least { steps.old ≤ steps.new }
     {
-        // Where each arc of a right step is there already, no dart is looked up.
-        if self.keeps_arcs(label) {
+        self.neighbour(at, label, self.keeps_arcs(label), steps)
+    }
+
+    /// The neighbour along a label, where `kept` tells that each arc of a right step at the label is
+    /// there in the old map.
+    pub(crate) fn neighbour<L: Ledger>(
+        &self,
+        at: At,
+        label: u8,
+        kept: bool,
+        steps: &mut Steps<L>,
+    ) -> At
+        requires dart { IsResultDart self.now at }
+        requires label { label ≤ self.now.map.schema.dim }
+        requires kept { IsTrue kept → KeepsArcs self.now label }
+        ensures arc { IsArcAfter (scene_in self.now) (name_of self.now at) label (name_of self.now result) }
+        ensures dart { IsResultDart self.now result }
+        ensures cost { steps.new ≤ steps.old + 1 }
+        ensures least { steps.old ≤ steps.new }
+    {
+        // An old dart isn't looked up then.
+        if kept {
             if let At::Old(slot) = at {
                 return At::Old(self.arena.alpha(slot, label, steps));
             }
@@ -102,6 +121,19 @@ impl<'a, 'm> Pending<'a, 'm> {
             At::Old(slot) => At::Old(self.arena.alpha(slot, label, steps)),
             At::New { .. } => unreachable!(),
         }
+    }
+
+    /// The labels at which each arc of a right step is there in the old map.
+    pub(crate) fn kept_labels(&self) -> Mask
+        ensures { AreKeptLabels self.now result }
+    {
+        let mut bits = 0;
+        for label in 0..self.labels() {
+            if self.keeps_arcs(label) {
+                bits |= 1 << label;
+            }
+        }
+        Mask { bits }
     }
 
     /// Whether the rule makes arcs that the old map doesn't have.
@@ -119,7 +151,7 @@ impl<'a, 'm> Pending<'a, 'm> {
     /// Whether each arc of a right step at the label is there in the old map.
     fn keeps_arcs(&self, label: u8) -> bool
         requires { label ≤ self.now.map.schema.dim }
-        ensures { IsTrue result → (x : ℕ) → x < length (rule_in self.now).nodes → made_step (rule_in self.now) x label ≡ Absent }
+        ensures { IsTrue result → KeepsArcs self.now label }
     {
         for node in 0..self.nodes() {
             match self.plan.made_step(node, label) {
