@@ -44,7 +44,7 @@ module _ (app : PendingOf) (prepared : IsPrepared app) where
 
   -- darts of the result with one name have one key
   pub same_key : (a b : At) → IsResultDart app a → IsResultDart app b → name_of app a ≡ name_of app b → key_of a ≡ key_of b
-  same_key (Old s) (Old t) d d' e = ap (λ n. n * 512) (same_slot app prepared s.at t.at d.0 d'.0 e)
+  same_key (Old s) (Old t) d d' e = ap (λ n. n * 2) (same_slot app prepared s.at t.at d.0 d'.0 e)
   same_key (Old s) (New y q) d d' e = never_both s.at y q d d' e
   same_key (New x p) (Old t) d d' e = never_both t.at x p d' d (sym e)
   same_key (New x p) (New y q) d d' e =

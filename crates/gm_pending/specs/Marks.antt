@@ -1,5 +1,6 @@
 -- How reached darts are kept. No public clause cites this module.
-use Rattle.std.specs.Prelude.{◌≡◌, ◌≢◌, ℕ, ◌+◌, ◌*◌, ◌<◌, ◌⊎◌, List, [], ◌∷◌, ◌++◌, nat_eq, Option, Some, IfSome, slice_get}
+use Rattle.std.specs.Prelude.{◌≡◌, ◌≢◌, ℕ, ◌+◌, ◌*◌, ◌/◌, ◌%◌, ◌<◌, ◌⊎◌, List, [], ◌∷◌, ◌++◌, nat_eq, Option, Some, IfSome, slice_get}
+use Rattle.std.specs.Int.{bit_at}
 use Rattle.std.specs.List.{Contains}
 use Rattle.std.specs.declared.hash.BuildHasherDefault.{BuildHasherDefault}
 use Rattle.std.specs.declared.hash.FoldHasher.{FoldHasher}
@@ -10,8 +11,12 @@ use Rattle.gm_pending.specs.declared.marks.Mark.{Mark}
 
 -- the number of a dart
 abbrev pub key_of : At → ℕ
-key_of (Old slot) = slot.at * 512
-key_of (New x p) = p * 512 + x + 1
+key_of (Old slot) = slot.at * 2
+key_of (New x p) = p * 64 + x * 2 + 1
+
+-- the bit, of 64, that stands for the dart of a key; others may have the same one
+abbrev pub bit_of : ℕ → ℕ
+bit_of key = key / 2 % 64
 
 abbrev pub reached_by : At → ℕ → Mark
 reached_by at k = record { at = at; instance = k; key = key_of at }
@@ -44,8 +49,13 @@ pub record IsIndex (reached : List Mark) (by_key : ByKey) : Type 0 where
   pub marked : (entry : Mark) → Contains reached entry → get nat_eq by_key (key_of entry.at) ≡ Some entry.instance
   pub only : (key k : ℕ) → get nat_eq by_key key ≡ Some k → IsMarkedBy reached key k
 
+-- the bit of each dart is set
+abbrev pub AreSeen : List Mark → ℕ → Type 0
+AreSeen reached bits = (entry : Mark) → Contains reached entry → bit_at bits (bit_of (key_of entry.at)) ≡ 1
+
 -- each key is its dart's, and comes once; and where there is a map, it has all of them
-pub record AreMarked (reached : List Mark) (by_key : Option ByKey) : Type 0 where
+pub record AreMarked (reached : List Mark) (by_key : Option ByKey) (bits : ℕ) : Type 0 where
   pub keyed : AreKeyed reached
   pub distinct : HasDistinctKeys reached
   pub indexed : IfSome by_key (IsIndex reached)
+  pub seen : AreSeen reached bits

@@ -9,7 +9,7 @@ ghost use Rattle.gm_model.specs.Rules.{has_word};
 ghost use Rattle.gm_theory.specs.Theorem.{Unfolded};
 ghost use Rattle.gm_pending.specs.declared.deciding_instance.DecidingInstance.{DecidingInstance};
 ghost use Rattle.gm_pending.specs.declared.marks.Mark.{Mark};
-ghost use Rattle.gm_pending.specs.KeptLabels.{AreKeptLabels};
+ghost use Rattle.gm_pending.specs.MadeLabels.{AreMadeLabels};
 ghost use Rattle.gm_pending.specs.Marks.{key_of, HasKey};
 ghost use Rattle.gm_pending.specs.Reached.{AreReached, AreResultDarts, AreSomeReached, IsClosed, IsGrown, IsSpreadTo, IsFollowedTo, IsFollowed, IsDecidedUpTo, IsAlwaysOneOrbit, IsUnmarked, AreMarkedTo, ungiven};
 ghost use Rattle.gm_pending.specs.Results.{IsPrepared, AreDecidingInstances, IsAsked, IsResultDart, IsUnfoldedIn, IsWithinReach, instances_of, with_instances, name_of, rule_in};
@@ -60,7 +60,11 @@ impl Pending<'_, '_> {
     {
         let nodes = self.plan.left_nodes();
         let instances = u64::from(nodes) * u64::from(self.found.positions());
-        if self.lookup.is_none() && instances > FEW && self.walks(embed) && self.makes_arcs() {
+        if self.lookup.is_none()
+            && instances > FEW
+            && self.walks(embed)
+            && self.made_labels().bits != 0
+        {
             self.lookup = Some(Lookup::build(self.alloc, self.found, nodes)?);
         }
         Ok(())
@@ -251,12 +255,12 @@ impl Pending<'_, '_> {
     {
         // The application tells here what its type keeps.
         prove!(self.labels() <= 8);
-        let kept = self.kept_labels();
+        let made = self.made_labels();
         let mut next = marks.len();
         marks.mark(at, index)?;
         while next < marks.len() {
             let from = marks.get(next);
-            self.spread(from, kept, embed, declared, marks, steps)?;
+            self.spread(from, made, embed, declared, marks, steps)?;
             next += 1;
         }
         Ok(())
@@ -266,7 +270,7 @@ impl Pending<'_, '_> {
     fn spread<L: Ledger>(
         &self,
         from: Mark,
-        kept: Mask,
+        made: Mask,
         embed: u8,
         declared: &Embed,
         marks: &mut Marks,
@@ -275,7 +279,7 @@ impl Pending<'_, '_> {
         requires embed { IsEmbedAt self.now.map.schema embed declared.now }
         requires darts { AreResultDarts self.now marks.old }
         requires from { Contains marks.old from }
-        requires kept { AreKeptLabels self.now kept }
+        requires made { AreMadeLabels self.now made }
         ensures darts { AreResultDarts self.now marks.new }
         ensures followed { OnOk result (IsFollowedTo self.now declared.now from marks.old marks.new (self.now.map.schema.dim + 1)) }
         ensures grown { IsFollowed self.now declared.now from marks.old marks.new }
@@ -285,7 +289,7 @@ impl Pending<'_, '_> {
     {
         for label in 0..self.labels() {
             if declared.mask.has(label) {
-                let to = self.neighbour(from.at, label, kept.has(label), steps);
+                let to = self.neighbour(from.at, label, made.has(label), steps);
                 marks.mark(to, from.instance)?;
             }
         }

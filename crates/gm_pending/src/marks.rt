@@ -29,6 +29,9 @@ pub(crate) struct Marks {
     /// The index of the deciding instance, by the key of a dart, where there are more than a few. In
     /// a box it leaves the marks of a few darts small, which are moved more than once.
     by_key: Option<Box<HashMap<u64, u32>>>,
+    /// The bits of the darts, by their keys. A dart whose bit isn't set is not marked, and needs no
+    /// search.
+    bits: u64,
 }
 
 impl Model for Marks {
@@ -41,7 +44,7 @@ impl Model for Marks {
 
     ghost view = { λ a. a.reached.items };
 
-    ghost invariant = { λ a. AreMarked a.reached.items (option_map (λ b. b.value) a.by_key) };
+    ghost invariant = { λ a. AreMarked a.reached.items (option_map (λ b. b.value) a.by_key) a.bits };
 }
 
 impl Marks {
@@ -53,6 +56,7 @@ impl Marks {
             alloc,
             reached: Vec::new(alloc),
             by_key: None,
+            bits: 0,
         }
     }
 
@@ -86,6 +90,9 @@ impl Marks {
         ensures distinct { HasDistinctKeys self.now }
     {
         let wanted = key(at);
+        if (self.bits >> (wanted / 2 % 64)) & 1 == 0 {
+            return None;
+        }
         match &self.by_key {
             Some(by_key) => by_key.get(&wanted).copied(),
             None => instance_among(&self.reached, wanted),
@@ -123,6 +130,7 @@ impl Marks {
             key: key(at),
         };
         if self.by_key.is_none() {
+            self.bits |= 1 << (mark.key / 2 % 64);
             push(&mut self.reached, mark, room)
         } else {
             self.add_to_index(mark)
@@ -140,6 +148,7 @@ impl Marks {
     {
         self.reached.reserve(1)?;
         self.by_key = put(self.by_key.take(), mark)?;
+        self.bits |= 1 << (mark.key / 2 % 64);
         self.reached.push_reserved(mark);
         Ok(())
     }
@@ -212,7 +221,7 @@ fn key(at: At) -> u64
     ensures { result ≡ key_of at }
 {
     match at {
-        At::Old(slot) => u64::from(slot.at) * 512,
-        At::New { node, position } => u64::from(position) * 512 + u64::from(node) + 1,
+        At::Old(slot) => u64::from(slot.at) * 2,
+        At::New { node, position } => u64::from(position) * 64 + u64::from(node) * 2 + 1,
     }
 }

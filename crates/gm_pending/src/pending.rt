@@ -1,4 +1,4 @@
-ghost use Rattle.std.specs.Prelude.{◌≡◌, ◌≢◌, ℕ, ◌+◌, ◌<◌, ◌≤◌, List, length, Some, None, MatchOption, ◌↔◌, IfOk, IsTrue};
+ghost use Rattle.std.specs.Prelude.{◌≡◌, ◌≢◌, ℕ, ◌+◌, ◌<◌, ◌≤◌, List, length, false, Some, None, MatchOption, ◌↔◌, IfOk, IsTrue};
 
 use crate::at::At;
 use crate::decided_orbits::{OrbitsByEmbed, no_orbits};
@@ -47,7 +47,7 @@ impl<'a, 'm> Pending<'a, 'm> {
     ghost use Rattle.gm_model.specs.Unfolding.{IsArcAfter, IsMadeArc};
     ghost use Rattle.gm_arena.specs.ArenaAsMap.{as_map};
     ghost use Rattle.gm_plan.specs.InArena.{AreMatched, slot_number};
-    ghost use Rattle.gm_pending.specs.KeptLabels.{KeepsArcs, AreKeptLabels};
+    ghost use Rattle.gm_pending.specs.MadeLabels.{KeepsArcs, AreMadeLabels};
     ghost use Rattle.gm_pending.specs.Lookup.{IsWithin, IsAtSlot};
     ghost use Rattle.gm_pending.specs.Results.{IsPrepared, pending_of, scene_in, rule_in, name_of, IsResultDart, IsRightInstance};
 
@@ -88,28 +88,28 @@ impl<'a, 'm> Pending<'a, 'm> {
         ensures cost { steps.new ≤ steps.old + 1 }
         ensures least { steps.old ≤ steps.new }
     {
-        self.neighbour(at, label, self.keeps_arcs(label), steps)
+        self.neighbour(at, label, !self.keeps_arcs(label), steps)
     }
 
-    /// The neighbour along a label, where `kept` tells that each arc of a right step at the label is
-    /// there in the old map.
+    /// The neighbour along a label, where `made` tells whether the rule makes arcs at the label that
+    /// the old map doesn't have.
     pub(crate) fn neighbour<L: Ledger>(
         &self,
         at: At,
         label: u8,
-        kept: bool,
+        made: bool,
         steps: &mut Steps<L>,
     ) -> At
         requires dart { IsResultDart self.now at }
         requires label { label ≤ self.now.map.schema.dim }
-        requires kept { IsTrue kept → KeepsArcs self.now label }
+        requires kept { made ≡ false → KeepsArcs self.now label }
         ensures arc { IsArcAfter (scene_in self.now) (name_of self.now at) label (name_of self.now result) }
         ensures dart { IsResultDart self.now result }
         ensures cost { steps.new ≤ steps.old + 1 }
         ensures least { steps.old ≤ steps.new }
     {
-        // An old dart isn't looked up then.
-        if kept {
+        // Where it makes none, an old dart isn't looked up.
+        if !made {
             if let At::Old(slot) = at {
                 return At::Old(self.arena.alpha(slot, label, steps));
             }
@@ -123,29 +123,17 @@ impl<'a, 'm> Pending<'a, 'm> {
         }
     }
 
-    /// The labels at which each arc of a right step is there in the old map.
-    pub(crate) fn kept_labels(&self) -> Mask
-        ensures { AreKeptLabels self.now result }
+    /// The labels at which the rule makes arcs that the old map doesn't have.
+    pub(crate) fn made_labels(&self) -> Mask
+        ensures { AreMadeLabels self.now result }
     {
         let mut bits = 0;
         for label in 0..self.labels() {
-            if self.keeps_arcs(label) {
+            if !self.keeps_arcs(label) {
                 bits |= 1 << label;
             }
         }
         Mask { bits }
-    }
-
-    /// Whether the rule makes arcs that the old map doesn't have.
-    pub(crate) fn makes_arcs(&self) -> bool
-        ensures prepared { IsPrepared self.now }
-    {
-        for label in 0..self.labels() {
-            if !self.keeps_arcs(label) {
-                return true;
-            }
-        }
-        false
     }
 
     /// Whether each arc of a right step at the label is there in the old map.

@@ -16,14 +16,14 @@ returns-in-Old-clause-arc g c =
     let app = c.args.self.now in
     let prepared : IsPrepared app = subst IsPrepared c.self.view_is c.self.invariant.0 in
     let at = subst (λ (a : PendingOf). IsAt a.map c.alpha.result.at (alpha a.map c.args.label (name_at a.map c.in-Old.slot.at))) c.self.view_is c.alpha.ensures.neighbour in
-    rw c.in-Old.is ((kept_neighbour app prepared c.args.label c.requires.label (c.requires.kept c.if-kept.true) c.in-Old.slot.at c.alpha.result.at (rw c.in-Old.is at c.requires.dart) at).0)
+    rw c.in-Old.is ((kept_neighbour app prepared c.args.label c.requires.label (c.requires.kept c.if-not-made.true) c.in-Old.slot.at c.alpha.result.at (rw c.in-Old.is at c.requires.dart) at).0)
 
 pub returns-in-Old-clause-dart : goal.returns-in-Old-clause-dart
 returns-in-Old-clause-dart g c =
     let app = c.args.self.now in
     let prepared : IsPrepared app = subst IsPrepared c.self.view_is c.self.invariant.0 in
     let at = subst (λ (a : PendingOf). IsAt a.map c.alpha.result.at (alpha a.map c.args.label (name_at a.map c.in-Old.slot.at))) c.self.view_is c.alpha.ensures.neighbour in
-    (kept_neighbour app prepared c.args.label c.requires.label (c.requires.kept c.if-kept.true) c.in-Old.slot.at c.alpha.result.at (rw c.in-Old.is at c.requires.dart) at).1
+    (kept_neighbour app prepared c.args.label c.requires.label (c.requires.kept c.if-not-made.true) c.in-Old.slot.at c.alpha.result.at (rw c.in-Old.is at c.requires.dart) at).1
 
 pub returns-clause-arc : goal.returns-clause-arc
 returns-clause-arc g c =

@@ -83,7 +83,7 @@ pub returns-clause-least : goal.returns-clause-least
 returns-clause-least g c = c.loop-label.invariant.least
 
 pub neighbour-to-requires-clause-kept : goal.neighbour-to-requires-clause-kept
-neighbour-to-requires-clause-kept g c h = c.requires.kept c.loop-label.label (omega (arith, c.loop-label-test.true, c.labels-label-end.ensures.labels)) (sym c.has-then-has.ensures ∙ h)
+neighbour-to-requires-clause-kept g c h = c.requires.made c.loop-label.label (omega (arith, c.loop-label-test.true, c.labels-label-end.ensures.labels)) (sym c.has-then-has.ensures ∙ h)
 
 pub has-requires-then-has : goal.has-requires-then-has
 has-requires-then-has g c = omega (arith, c.loop-label-test.true, c.labels-label-end.ensures.most)
