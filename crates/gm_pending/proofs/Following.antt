@@ -1,6 +1,8 @@
 -- How the arcs of one reached dart are followed, label by label.
-use Rattle.std.proofs.Common.{◌≡◌, ℕ, ◌+◌, ◌*◌, ◌≤◌, false, List, length, Some, slice_get, IsTrue, inl, inr, sym, subst, arith}
-use Rattle.std.proofs.lemmas.Bool.{cases_lt}
+use Rattle.std.proofs.Common.{◌≡◌, ℕ, ◌+◌, ◌*◌, ◌≤◌, Bool, not, false, List, length, Option, Some, None, slice_get, IsTrue, inl, inr, sym, ◌∙◌, ap, subst, arith}
+use Rattle.std.specs.Option.{option_eq}
+use Rattle.std.specs.Prelude.{nat_eq}
+use Rattle.std.proofs.lemmas.Bool.{cases_eq, cases_lt, false≢true, ne_eqb}
 use Rattle.std.proofs.lemmas.Option.{slice_get_within}
 use Rattle.gm_model.specs.declared.schema.Embed.{Embed}
 use Rattle.gm_model.specs.Maps.{IsEmbedAt, type_of}
@@ -12,7 +14,7 @@ use Rattle.gm_pending.specs.Marks.{IsMarkedMore, HasDistinctKeys}
 use Rattle.gm_pending.specs.Reached.{AreResultDarts, IsFollowedTo, IsFollowed, IsGrown, IsSpreadTo}
 use Rattle.gm_pending.specs.Results.{PendingOf, IsPrepared, IsResultDart, IsUnfoldedIn, scene_in, name_of}
 use Rattle.gm_pending.proofs.Reached.{get_within}
-use Rattle.gm_pending.proofs.Spread.{label_within, spread_passes, spread_follows, spread_next}
+use Rattle.gm_pending.proofs.Spread.{label_within, spread_passes, spread_returns, spread_follows, spread_next}
 
 -- what was marked is marked
 abbrev pub StaysMarked : List Mark → List Mark → Type 0
@@ -24,6 +26,14 @@ stays_longer old new kept = elim (cases_lt (length new) (length old)) [
   | inl h ↦ let last = get_within old (length new) h in absurd (let b = slice_get_within new (length new) last.0 (kept (length new) last.0 last.1) in omega (arith, b))
 ]
 
+-- the label is the one that was compared with it
+pub is_over : (over : Option ℕ) (i : ℕ) (differs : Bool) → differs ≡ not (option_eq nat_eq over (Some i)) → differs ≡ false → over ≡ Some i
+is_over None i differs is none = absurd (false≢true (sym none ∙ is))
+is_over (Some j) i differs is none = elim (cases_eq j i) [
+  | inl same ↦ ap Some same
+  | inr apart ↦ absurd (false≢true (sym none ∙ is ∙ ap not (ne_eqb j i apart)))
+]
+
 module _ (app : PendingOf) (prepared : IsPrepared app) (e : ℕ) (embed : Embed) (at_embed : IsEmbedAt app.map.schema e embed) (from : Mark) (old marks : List Mark) where
   pub followed_some : (i : ℕ) → IsFollowedTo app embed from old marks i → IsFollowed app embed from old marks
   followed_some i followed result before d n unfolded there late spread = (followed result before d n unfolded there late spread).grown
@@ -33,7 +43,11 @@ module _ (app : PendingOf) (prepared : IsPrepared app) (e : ℕ) (embed : Embed)
     followed_passes none result before d n unfolded there late spread =
         spread_passes app prepared e embed at_embed result unfolded before marks from.instance d n i from (followed result before d n unfolded there late spread) late (kept n from there) none
 
-    pub followed_follows : (after : List Mark) (to : At) → IsTrue (type_of embed i) → AreResultDarts app marks → HasDistinctKeys marks → IsResultDart app to → IsArcAfter (scene_in app) (name_of app from.at) i (name_of app to) → IsMarkedMore marks after to from.instance → IsFollowedTo app embed from old after (i + 1)
+    pub followed_returns : from.over ≡ Some i → IsFollowedTo app embed from old marks (i + 1)
+    followed_returns over result before d n unfolded there late spread =
+        spread_returns app prepared e embed at_embed result unfolded before marks from.instance d n i from (followed result before d n unfolded there late spread) late (kept n from there) over
+
+    pub followed_follows : (after : List Mark) (to : At) → IsTrue (type_of embed i) → AreResultDarts app marks → HasDistinctKeys marks → IsResultDart app to → IsArcAfter (scene_in app) (name_of app from.at) i (name_of app to) → IsMarkedMore marks after to from.instance (Some i) → IsFollowedTo app embed from old after (i + 1)
     followed_follows after to t darts distinct dart arc more result before d n unfolded there late spread =
         let h : i ≤ app.map.schema.dim = label_within app prepared e embed at_embed result unfolded i t in
         let leads : result.alpha i (name_of app from.at) ≡ name_of app to = ((unfolded.arcs (name_of app from.at) i (name_of app to) h).1 arc).1 in

@@ -18,8 +18,9 @@ key_of (New x p) = p * 64 + x * 2 + 1
 abbrev pub bit_of : ℕ → ℕ
 bit_of key = key / 2 % 64
 
-abbrev pub reached_by : At → ℕ → Mark
-reached_by at k = record { at = at; instance = k; key = key_of at }
+-- reached over an arc of this label, if over any
+abbrev pub reached_by : At → ℕ → Option ℕ → Mark
+reached_by at k over = record { at = at; instance = k; over = over; key = key_of at }
 
 -- indices by the numbers of darts
 abbrev pub ByKey : Type 0
@@ -38,8 +39,8 @@ abbrev pub IsMarkedBy : List Mark → ℕ → ℕ → Type 0
 IsMarkedBy reached key k = (entry : Mark) × Contains reached entry × (key_of entry.at ≡ key) × (entry.instance ≡ k)
 
 -- the dart was added, unless an entry had its key
-abbrev pub IsMarkedMore : List Mark → List Mark → At → ℕ → Type 0
-IsMarkedMore before after at k = (HasKey before (key_of at) × (after ≡ before)) ⊎ ((HasKey before (key_of at) → ⊥) × (after ≡ before ++ reached_by at k ∷ []))
+abbrev pub IsMarkedMore : List Mark → List Mark → At → ℕ → Option ℕ → Type 0
+IsMarkedMore before after at k over = (HasKey before (key_of at) × (after ≡ before)) ⊎ ((HasKey before (key_of at) → ⊥) × (after ≡ before ++ reached_by at k over ∷ []))
 
 abbrev pub HasDistinctKeys : List Mark → Type 0
 HasDistinctKeys reached = (k l : ℕ) (a b : Mark) → k < l → slice_get reached k ≡ Some a → slice_get reached l ≡ Some b → key_of a.at ≢ key_of b.at

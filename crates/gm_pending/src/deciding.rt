@@ -198,7 +198,7 @@ impl Pending<'_, '_> {
     {
         for position in 0..self.positions() {
             let at = self.place(node, position);
-            marks.mark_new(at, index, self.positions() as usize)?;
+            marks.mark_new(at, index, None, self.positions() as usize)?;
         }
         Ok(())
     }
@@ -257,7 +257,7 @@ impl Pending<'_, '_> {
         prove!(self.labels() <= 8);
         let made = self.made_labels();
         let mut next = marks.len();
-        marks.mark(at, index)?;
+        marks.mark(at, index, None)?;
         while next < marks.len() {
             let from = marks.get(next);
             self.spread(from, made, embed, declared, marks, steps)?;
@@ -266,7 +266,7 @@ impl Pending<'_, '_> {
         Ok(())
     }
 
-    /// Marks the neighbours of a reached dart.
+    /// Marks the neighbours of a reached dart. That from which it was reached is marked.
     fn spread<L: Ledger>(
         &self,
         from: Mark,
@@ -288,9 +288,9 @@ impl Pending<'_, '_> {
         ensures least { steps.old ≤ steps.new }
     {
         for label in 0..self.labels() {
-            if declared.mask.has(label) {
+            if declared.mask.has(label) && from.over != Some(label) {
                 let to = self.neighbour(from.at, label, made.has(label), steps);
-                marks.mark(to, from.instance)?;
+                marks.mark(to, from.instance, Some(label))?;
             }
         }
         Ok(())

@@ -14,6 +14,8 @@ use std::marker::Model;
 pub(crate) struct Mark {
     pub(crate) at: At,
     pub(crate) instance: u32,
+    /// The label of the arc over which the dart was reached, if it was. Back over it lies a marked dart.
+    pub(crate) over: Option<u8>,
     /// The number of the dart. It is kept, so that a search only compares numbers.
     key: u64,
 }
@@ -101,8 +103,13 @@ impl Marks {
 
     /// Marks a dart, unless it is marked. Where memory was wanting, nothing is marked.
     #[inline]
-    pub(crate) fn mark(&mut self, at: At, instance: u32) -> Result<(), OutOfMemory>
-        ensures ok { OnOk result (IsMarkedMore self.old self.new at instance) }
+    pub(crate) fn mark(
+        &mut self,
+        at: At,
+        instance: u32,
+        over: Option<u8>,
+    ) -> Result<(), OutOfMemory>
+        ensures ok { OnOk result (IsMarkedMore self.old self.new at instance over) }
         ensures err { OnErr result (self.new ≡ self.old) }
         ensures distinct { HasDistinctKeys self.old }
     {
@@ -112,21 +119,28 @@ impl Marks {
         if self.by_key.is_none() && self.reached.len() >= FEW {
             self.index_all()?;
         }
-        self.mark_new(at, instance, FEW)
+        self.mark_new(at, instance, over, FEW)
     }
 
     /// Marks a dart that isn't marked. Where memory was wanting, nothing is marked. It makes no index,
     /// so that darts that need no search are marked without one; and where there is no room, it makes
     /// room for so many at once.
     #[inline]
-    pub(crate) fn mark_new(&mut self, at: At, instance: u32, room: usize) -> Result<(), OutOfMemory>
+    pub(crate) fn mark_new(
+        &mut self,
+        at: At,
+        instance: u32,
+        over: Option<u8>,
+        room: usize,
+    ) -> Result<(), OutOfMemory>
         requires absent { HasKey self.old (key_of at) → ⊥ }
-        ensures ok { OnOk result (self.new ≡ self.old ++ reached_by at instance ∷ []) }
+        ensures ok { OnOk result (self.new ≡ self.old ++ reached_by at instance over ∷ []) }
         ensures err { OnErr result (self.new ≡ self.old) }
     {
         let mark = Mark {
             at,
             instance,
+            over,
             key: key(at),
         };
         if self.by_key.is_none() {
