@@ -182,10 +182,10 @@ pub(crate) fn push<T: Copy>(entries: &mut Vec<T>, entry: T, room: usize) -> Resu
     ensures ok { OnOk result (entries.new.items ≡ entries.old.items ++ entry ∷ []) }
     ensures err { OnErr result (entries.new.items ≡ entries.old.items) }
 {
-    if entries.len() == entries.capacity() {
-        entries.reserve(room)?;
+    if entries.len() >= entries.capacity() {
+        entries.reserve(room.max(1))?;
     }
-    entries.push(entry)?;
+    entries.push_reserved(entry);
     Ok(())
 }
 
