@@ -217,14 +217,17 @@ fn put(
     Ok(Some(by_key))
 }
 
-/// The index of the deciding instance of the dart with this key.
+/// The index of the deciding instance of the dart with this key. It begins with the last dart, since
+/// a walk comes back to those that it found late.
 fn instance_among(reached: &[Mark], wanted: u64) -> Option<u32>
     requires { AreKeyed reached.now }
     ensures { MatchOption result (HasKey reached.now wanted → ⊥) (IsMarkedBy reached.now wanted) }
 {
-    for entry in reached {
-        if entry.key == wanted {
-            return Some(entry.instance);
+    let mut place = reached.len();
+    while place > 0 {
+        place -= 1;
+        if reached[place].key == wanted {
+            return Some(reached[place].instance);
         }
     }
     None
