@@ -60,10 +60,11 @@ impl Pending<'_, '_> {
     {
         let nodes = self.plan.left_nodes();
         let instances = u64::from(nodes) * u64::from(self.found.positions());
+        let mask = self.arena.schema().embeds.as_slice()[embed as usize].mask;
         if self.lookup.is_none()
             && instances > FEW
             && self.walks(embed)
-            && self.made_labels().bits != 0
+            && self.made_labels(mask).bits != 0
         {
             self.lookup = Some(Lookup::build(self.alloc, self.found, nodes)?);
         }
@@ -255,7 +256,7 @@ impl Pending<'_, '_> {
     {
         // The application tells here what its type keeps.
         prove!(self.labels() <= 8);
-        let made = self.made_labels();
+        let made = self.made_labels(declared.mask);
         let mut next = marks.len();
         marks.mark(at, index, None)?;
         while next < marks.len() {
@@ -279,7 +280,7 @@ impl Pending<'_, '_> {
         requires embed { IsEmbedAt self.now.map.schema embed declared.now }
         requires darts { AreResultDarts self.now marks.old }
         requires from { Contains marks.old from }
-        requires made { AreMadeLabels self.now made }
+        requires made { AreMadeLabels self.now declared.now.mask made }
         ensures darts { AreResultDarts self.now marks.new }
         ensures followed { OnOk result (IsFollowedTo self.now declared.now from marks.old marks.new (self.now.map.schema.dim + 1)) }
         ensures grown { IsFollowed self.now declared.now from marks.old marks.new }

@@ -123,13 +123,13 @@ impl<'a, 'm> Pending<'a, 'm> {
         }
     }
 
-    /// The labels at which the rule makes arcs that the old map doesn't have.
-    pub(crate) fn made_labels(&self) -> Mask
-        ensures { AreMadeLabels self.now result }
+    /// The labels of a set at which the rule makes arcs that the old map doesn't have.
+    pub(crate) fn made_labels(&self, among: Mask) -> Mask
+        ensures { AreMadeLabels self.now among result }
     {
         let mut bits = 0;
         for label in 0..self.labels() {
-            if !self.keeps_arcs(label) {
+            if among.has(label) && !self.keeps_arcs(label) {
                 bits |= 1 << label;
             }
         }

@@ -88,7 +88,7 @@ pub returns-clause-least : goal.returns-clause-least
 returns-clause-least g c = c.loop-label.invariant.least
 
 pub neighbour-to-requires-clause-kept : goal.neighbour-to-requires-clause-kept
-neighbour-to-requires-clause-kept g c h = c.requires.made c.loop-label.label (omega (arith, c.loop-label-test.true, c.labels-label-end.ensures.labels)) (sym c.has-then-ne.ensures ∙ h)
+neighbour-to-requires-clause-kept g c h = c.requires.made c.loop-label.label (omega (arith, c.loop-label-test.true, c.labels-label-end.ensures.labels)) (sym c.has.ensures ∙ c.if-has.true) (sym c.has-then-ne.ensures ∙ h)
 
 pub has-requires-then-ne : goal.has-requires-then-ne
 has-requires-then-ne g c = omega (arith, c.loop-label-test.true, c.labels-label-end.ensures.most)
