@@ -288,8 +288,9 @@ impl Pending<'_, '_> {
         ensures cost { steps.new ≤ steps.old + (self.now.map.schema.dim + 1) }
         ensures least { steps.old ≤ steps.new }
     {
+        let mask = declared.mask;
         for label in 0..self.labels() {
-            if declared.mask.has(label) && from.over != Some(label) {
+            if mask.has(label) && from.over != Some(label) {
                 let to = self.neighbour(from.at, label, made.has(label), steps);
                 marks.mark(to, from.instance, Some(label))?;
             }
