@@ -1,8 +1,6 @@
 -- How the arcs of one reached dart are followed, label by label.
-use Rattle.std.proofs.Common.{◌≡◌, ℕ, ◌+◌, ◌*◌, ◌≤◌, Bool, not, false, List, length, Option, Some, None, slice_get, IsTrue, inl, inr, sym, ◌∙◌, ap, subst, arith}
-use Rattle.std.specs.Option.{option_eq}
-use Rattle.std.specs.Prelude.{nat_eq}
-use Rattle.std.proofs.lemmas.Bool.{cases_eq, cases_lt, false≢true, ne_eqb}
+use Rattle.std.proofs.Common.{◌≡◌, ℕ, ◌+◌, ◌*◌, ◌≤◌, false, List, length, Some, slice_get, IsTrue, inl, inr, sym, subst, arith}
+use Rattle.std.proofs.lemmas.Bool.{cases_lt}
 use Rattle.std.proofs.lemmas.Option.{slice_get_within}
 use Rattle.gm_model.specs.declared.schema.Embed.{Embed}
 use Rattle.gm_model.specs.Maps.{IsEmbedAt, type_of}
@@ -24,14 +22,6 @@ pub stays_longer : (old new : List Mark) → StaysMarked old new → length old 
 stays_longer old new kept = elim (cases_lt (length new) (length old)) [
   | inr h ↦ h
   | inl h ↦ let last = get_within old (length new) h in absurd (let b = slice_get_within new (length new) last.0 (kept (length new) last.0 last.1) in omega (arith, b))
-]
-
--- the label is the one that was compared with it
-pub is_over : (over : Option ℕ) (i : ℕ) (differs : Bool) → differs ≡ not (option_eq nat_eq over (Some i)) → differs ≡ false → over ≡ Some i
-is_over None i differs is none = absurd (false≢true (sym none ∙ is))
-is_over (Some j) i differs is none = elim (cases_eq j i) [
-  | inl same ↦ ap Some same
-  | inr apart ↦ absurd (false≢true (sym none ∙ is ∙ ap not (ne_eqb j i apart)))
 ]
 
 module _ (app : PendingOf) (prepared : IsPrepared app) (e : ℕ) (embed : Embed) (at_embed : IsEmbedAt app.map.schema e embed) (from : Mark) (old marks : List Mark) where

@@ -1,9 +1,10 @@
 //! Which instances decide the values of a result, and which of its darts they reach.
-ghost use Rattle.std.specs.Prelude.{◌≡◌, ℕ, ◌+◌, ◌*◌, ◌<◌, ◌≤◌, [], ◌∷◌, ◌++◌, length, Some, None, IfOk, IsTrue, OnOk, OnErr};
+ghost use Rattle.std.specs.Prelude.{◌≡◌, ℕ, ◌+◌, ◌*◌, ◌<◌, ◌≤◌, ◌⊎◌, [], ◌∷◌, ◌++◌, length, false, Some, None, IfOk, IsTrue, OnOk, OnErr};
 ghost use Rattle.std.specs.List.{Contains};
 ghost use Rattle.gm_model.specs.declared.schema.Embed.{Embed};
 ghost use Rattle.gm_model.specs.declared.rule.Side.TheVariants.{Right};
 ghost use Rattle.gm_model.specs.Components.{IsAssigned};
+ghost use Rattle.gm_model.specs.Labels.{has};
 ghost use Rattle.gm_model.specs.Maps.{IsEmbedAt};
 ghost use Rattle.gm_model.specs.Rules.{has_word};
 ghost use Rattle.gm_theory.specs.Theorem.{Unfolded};
@@ -288,14 +289,27 @@ impl Pending<'_, '_> {
         ensures cost { steps.new ≤ steps.old + (self.now.map.schema.dim + 1) }
         ensures least { steps.old ≤ steps.new }
     {
-        let mask = declared.mask;
+        let asked = without(declared.mask, from.over);
         for label in 0..self.labels() {
-            if mask.has(label) && from.over != Some(label) {
+            if asked.has(label) {
                 let to = self.neighbour(from.at, label, made.has(label), steps);
                 marks.mark(to, from.instance, Some(label))?;
             }
         }
         Ok(())
+    }
+}
+
+/// The labels of a set but one, where there is one.
+fn without(labels: Mask, one: Option<u8>) -> Mask
+    ensures among { (i : ℕ) → i < 8 → IsTrue (has result i) → IsTrue (has labels i) }
+    ensures others { (i : ℕ) → i < 8 → has result i ≡ false → (one ≡ Some i) ⊎ (has labels i ≡ false) }
+{
+    match one {
+        Some(label) if label < 8 => Mask {
+            bits: labels.bits & !(1 << label),
+        },
+        _ => labels,
     }
 }
 
