@@ -12,7 +12,7 @@ use Rattle.gm_pending.specs.Marks.{IsMarkedMore, HasDistinctKeys}
 use Rattle.gm_pending.specs.Reached.{AreResultDarts, IsFollowedTo, IsFollowed, IsGrown, IsSpreadTo}
 use Rattle.gm_pending.specs.Results.{PendingOf, IsPrepared, IsResultDart, IsUnfoldedIn, scene_in, name_of}
 use Rattle.gm_pending.proofs.Reached.{get_within}
-use Rattle.gm_pending.proofs.Spread.{label_within, spread_passes, spread_follows, spread_next}
+use Rattle.gm_pending.proofs.Spread.{label_within, spread_passes, spread_returns, spread_follows, spread_next}
 
 -- what was marked is marked
 abbrev pub StaysMarked : List Mark → List Mark → Type 0
@@ -33,7 +33,11 @@ module _ (app : PendingOf) (prepared : IsPrepared app) (e : ℕ) (embed : Embed)
     followed_passes none result before d n unfolded there late spread =
         spread_passes app prepared e embed at_embed result unfolded before marks from.instance d n i from (followed result before d n unfolded there late spread) late (kept n from there) none
 
-    pub followed_follows : (after : List Mark) (to : At) → IsTrue (type_of embed i) → AreResultDarts app marks → HasDistinctKeys marks → IsResultDart app to → IsArcAfter (scene_in app) (name_of app from.at) i (name_of app to) → IsMarkedMore marks after to from.instance → IsFollowedTo app embed from old after (i + 1)
+    pub followed_returns : from.over ≡ Some i → IsFollowedTo app embed from old marks (i + 1)
+    followed_returns over result before d n unfolded there late spread =
+        spread_returns app prepared e embed at_embed result unfolded before marks from.instance d n i from (followed result before d n unfolded there late spread) late (kept n from there) over
+
+    pub followed_follows : (after : List Mark) (to : At) → IsTrue (type_of embed i) → AreResultDarts app marks → HasDistinctKeys marks → IsResultDart app to → IsArcAfter (scene_in app) (name_of app from.at) i (name_of app to) → IsMarkedMore marks after to from.instance (Some i) → IsFollowedTo app embed from old after (i + 1)
     followed_follows after to t darts distinct dart arc more result before d n unfolded there late spread =
         let h : i ≤ app.map.schema.dim = label_within app prepared e embed at_embed result unfolded i t in
         let leads : result.alpha i (name_of app from.at) ≡ name_of app to = ((unfolded.arcs (name_of app from.at) i (name_of app to) h).1 arc).1 in

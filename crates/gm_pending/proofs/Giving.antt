@@ -1,6 +1,6 @@
 -- A value that is given to a deciding instance leaves all else.
-use Rattle.std.proofs.Common.{◌≡◌, ℕ, zero, suc, ◌<◌, ◌⊎◌, List, [], ◌∷◌, length, set, Contains, Option, Some, None, slice_get, refl, sym, ◌∙◌, ap, subst, inl, inr, arith}
-use Rattle.std.proofs.lemmas.List.{length-map, set-set}
+use Rattle.std.proofs.Common.{◌≡◌, ℕ, zero, suc, ◌<◌, ◌⊎◌, List, [], ◌∷◌, length, set, Contains, Option, Some, slice_get, refl, sym, ◌∙◌, ap, subst, inl, inr, arith}
+use Rattle.std.proofs.lemmas.List.{length-map}
 use Rattle.std.proofs.lemmas.Option.{slice_get_within}
 use Rattle.std.specs.Prelude.{unwrap_or}
 use Rattle.gm_model.specs.declared.schema.Embed.{Embed}
@@ -85,13 +85,10 @@ module _ (app : PendingOf) (e : ℕ) (embed : Embed) (instances : List DecidingI
 module _ (m : ArenaMap) (table : RuleTable) (placed : Placed) (answers : List (Option DecidedOrbits)) (e : ℕ) (orbits : DecidedOrbits) (there : slice_get answers e ≡ Some (Some orbits))
     (prepared : IsPrepared (pending_as m table placed answers)) (all : AreDecidedOrbits (pending_as m table placed answers) answers)
     (k : ℕ) (v : Value) (good : (embed : Embed) → IsEmbedAt m.schema e embed → IsValueOf embed.kind v)
-    (taken after : List (Option DecidedOrbits)) (again : DecidedOrbits) (rest : taken ≡ set answers e None) (kept : after ≡ set taken e (Some again))
+    (after : List (Option DecidedOrbits)) (again : DecidedOrbits) (kept : after ≡ set answers e (Some again))
     (items : again.instances.items ≡ given_at orbits.instances.items k v) (marks : again.marks ≡ orbits.marks) where
   abbrev before : PendingOf
   before = pending_as m table placed answers
-
-  kept_at_once : after ≡ set answers e (Some again)
-  kept_at_once = kept ∙ ap (λ l. set l e (Some again)) rest ∙ set-set answers e None (Some again)
 
   entry : deciding_of before e ≡ Some orbits.instances.items
   entry = answered_at answers e orbits there
@@ -118,11 +115,11 @@ module _ (m : ArenaMap) (table : RuleTable) (placed : Placed) (answers : List (O
       go {b} (inr same) among = subst (IsValueOf embed.kind) (sym (some_same w v same)) (good embed at)
 
   pub given_prepared : IsPrepared (pending_as m table placed after)
-  given_prepared = kept_prepared m table placed answers e again before refl prepared all within after kept_at_once exact reached goods
+  given_prepared = kept_prepared m table placed answers e again before refl prepared all within after kept exact reached goods
 
   pub given_answers : AreDecidedOrbits (pending_as m table placed after) after
-  given_answers = kept_answers m table placed answers e again before refl prepared all within after kept_at_once exact reached goods
+  given_answers = kept_answers m table placed answers e again before refl prepared all within after kept exact reached goods
 
   pub given_is : pending_as m table placed after ≡ with_instances before e (given_at (instances_of before e) k v)
-  given_is = kept_is m table placed answers e again before refl prepared all within after kept_at_once exact reached goods
+  given_is = kept_is m table placed answers e again before refl prepared all within after kept exact reached goods
       ∙ ap (with_instances before e) (items ∙ ap (λ ds. given_at ds k v) (sym (ap (λ o. unwrap_or o []) entry)))

@@ -38,4 +38,5 @@ pub mod ManyArcs
 pub mod Collected
 pub mod Told
 pub mod KeptArcs
+pub mod MadeLabels
 pub mod Taken

@@ -1,5 +1,5 @@
 -- A right node whose instances are one orbit: which nodes are, and what it gives to mark their instances.
-use Rattle.std.proofs.Common.{◌≡◌, ℕ, zero, suc, ◌+◌, ◌*◌, ◌<◌, ◌≤◌, ◌⊎◌, List, [], ◌∷◌, ◌++◌, length, Some, slice_get, IsTrue, refl, sym, ◌∙◌, ap, subst, inl, inr, arith}
+use Rattle.std.proofs.Common.{◌≡◌, ℕ, zero, suc, ◌+◌, ◌*◌, ◌<◌, ◌≤◌, ◌⊎◌, List, [], ◌∷◌, ◌++◌, length, Some, None, slice_get, IsTrue, refl, sym, ◌∙◌, ap, subst, inl, inr, arith}
 use Rattle.std.proofs.lemmas.Bool.{cases_lt, cases_eq}
 use Rattle.std.proofs.lemmas.Option.{slice_get_within}
 use Rattle.gm_model.specs.declared.rule.Side.TheVariants.{Right}
@@ -68,20 +68,20 @@ module _ (app : PendingOf) (prepared : IsPrepared app) (x : ℕ) (right : IsTrue
             let one : (x ≡ x) × (new.1 ≡ p) = same_instance (scene_in app) _ _ _ (law app prepared) x new.1 x p (right, omega (arith, new.2)) (right, b) (sym new.3 ∙ is_name) in
             omega (arith, new.2, one.1)
 
-    pub next_marked : AreMarkedTo app before (marks ++ reached_by at k ∷ []) x k (p + 1)
+    pub next_marked : AreMarkedTo app before (marks ++ reached_by at k None ∷ []) x k (p + 1)
     next_marked = record {
-      kept = λ j entry f. kept_at marks (reached_by at k) j entry (so_far.kept j entry f);
-      more = λ j entry h f. more j entry h (kept_or_last marks (reached_by at k) j entry f);
+      kept = λ j entry f. kept_at marks (reached_by at k None) j entry (so_far.kept j entry f);
+      more = λ j entry h f. more j entry h (kept_or_last marks (reached_by at k None) j entry f);
       all = λ q h. all q h (cases_eq q p);
     }
       where
-        more : (j : ℕ) (entry : Mark) → length before ≤ j → (slice_get marks j ≡ Some entry) ⊎ ((j ≡ length marks) × (reached_by at k ≡ entry)) → (entry.instance ≡ k) × (q : ℕ) × (q < p + 1) × (name_of app entry.at ≡ name q)
+        more : (j : ℕ) (entry : Mark) → length before ≤ j → (slice_get marks j ≡ Some entry) ⊎ ((j ≡ length marks) × (reached_by at k None ≡ entry)) → (entry.instance ≡ k) × (q : ℕ) × (q < p + 1) × (name_of app entry.at ≡ name q)
         more j entry h (inl f) = let old = so_far.more j entry h f in (old.0, old.1, omega (arith, old.2), old.3)
         more j entry h (inr f) = subst (λ (r : Mark). (r.instance ≡ k) × (q : ℕ) × (q < p + 1) × (name_of app r.at ≡ name q)) f.1 (refl, p, omega arith, named)
 
-        all : (q : ℕ) → q < p + 1 → (q ≡ p) ⊎ (q ≡ p → ⊥) → HasMark app (marks ++ reached_by at k ∷ []) (name q) k
-        all q h (inl same) = (reached_by at k, last_among marks (reached_by at k), named ∙ ap name (sym same), refl)
-        all q h (inr other) = mark_kept app prepared marks (marks ++ reached_by at k ∷ []) (name q) k (λ j entry f. kept_at marks (reached_by at k) j entry f) (so_far.all q (omega arith))
+        all : (q : ℕ) → q < p + 1 → (q ≡ p) ⊎ (q ≡ p → ⊥) → HasMark app (marks ++ reached_by at k None ∷ []) (name q) k
+        all q h (inl same) = (reached_by at k None, last_among marks (reached_by at k None), named ∙ ap name (sym same), refl)
+        all q h (inr other) = mark_kept app prepared marks (marks ++ reached_by at k None ∷ []) (name q) k (λ j entry f. kept_at marks (reached_by at k None) j entry f) (so_far.all q (omega arith))
 
   module _ (e : ℕ) (embed : Embed) (at_embed : IsEmbedAt app.map.schema e embed) where
     -- ---- where each letter of the node is a label of the type, and each label of the type a letter of the node
@@ -162,8 +162,12 @@ module _ (app : PendingOf) (prepared : IsPrepared app) (x : ℕ) (right : IsTrue
           grown = orbit_grown (omega (arith, all));
           closed = closed;
           here = marked.all 0 (omega arith);
-          followed = λ j l entry h f b t.
-              let new = marked.more j entry h f in
-              let to = (orbit result unfolded).closed new.1 l (omega (arith, new.2, all)) t in
-              subst (λ d. HasMark app after (result.alpha l d) k) (sym new.3) (subst (λ c. HasMark app after c k) (sym to.2) (marked.all to.0 (omega (arith, to.1, all))));
+          back = λ j l entry h f o t. inside j l entry h f t;
+          followed = λ j l entry h f b t. inside j l entry h f t;
         }
+          where
+            inside : (j l : ℕ) (entry : Mark) → length before ≤ j → slice_get after j ≡ Some entry → IsTrue (type_of embed l) → HasMark app after (result.alpha l (name_of app entry.at)) k
+            inside j l entry h f t =
+                let new = marked.more j entry h f in
+                let to = (orbit result unfolded).closed new.1 l (omega (arith, new.2, all)) t in
+                subst (λ d. HasMark app after (result.alpha l d) k) (sym new.3) (subst (λ c. HasMark app after c k) (sym to.2) (marked.all to.0 (omega (arith, to.1, all))))

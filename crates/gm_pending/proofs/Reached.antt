@@ -1,13 +1,15 @@
 -- One more reached dart.
-use Rattle.std.proofs.Common.{◌≡◌, ◌≢◌, ℕ, zero, suc, ◌<◌, ◌⊎◌, false, List, [], ◌∷◌, ◌++◌, length, take, get_or, Option, Some, None, is_some, slice_get, MatchOption, Contains, refl, sym, ◌∙◌, ap, subst, inl, inr, arith}
+use Rattle.std.proofs.Common.{◌≡◌, ◌≢◌, ℕ, zero, suc, ◌*◌, ◌/◌, ◌%◌, ◌^◌, ◌<◌, ◌⊎◌, bit_or, w64, false, List, [], ◌∷◌, ◌++◌, length, take, get_or, Option, Some, None, is_some, slice_get, MatchOption, Contains, refl, sym, ◌∙◌, ap, subst, inl, inr, arith}
 use Rattle.std.specs.Prelude.{Result, Ok, Err, OnOk, OnErr, IfSome, nat_eq}
 use Rattle.std.specs.HashMap.{HashMap, Updates, get}
+use Rattle.std.specs.Int.{bit_at}
 use Rattle.std.specs.Option.{option_map}
 use Rattle.std.proofs.lemmas.Bool.{cases_eq}
+use Rattle.std.proofs.lemmas.Nat.Bits.{bit_at_set_same, bit_at_set_other}
 use Rattle.std.proofs.lemmas.Option.{slice_get_within, slice_get-get_or}
 use Rattle.gm_theory.proofs.Lists.{some_same, none_some, contained_at, get_contained}
 use Rattle.gm_pending.specs.declared.marks.Mark.{Mark}
-use Rattle.gm_pending.specs.Marks.{ByKey, key_of, HasKey, AreKeyed, AreMarked, IsIndex, IsMarkedBy, HasDistinctKeys}
+use Rattle.gm_pending.specs.Marks.{ByKey, key_of, bit_of, HasKey, AreKeyed, AreMarked, AreSeen, IsIndex, IsMarkedBy, HasDistinctKeys}
 use Rattle.gm_pending.proofs.Whole.{contains_none}
 
 -- ---- a list with one more element
@@ -114,6 +116,35 @@ module _ (reached : List Mark) (kept : HasDistinctKeys reached) (entry : Mark) (
       distinct (inr e) (inl f) = absurd (omega (arith, e.0, slice_get_within reached j b f))
       distinct (inr e) (inr f) = absurd (omega (arith, e.0, f.0))
 
+-- ---- the bits of darts
+
+-- the bit of one more key is set
+abbrev pub with_bit : ℕ → ℕ → ℕ
+with_bit bits key = bit_or bits (1 * 2 ^ (key / 2 % 64) % 18446744073709551616)
+
+module _ (bits key : ℕ) where
+  low : bit_of key < 64
+  low = omega arith
+
+  bit_kept : (b : ℕ) → bit_at bits b ≡ 1 → bit_at (with_bit bits key) b ≡ 1
+  bit_kept b set = elim (cases_eq b (bit_of key)) [
+    | inl same ↦ rw same (bit_at_set_same w64 bits (bit_of key) low)
+    | inr apart ↦ bit_at_set_other w64 bits (bit_of key) low b apart ∙ set
+  ]
+
+  pub seen_kept : (reached : List Mark) → AreSeen reached bits → AreSeen reached (with_bit bits key)
+  seen_kept reached seen entry among = bit_kept (bit_of (key_of entry.at)) (seen entry among)
+
+  pub seen_more : (reached : List Mark) (entry : Mark) → key ≡ key_of entry.at → AreSeen reached bits → AreSeen (reached ++ entry ∷ []) (with_bit bits key)
+  seen_more reached entry own seen other among = go (among_or_last reached entry other among)
+    where
+      here : bit_at (with_bit bits key) (bit_of (key_of entry.at)) ≡ 1
+      here = subst (λ k. bit_at (with_bit bits key) (bit_of k) ≡ 1) own (bit_at_set_same w64 bits (bit_of key) low)
+
+      go : Contains reached other ⊎ (entry ≡ other) → bit_at (with_bit bits key) (bit_of (key_of other.at)) ≡ 1
+      go (inl c) = seen_kept reached seen other c
+      go (inr e) = subst (λ (r : Mark). bit_at (with_bit bits key) (bit_of (key_of r.at)) ≡ 1) e here
+
 -- what an index has under a key
 pub indexed_at : (reached : List Mark) (by_key : ByKey) → IsIndex reached by_key → (key : ℕ) (found : Option ℕ) → found ≡ get nat_eq by_key key → MatchOption found (HasKey reached key → ⊥) (IsMarkedBy reached key)
 indexed_at reached by_key index key (Some k) e = index.only key k (sym e)
@@ -132,7 +163,12 @@ within_shown before f P None h = tt
 within_shown before f P (Some x) h = h
 
 -- one more dart, where there is no index
-pub marked_few : {E B : Type 0} (view : B → ByKey) (before after : List Mark) (by_key : Option B) (entry : Mark) (pushed : Result Unit E) → is_some by_key ≡ false → AreMarked before (option_map view by_key) → entry.key ≡ key_of entry.at → (HasKey before (key_of entry.at) → ⊥) → OnOk pushed (after ≡ before ++ entry ∷ []) → OnErr pushed (after ≡ before) → AreMarked after (option_map view by_key)
-marked_few view before after (Some by_key) entry pushed none kept key absent ok err = absurd (cc none)
-marked_few view before after None entry (Ok x) none kept key absent ok err = rw ok (record { keyed = keyed_more before entry kept.keyed key; distinct = distinct_more before kept.distinct entry absent; indexed = tt })
-marked_few view before after None entry (Err x) none kept key absent ok err = rw err kept
+pub marked_few : {E B : Type 0} (view : B → ByKey) (before after : List Mark) (by_key : Option B) (bits : ℕ) (entry : Mark) (pushed : Result Unit E) → is_some by_key ≡ false → AreMarked before (option_map view by_key) bits → entry.key ≡ key_of entry.at → (HasKey before (key_of entry.at) → ⊥) → OnOk pushed (after ≡ before ++ entry ∷ []) → OnErr pushed (after ≡ before) → AreMarked after (option_map view by_key) (with_bit bits entry.key)
+marked_few view before after (Some by_key) bits entry pushed none kept key absent ok err = absurd (cc none)
+marked_few view before after None bits entry (Ok x) none kept key absent ok err = rw ok (record {
+  keyed = keyed_more before entry kept.keyed key;
+  distinct = distinct_more before kept.distinct entry absent;
+  indexed = tt;
+  seen = seen_more bits entry.key before entry key kept.seen;
+})
+marked_few view before after None bits entry (Err x) none kept key absent ok err = rw err (record { keyed = kept.keyed; distinct = kept.distinct; indexed = tt; seen = seen_kept bits entry.key before kept.seen })

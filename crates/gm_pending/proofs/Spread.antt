@@ -1,5 +1,5 @@
 -- How a walk along the arcs of an unfolding spreads over an orbit.
-use Rattle.std.proofs.Common.{◌≡◌, ℕ, ◌+◌, ◌*◌, ◌<◌, ◌≤◌, ◌⊎◌, not, false, List, [], ◌∷◌, length, Some, slice_get, IsTrue, refl, sym, ◌∙◌, ap, subst, inl, inr, arith}
+use Rattle.std.proofs.Common.{◌≡◌, ℕ, ◌+◌, ◌*◌, ◌<◌, ◌≤◌, ◌⊎◌, not, false, List, [], ◌∷◌, length, Option, Some, None, slice_get, IsTrue, refl, sym, ◌∙◌, ap, subst, inl, inr, arith}
 use Rattle.std.proofs.lemmas.Bool.{cases_lt, cases_eq}
 use Rattle.std.proofs.lemmas.Option.{slice_get_within}
 use Rattle.gm_model.specs.declared.rule.Side.TheVariants.{Left, Right}
@@ -10,7 +10,7 @@ use Rattle.gm_model.specs.Orbits.{IsInOrbit, IsPathIn, IsPairBefore, follow}
 use Rattle.gm_model.specs.Rules.{has_word}
 use Rattle.gm_arena.specs.ArenaMap.{name_at}
 use Rattle.gm_theory.proofs.Arcs.{same_instance}
-use Rattle.gm_theory.proofs.Lists.{some_same, contained_at, get_contained}
+use Rattle.gm_theory.proofs.Lists.{some_same, none_some, contained_at, get_contained}
 use Rattle.gm_theory.proofs.Results.{unfolding_generalised}
 use Rattle.gm_theory.proofs.RuleSteps.{word_below}
 use Rattle.gm_theory.proofs.Tests.{both_true, not_true, not_both}
@@ -44,7 +44,7 @@ module _ (app : PendingOf) (prepared : IsPrepared app) where
 
   -- darts of the result with one name have one key
   pub same_key : (a b : At) → IsResultDart app a → IsResultDart app b → name_of app a ≡ name_of app b → key_of a ≡ key_of b
-  same_key (Old s) (Old t) d d' e = ap (λ n. n * 512) (same_slot app prepared s.at t.at d.0 d'.0 e)
+  same_key (Old s) (Old t) d d' e = ap (λ n. n * 2) (same_slot app prepared s.at t.at d.0 d'.0 e)
   same_key (Old s) (New y q) d d' e = never_both s.at y q d d' e
   same_key (New x p) (Old t) d d' e = never_both t.at x p d' d (sym e)
   same_key (New x p) (New y q) d d' e =
@@ -67,18 +67,18 @@ module _ (app : PendingOf) (prepared : IsPrepared app) where
   mark_kept before after d k kept (entry, among, e, f) = (entry, get_contained after among.0 entry (kept among.0 entry (contained_at before entry among)), e, f)
 
   -- what was marked stays
-  pub marked_kept : (before after : List Mark) (at : At) (k : ℕ) → IsMarkedMore before after at k → (j : ℕ) (entry : Mark) → slice_get before j ≡ Some entry → slice_get after j ≡ Some entry
-  marked_kept before after at k (inl (there, same)) j entry e = rw same e
-  marked_kept before after at k (inr (absent, same)) j entry e = rw same (kept_at before (reached_by at k) j entry e)
+  pub marked_kept : (before after : List Mark) (at : At) (k : ℕ) (over : Option ℕ) → IsMarkedMore before after at k over → (j : ℕ) (entry : Mark) → slice_get before j ≡ Some entry → slice_get after j ≡ Some entry
+  marked_kept before after at k over (inl (there, same)) j entry e = rw same e
+  marked_kept before after at k over (inr (absent, same)) j entry e = rw same (kept_at before (reached_by at k over) j entry e)
 
-  pub marked_or_last : (before after : List Mark) (at : At) (k : ℕ) → IsMarkedMore before after at k → (j : ℕ) (entry : Mark) → slice_get after j ≡ Some entry → (slice_get before j ≡ Some entry) ⊎ ((j ≡ length before) × (reached_by at k ≡ entry))
-  marked_or_last before after at k (inl (there, same)) j entry e = inl (rw same at e)
-  marked_or_last before after at k (inr (absent, same)) j entry e = kept_or_last before (reached_by at k) j entry (rw same at e)
+  pub marked_or_last : (before after : List Mark) (at : At) (k : ℕ) (over : Option ℕ) → IsMarkedMore before after at k over → (j : ℕ) (entry : Mark) → slice_get after j ≡ Some entry → (slice_get before j ≡ Some entry) ⊎ ((j ≡ length before) × (reached_by at k over ≡ entry))
+  marked_or_last before after at k over (inl (there, same)) j entry e = inl (rw same at e)
+  marked_or_last before after at k over (inr (absent, same)) j entry e = kept_or_last before (reached_by at k over) j entry (rw same at e)
 
-  pub marked_darts : (before after : List Mark) (at : At) (k : ℕ) → IsMarkedMore before after at k → IsResultDart app at → AreResultDarts app before → AreResultDarts app after
-  marked_darts before after at k more dart darts entry among = go (marked_or_last before after at k more among.0 entry (contained_at after entry among))
+  pub marked_darts : (before after : List Mark) (at : At) (k : ℕ) (over : Option ℕ) → IsMarkedMore before after at k over → IsResultDart app at → AreResultDarts app before → AreResultDarts app after
+  marked_darts before after at k over more dart darts entry among = go (marked_or_last before after at k over more among.0 entry (contained_at after entry among))
     where
-      go : (slice_get before among.0 ≡ Some entry) ⊎ ((among.0 ≡ length before) × (reached_by at k ≡ entry)) → IsResultDart app entry.at
+      go : (slice_get before among.0 ≡ Some entry) ⊎ ((among.0 ≡ length before) × (reached_by at k over ≡ entry)) → IsResultDart app entry.at
       go (inl e) = darts entry (get_contained before among.0 entry e)
       go (inr e) = subst (λ (r : Mark). IsResultDart app r.at) e.1 dart
 
@@ -127,28 +127,34 @@ module _ (app : PendingOf) (prepared : IsPrepared app) where
     pub nothing_grown : (before : List Mark) (k d : ℕ) → IsGrown app embed result before before k d
     nothing_grown before k d = record { kept = λ j entry f. f; more = λ j entry h f. absurd (omega (arith, h, slice_get_within before j entry f)) }
 
-    pub grown_more : (before after after' : List Mark) (k d : ℕ) (to : At) → IsGrown app embed result before after k d → IsMarkedMore after after' to k → IsInOrbit result.alpha (type_of embed) d (name_of app to) → IsGrown app embed result before after' k d
-    grown_more before after after' k d to grown more orbit = record {
-      kept = λ j entry f. marked_kept after after' to k more j entry (grown.kept j entry f);
-      more = λ j entry h f. go j entry h (marked_or_last after after' to k more j entry f);
+    pub grown_more : (before after after' : List Mark) (k d : ℕ) (to : At) (over : Option ℕ) → IsGrown app embed result before after k d → IsMarkedMore after after' to k over → IsInOrbit result.alpha (type_of embed) d (name_of app to) → IsGrown app embed result before after' k d
+    grown_more before after after' k d to over grown more orbit = record {
+      kept = λ j entry f. marked_kept after after' to k over more j entry (grown.kept j entry f);
+      more = λ j entry h f. go j entry h (marked_or_last after after' to k over more j entry f);
     }
       where
-        go : (j : ℕ) (entry : Mark) → length before ≤ j → (slice_get after j ≡ Some entry) ⊎ ((j ≡ length after) × (reached_by to k ≡ entry)) → (entry.instance ≡ k) × IsInOrbit result.alpha (type_of embed) d (name_of app entry.at)
+        go : (j : ℕ) (entry : Mark) → length before ≤ j → (slice_get after j ≡ Some entry) ⊎ ((j ≡ length after) × (reached_by to k over ≡ entry)) → (entry.instance ≡ k) × IsInOrbit result.alpha (type_of embed) d (name_of app entry.at)
         go j entry h (inl f) = grown.more j entry h f
         go j entry h (inr f) = subst (λ (r : Mark). (r.instance ≡ k) × IsInOrbit result.alpha (type_of embed) d (name_of app r.at)) f.1 (refl, orbit)
 
     -- it begins with the instance's own dart
-    pub spread_starts : (before after : List Mark) (at : At) (k : ℕ) → IsClosed app embed result before → (HasKey before (key_of at) → ⊥) → IsMarkedMore before after at k → IsSpreadTo app embed result before after k (name_of app at) (length before) 0
+    pub spread_starts : (before after : List Mark) (at : At) (k : ℕ) → IsClosed app embed result before → (HasKey before (key_of at) → ⊥) → IsMarkedMore before after at k None → IsSpreadTo app embed result before after k (name_of app at) (length before) 0
     spread_starts before after at k closed absent more = record {
-      grown = grown_more before before after k (name_of app at) at (nothing_grown before k (name_of app at)) more ([], tt, refl);
+      grown = grown_more before before after k (name_of app at) at None (nothing_grown before k (name_of app at)) more ([], tt, refl);
       closed = closed;
       here = here more;
+      back = λ j l entry h f o t. first j l entry h (marked_or_last before after at k None more j entry f) o;
       followed = λ j l entry h f b t. absurd (none j l h b);
     }
       where
-        here : IsMarkedMore before after at k → HasMark app after (name_of app at) k
+        here : IsMarkedMore before after at k None → HasMark app after (name_of app at) k
         here (inl (there, same)) = absurd (absent there)
-        here (inr (none, same)) = (reached_by at k, rw same (last_among before (reached_by at k)), refl, refl)
+        here (inr (none, same)) = (reached_by at k None, rw same (last_among before (reached_by at k None)), refl, refl)
+
+        -- which was not reached over an arc
+        first : (j l : ℕ) (entry : Mark) → length before ≤ j → (slice_get before j ≡ Some entry) ⊎ ((j ≡ length before) × (reached_by at k None ≡ entry)) → entry.over ≡ Some l → HasMark app after (result.alpha l (name_of app entry.at)) k
+        first j l entry h (inl f) o = absurd (omega (arith, h, slice_get_within before j entry f))
+        first j l entry h (inr f) o = none_some l (ap (λ (r : Mark). r.over) f.1 ∙ o)
 
         none : (j l : ℕ) → length before ≤ j → IsPairBefore j l (length before) 0 → ⊥
         none j l h (inl b) = omega arith
@@ -161,6 +167,7 @@ module _ (app : PendingOf) (prepared : IsPrepared app) where
         grown = spread.grown;
         closed = spread.closed;
         here = spread.here;
+        back = spread.back;
         followed = λ j l entry h f b t. spread.followed j l entry h f (go j l b t) t;
       }
         where
@@ -172,12 +179,35 @@ module _ (app : PendingOf) (prepared : IsPrepared app) where
               side (inl f) = not_both (type_of embed l) t (ap (type_of embed) f ∙ none)
               side (inr f) = inr (same, omega arith)
 
-      module _ (after' : List Mark) (to : At) (t : IsTrue (type_of embed i)) (darts : AreResultDarts app after) (distinct : HasDistinctKeys after) (to_dart : IsResultDart app to) (leads : name_of app to ≡ result.alpha i (name_of app from.at)) (more : IsMarkedMore after after' to k) where
+      -- nor is the label over which the dart was reached
+      pub spread_returns : from.over ≡ Some i → IsSpreadTo app embed result before after k d n (i + 1)
+      spread_returns over = record {
+        grown = spread.grown;
+        closed = spread.closed;
+        here = spread.here;
+        back = spread.back;
+        followed = λ j l entry h f b t. go j l entry h f b t;
+      }
+        where
+          go : (j l : ℕ) (entry : Mark) → length before ≤ j → slice_get after j ≡ Some entry → IsPairBefore j l n (i + 1) → IsTrue (type_of embed l) → HasMark app after (result.alpha l (name_of app entry.at)) k
+          go j l entry h f (inl b) t = spread.followed j l entry h f (inl b) t
+          go j l entry h f (inr (same, b)) t = side (cases_eq l i)
+            where
+              side : (l ≡ i) ⊎ (l ≡ i → ⊥) → HasMark app after (result.alpha l (name_of app entry.at)) k
+              side (inr g) = spread.followed j l entry h f (inr (same, omega arith)) t
+              side (inl g) =
+                  let one : from ≡ entry = some_same from entry (sym there ∙ ap (slice_get after) (sym same) ∙ f) in
+                  spread.back j l entry h f (ap (λ (r : Mark). r.over) (sym one) ∙ over ∙ ap Some (sym g)) t
+
+      module _ (after' : List Mark) (to : At) (t : IsTrue (type_of embed i)) (darts : AreResultDarts app after) (distinct : HasDistinctKeys after) (to_dart : IsResultDart app to) (leads : name_of app to ≡ result.alpha i (name_of app from.at)) (more : IsMarkedMore after after' to k (Some i)) where
         from_live : IsDartOf result (name_of app from.at)
         from_live = dart_after from.at (darts from (get_contained after n from there))
 
         kept : (j : ℕ) (entry : Mark) → slice_get after j ≡ Some entry → slice_get after' j ≡ Some entry
-        kept = marked_kept after after' to k more
+        kept = marked_kept after after' to k (Some i) more
+
+        returns : result.alpha i (result.alpha i (name_of app from.at)) ≡ name_of app from.at
+        returns = after_map.back (name_of app from.at) i from_live (label_within i t)
 
         -- the dart that is walked from was not marked before
         not_before : (j : ℕ) → HasMark app before (name_of app from.at) j → ⊥
@@ -199,28 +229,39 @@ module _ (app : PendingOf) (prepared : IsPrepared app) where
                 let old = get_within before m h in
                 let same : old.0 ≡ entry = some_same old.0 entry (sym (spread.grown.kept m old.0 old.1) ∙ at_m) in
                 let mark : HasMark app before (result.alpha i (name_of app from.at)) entry.instance = (entry, get_contained before m entry (subst (λ r. slice_get before m ≡ Some r) same old.1), name, refl) in
-                let back : result.alpha i (result.alpha i (name_of app from.at)) ≡ name_of app from.at = after_map.back (name_of app from.at) i from_live (label_within i t) in
-                absurd (not_before entry.instance (subst (λ b. HasMark app before b entry.instance) back (spread.closed (result.alpha i (name_of app from.at)) entry.instance i mark t)))
+                absurd (not_before entry.instance (subst (λ b. HasMark app before b entry.instance) returns (spread.closed (result.alpha i (name_of app from.at)) entry.instance i mark t)))
 
-        reached_now : IsMarkedMore after after' to k → HasMark app after' (result.alpha i (name_of app from.at)) k
+        reached_now : IsMarkedMore after after' to k (Some i) → HasMark app after' (result.alpha i (name_of app from.at)) k
         reached_now (inl ((entry, among, key), same)) = mark_kept after after' (result.alpha i (name_of app from.at)) k kept (marked_now entry among.0 (contained_at after entry among) key)
-        reached_now (inr (absent, same)) = (reached_by to k, rw same (last_among after (reached_by to k)), leads, refl)
+        reached_now (inr (absent, same)) = (reached_by to k (Some i), rw same (last_among after (reached_by to k (Some i))), leads, refl)
+
+        -- and from there the arc leads back
+        back_now : (l : ℕ) (entry : Mark) → reached_by to k (Some i) ≡ entry → entry.over ≡ Some l → HasMark app after' (result.alpha l (name_of app entry.at)) k
+        back_now l entry is over =
+            let label : i ≡ l = some_same i l (ap (λ (r : Mark). r.over) is ∙ over) in
+            let name : name_of app from.at ≡ result.alpha l (name_of app entry.at) = sym returns ∙ ap (result.alpha i) (sym leads) ∙ ap (λ (r : Mark). result.alpha i (name_of app r.at)) is ∙ ap (λ z. result.alpha z (name_of app entry.at)) label in
+            (from, get_contained after' n from (kept n from there), name, (spread.grown.more n from late there).0)
 
         -- the neighbour along a label of the type is marked
         pub spread_follows : IsSpreadTo app embed result before after' k d n (i + 1)
         spread_follows = record {
-          grown = grown_more before after after' k d to spread.grown more (subst (IsInOrbit result.alpha (type_of embed) d) (sym leads) (orbit_step d (name_of app from.at) i (spread.grown.more n from late there).1 t));
+          grown = grown_more before after after' k d to (Some i) spread.grown more (subst (IsInOrbit result.alpha (type_of embed) d) (sym leads) (orbit_step d (name_of app from.at) i (spread.grown.more n from late there).1 t));
           closed = spread.closed;
           here = mark_kept after after' d k kept spread.here;
+          back = λ j l entry h f o u. back j l entry h (marked_or_last after after' to k (Some i) more j entry f) o u;
           followed = λ j l entry h f b u. go j l entry h (earlier j entry f (up_to j l b)) b u;
         }
           where
+            back : (j l : ℕ) (entry : Mark) → length before ≤ j → (slice_get after j ≡ Some entry) ⊎ ((j ≡ length after) × (reached_by to k (Some i) ≡ entry)) → entry.over ≡ Some l → IsTrue (type_of embed l) → HasMark app after' (result.alpha l (name_of app entry.at)) k
+            back j l entry h (inl f) o u = mark_kept after after' (result.alpha l (name_of app entry.at)) k kept (spread.back j l entry h f o u)
+            back j l entry h (inr f) o u = back_now l entry f.1 o
+
             up_to : (j l : ℕ) → IsPairBefore j l n (i + 1) → j ≤ n
             up_to j l (inl b) = omega arith
             up_to j l (inr b) = omega (arith, b.0)
 
             earlier : (j : ℕ) (entry : Mark) → slice_get after' j ≡ Some entry → j ≤ n → slice_get after j ≡ Some entry
-            earlier j entry f h = elim (marked_or_last after after' to k more j entry f) [
+            earlier j entry f h = elim (marked_or_last after after' to k (Some i) more j entry f) [
               | inl g ↦ g
               | inr g ↦ absurd (omega (arith, g.0, slice_get_within after n from there))
             ]
@@ -241,6 +282,7 @@ module _ (app : PendingOf) (prepared : IsPrepared app) where
       grown = spread.grown;
       closed = spread.closed;
       here = spread.here;
+      back = spread.back;
       followed = λ j l entry h f b t. spread.followed j l entry h f (go j l b t) t;
     }
       where

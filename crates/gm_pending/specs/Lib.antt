@@ -3,6 +3,7 @@ pub mod Answered
 pub mod Collected
 pub mod EditLists
 pub mod Gathered
+pub mod MadeLabels
 pub mod Lookup
 pub mod Marks
 pub mod Reached

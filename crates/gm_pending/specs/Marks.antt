@@ -1,5 +1,6 @@
 -- How reached darts are kept. No public clause cites this module.
-use Rattle.std.specs.Prelude.{◌≡◌, ◌≢◌, ℕ, ◌+◌, ◌*◌, ◌<◌, ◌⊎◌, List, [], ◌∷◌, ◌++◌, nat_eq, Option, Some, IfSome, slice_get}
+use Rattle.std.specs.Prelude.{◌≡◌, ◌≢◌, ℕ, ◌+◌, ◌*◌, ◌/◌, ◌%◌, ◌<◌, ◌⊎◌, List, [], ◌∷◌, ◌++◌, nat_eq, Option, Some, IfSome, slice_get}
+use Rattle.std.specs.Int.{bit_at}
 use Rattle.std.specs.List.{Contains}
 use Rattle.std.specs.declared.hash.BuildHasherDefault.{BuildHasherDefault}
 use Rattle.std.specs.declared.hash.FoldHasher.{FoldHasher}
@@ -10,11 +11,16 @@ use Rattle.gm_pending.specs.declared.marks.Mark.{Mark}
 
 -- the number of a dart
 abbrev pub key_of : At → ℕ
-key_of (Old slot) = slot.at * 512
-key_of (New x p) = p * 512 + x + 1
+key_of (Old slot) = slot.at * 2
+key_of (New x p) = p * 64 + x * 2 + 1
 
-abbrev pub reached_by : At → ℕ → Mark
-reached_by at k = record { at = at; instance = k; key = key_of at }
+-- the bit, of 64, that stands for the dart of a key; others may have the same one
+abbrev pub bit_of : ℕ → ℕ
+bit_of key = key / 2 % 64
+
+-- reached over an arc of this label, if over any
+abbrev pub reached_by : At → ℕ → Option ℕ → Mark
+reached_by at k over = record { at = at; instance = k; over = over; key = key_of at }
 
 -- indices by the numbers of darts
 abbrev pub ByKey : Type 0
@@ -33,8 +39,8 @@ abbrev pub IsMarkedBy : List Mark → ℕ → ℕ → Type 0
 IsMarkedBy reached key k = (entry : Mark) × Contains reached entry × (key_of entry.at ≡ key) × (entry.instance ≡ k)
 
 -- the dart was added, unless an entry had its key
-abbrev pub IsMarkedMore : List Mark → List Mark → At → ℕ → Type 0
-IsMarkedMore before after at k = (HasKey before (key_of at) × (after ≡ before)) ⊎ ((HasKey before (key_of at) → ⊥) × (after ≡ before ++ reached_by at k ∷ []))
+abbrev pub IsMarkedMore : List Mark → List Mark → At → ℕ → Option ℕ → Type 0
+IsMarkedMore before after at k over = (HasKey before (key_of at) × (after ≡ before)) ⊎ ((HasKey before (key_of at) → ⊥) × (after ≡ before ++ reached_by at k over ∷ []))
 
 abbrev pub HasDistinctKeys : List Mark → Type 0
 HasDistinctKeys reached = (k l : ℕ) (a b : Mark) → k < l → slice_get reached k ≡ Some a → slice_get reached l ≡ Some b → key_of a.at ≢ key_of b.at
@@ -44,8 +50,13 @@ pub record IsIndex (reached : List Mark) (by_key : ByKey) : Type 0 where
   pub marked : (entry : Mark) → Contains reached entry → get nat_eq by_key (key_of entry.at) ≡ Some entry.instance
   pub only : (key k : ℕ) → get nat_eq by_key key ≡ Some k → IsMarkedBy reached key k
 
+-- the bit of each dart is set
+abbrev pub AreSeen : List Mark → ℕ → Type 0
+AreSeen reached bits = (entry : Mark) → Contains reached entry → bit_at bits (bit_of (key_of entry.at)) ≡ 1
+
 -- each key is its dart's, and comes once; and where there is a map, it has all of them
-pub record AreMarked (reached : List Mark) (by_key : Option ByKey) : Type 0 where
+pub record AreMarked (reached : List Mark) (by_key : Option ByKey) (bits : ℕ) : Type 0 where
   pub keyed : AreKeyed reached
   pub distinct : HasDistinctKeys reached
   pub indexed : IfSome by_key (IsIndex reached)
+  pub seen : AreSeen reached bits

@@ -56,6 +56,8 @@ module _ (app : PendingOf) where
       pub grown : IsGrown before after k d
       pub closed : IsClosed before
       pub here : HasMark after d k
+      -- the arc over which an entry was reached leads back to a marked dart
+      pub back : (j l : ℕ) (entry : Mark) → length before ≤ j → slice_get after j ≡ Some entry → entry.over ≡ Some l → IsTrue (type_of embed l) → HasMark after (result.alpha l (name_of app entry.at)) k
       pub followed : (j l : ℕ) (entry : Mark) → length before ≤ j → slice_get after j ≡ Some entry → IsPairBefore j l n i → IsTrue (type_of embed l) → HasMark after (result.alpha l (name_of app entry.at)) k
 
   -- In each unfolding, and whatever was reached before the walk: the arcs of this entry were followed as far as label i.

@@ -1,5 +1,5 @@
 //! What is found for each embedding that is asked for: its deciding instances, and the darts that they reach.
-ghost use Rattle.std.specs.Prelude.{◌≡◌, ◌<◌, length, replicate, slice_get, slice_set, Some, None, IfOk};
+ghost use Rattle.std.specs.Prelude.{◌≡◌, ◌<◌, length, replicate, slice_set, Some, None, IfOk};
 
 use crate::deciding_instance::DecidingInstance;
 use crate::marks::Marks;
@@ -35,13 +35,4 @@ pub(crate) fn put_orbits(by_embed: &mut OrbitsByEmbed, embed: u8, orbits: Decide
     ensures { by_embed.new.items ≡ slice_set by_embed.old.items embed (Some orbits) }
 {
     by_embed[embed as usize] = Some(orbits);
-}
-
-/// Takes the orbits of an embedding out.
-pub(crate) fn take_orbits(by_embed: &mut OrbitsByEmbed, embed: u8) -> Option<DecidedOrbits>
-    requires { embed < length by_embed.old.items }
-    ensures orbits { slice_get by_embed.old.items embed ≡ Some result }
-    ensures rest { by_embed.new.items ≡ slice_set by_embed.old.items embed None }
-{
-    by_embed[embed as usize].take()
 }

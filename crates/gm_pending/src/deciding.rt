@@ -1,14 +1,16 @@
 //! Which instances decide the values of a result, and which of its darts they reach.
-ghost use Rattle.std.specs.Prelude.{◌≡◌, ℕ, ◌+◌, ◌*◌, ◌<◌, ◌≤◌, [], ◌∷◌, ◌++◌, length, Some, None, IfOk, IsTrue, OnOk, OnErr};
+ghost use Rattle.std.specs.Prelude.{◌≡◌, ℕ, ◌+◌, ◌*◌, ◌<◌, ◌≤◌, ◌⊎◌, [], ◌∷◌, ◌++◌, length, false, Some, None, IfOk, IsTrue, OnOk, OnErr};
 ghost use Rattle.std.specs.List.{Contains};
 ghost use Rattle.gm_model.specs.declared.schema.Embed.{Embed};
 ghost use Rattle.gm_model.specs.declared.rule.Side.TheVariants.{Right};
 ghost use Rattle.gm_model.specs.Components.{IsAssigned};
+ghost use Rattle.gm_model.specs.Labels.{has};
 ghost use Rattle.gm_model.specs.Maps.{IsEmbedAt};
 ghost use Rattle.gm_model.specs.Rules.{has_word};
 ghost use Rattle.gm_theory.specs.Theorem.{Unfolded};
 ghost use Rattle.gm_pending.specs.declared.deciding_instance.DecidingInstance.{DecidingInstance};
 ghost use Rattle.gm_pending.specs.declared.marks.Mark.{Mark};
+ghost use Rattle.gm_pending.specs.MadeLabels.{AreMadeLabels};
 ghost use Rattle.gm_pending.specs.Marks.{key_of, HasKey};
 ghost use Rattle.gm_pending.specs.Reached.{AreReached, AreResultDarts, AreSomeReached, IsClosed, IsGrown, IsSpreadTo, IsFollowedTo, IsFollowed, IsDecidedUpTo, IsAlwaysOneOrbit, IsUnmarked, AreMarkedTo, ungiven};
 ghost use Rattle.gm_pending.specs.Results.{IsPrepared, AreDecidingInstances, IsAsked, IsResultDart, IsUnfoldedIn, IsWithinReach, instances_of, with_instances, name_of, rule_in};
@@ -20,7 +22,7 @@ use crate::lookup::Lookup;
 use crate::marks::{Mark, Marks};
 use crate::pending::Pending;
 use gm_arena::Steps;
-use gm_model::{Embed, OutOfMemory};
+use gm_model::{Embed, Mask, OutOfMemory};
 use std::sync::ledger::Ledger;
 
 /// So many instances are looked through one after another, since that is faster than any look-up.
@@ -59,7 +61,12 @@ impl Pending<'_, '_> {
     {
         let nodes = self.plan.left_nodes();
         let instances = u64::from(nodes) * u64::from(self.found.positions());
-        if self.lookup.is_none() && instances > FEW && self.walks(embed) && self.makes_arcs() {
+        let mask = self.arena.schema().embeds.as_slice()[embed as usize].mask;
+        if self.lookup.is_none()
+            && instances > FEW
+            && self.walks(embed)
+            && self.made_labels(mask).bits != 0
+        {
             self.lookup = Some(Lookup::build(self.alloc, self.found, nodes)?);
         }
         Ok(())
@@ -193,7 +200,7 @@ impl Pending<'_, '_> {
     {
         for position in 0..self.positions() {
             let at = self.place(node, position);
-            marks.mark_new(at, index, self.positions() as usize)?;
+            marks.mark_new(at, index, None, self.positions() as usize)?;
         }
         Ok(())
     }
@@ -250,20 +257,22 @@ impl Pending<'_, '_> {
     {
         // The application tells here what its type keeps.
         prove!(self.labels() <= 8);
+        let made = self.made_labels(declared.mask);
         let mut next = marks.len();
-        marks.mark(at, index)?;
+        marks.mark(at, index, None)?;
         while next < marks.len() {
             let from = marks.get(next);
-            self.spread(from, embed, declared, marks, steps)?;
+            self.spread(from, made, embed, declared, marks, steps)?;
             next += 1;
         }
         Ok(())
     }
 
-    /// Marks the neighbours of a reached dart.
+    /// Marks the neighbours of a reached dart. That from which it was reached is marked.
     fn spread<L: Ledger>(
         &self,
         from: Mark,
+        made: Mask,
         embed: u8,
         declared: &Embed,
         marks: &mut Marks,
@@ -272,6 +281,7 @@ impl Pending<'_, '_> {
         requires embed { IsEmbedAt self.now.map.schema embed declared.now }
         requires darts { AreResultDarts self.now marks.old }
         requires from { Contains marks.old from }
+        requires made { AreMadeLabels self.now declared.now.mask made }
         ensures darts { AreResultDarts self.now marks.new }
         ensures followed { OnOk result (IsFollowedTo self.now declared.now from marks.old marks.new (self.now.map.schema.dim + 1)) }
         ensures grown { IsFollowed self.now declared.now from marks.old marks.new }
@@ -279,13 +289,27 @@ impl Pending<'_, '_> {
         ensures cost { steps.new ≤ steps.old + (self.now.map.schema.dim + 1) }
         ensures least { steps.old ≤ steps.new }
     {
+        let asked = without(declared.mask, from.over);
         for label in 0..self.labels() {
-            if declared.mask.has(label) {
-                let to = self.alpha(from.at, label, steps);
-                marks.mark(to, from.instance)?;
+            if asked.has(label) {
+                let to = self.neighbour(from.at, label, made.has(label), steps);
+                marks.mark(to, from.instance, Some(label))?;
             }
         }
         Ok(())
+    }
+}
+
+/// The labels of a set but one, where there is one.
+fn without(labels: Mask, one: Option<u8>) -> Mask
+    ensures among { (i : ℕ) → i < 8 → IsTrue (has result i) → IsTrue (has labels i) }
+    ensures others { (i : ℕ) → i < 8 → has result i ≡ false → (one ≡ Some i) ⊎ (has labels i ≡ false) }
+{
+    match one {
+        Some(label) if label < 8 => Mask {
+            bits: labels.bits & !(1 << label),
+        },
+        _ => labels,
     }
 }
 

@@ -14,6 +14,8 @@ use std::marker::Model;
 pub(crate) struct Mark {
     pub(crate) at: At,
     pub(crate) instance: u32,
+    /// The label of the arc over which the dart was reached, if it was. Back over it lies a marked dart.
+    pub(crate) over: Option<u8>,
     /// The number of the dart. It is kept, so that a search only compares numbers.
     key: u64,
 }
@@ -29,6 +31,9 @@ pub(crate) struct Marks {
     /// The index of the deciding instance, by the key of a dart, where there are more than a few. In
     /// a box it leaves the marks of a few darts small, which are moved more than once.
     by_key: Option<Box<HashMap<u64, u32>>>,
+    /// The bits of the darts, by their keys. A dart whose bit isn't set is not marked, and needs no
+    /// search.
+    bits: u64,
 }
 
 impl Model for Marks {
@@ -41,7 +46,7 @@ impl Model for Marks {
 
     ghost view = { λ a. a.reached.items };
 
-    ghost invariant = { λ a. AreMarked a.reached.items (option_map (λ b. b.value) a.by_key) };
+    ghost invariant = { λ a. AreMarked a.reached.items (option_map (λ b. b.value) a.by_key) a.bits };
 }
 
 impl Marks {
@@ -53,6 +58,7 @@ impl Marks {
             alloc,
             reached: Vec::new(alloc),
             by_key: None,
+            bits: 0,
         }
     }
 
@@ -86,6 +92,9 @@ impl Marks {
         ensures distinct { HasDistinctKeys self.now }
     {
         let wanted = key(at);
+        if (self.bits >> (wanted / 2 % 64)) & 1 == 0 {
+            return None;
+        }
         match &self.by_key {
             Some(by_key) => by_key.get(&wanted).copied(),
             None => instance_among(&self.reached, wanted),
@@ -94,8 +103,13 @@ impl Marks {
 
     /// Marks a dart, unless it is marked. Where memory was wanting, nothing is marked.
     #[inline]
-    pub(crate) fn mark(&mut self, at: At, instance: u32) -> Result<(), OutOfMemory>
-        ensures ok { OnOk result (IsMarkedMore self.old self.new at instance) }
+    pub(crate) fn mark(
+        &mut self,
+        at: At,
+        instance: u32,
+        over: Option<u8>,
+    ) -> Result<(), OutOfMemory>
+        ensures ok { OnOk result (IsMarkedMore self.old self.new at instance over) }
         ensures err { OnErr result (self.new ≡ self.old) }
         ensures distinct { HasDistinctKeys self.old }
     {
@@ -105,24 +119,32 @@ impl Marks {
         if self.by_key.is_none() && self.reached.len() >= FEW {
             self.index_all()?;
         }
-        self.mark_new(at, instance, FEW)
+        self.mark_new(at, instance, over, FEW)
     }
 
     /// Marks a dart that isn't marked. Where memory was wanting, nothing is marked. It makes no index,
     /// so that darts that need no search are marked without one; and where there is no room, it makes
     /// room for so many at once.
     #[inline]
-    pub(crate) fn mark_new(&mut self, at: At, instance: u32, room: usize) -> Result<(), OutOfMemory>
+    pub(crate) fn mark_new(
+        &mut self,
+        at: At,
+        instance: u32,
+        over: Option<u8>,
+        room: usize,
+    ) -> Result<(), OutOfMemory>
         requires absent { HasKey self.old (key_of at) → ⊥ }
-        ensures ok { OnOk result (self.new ≡ self.old ++ reached_by at instance ∷ []) }
+        ensures ok { OnOk result (self.new ≡ self.old ++ reached_by at instance over ∷ []) }
         ensures err { OnErr result (self.new ≡ self.old) }
     {
         let mark = Mark {
             at,
             instance,
+            over,
             key: key(at),
         };
         if self.by_key.is_none() {
+            self.bits |= 1 << (mark.key / 2 % 64);
             push(&mut self.reached, mark, room)
         } else {
             self.add_to_index(mark)
@@ -140,6 +162,7 @@ impl Marks {
     {
         self.reached.reserve(1)?;
         self.by_key = put(self.by_key.take(), mark)?;
+        self.bits |= 1 << (mark.key / 2 % 64);
         self.reached.push_reserved(mark);
         Ok(())
     }
@@ -159,10 +182,10 @@ pub(crate) fn push<T: Copy>(entries: &mut Vec<T>, entry: T, room: usize) -> Resu
     ensures ok { OnOk result (entries.new.items ≡ entries.old.items ++ entry ∷ []) }
     ensures err { OnErr result (entries.new.items ≡ entries.old.items) }
 {
-    if entries.len() == entries.capacity() {
-        entries.reserve(room)?;
+    if entries.len() >= entries.capacity() {
+        entries.reserve(room.max(1))?;
     }
-    entries.push(entry)?;
+    entries.push_reserved(entry);
     Ok(())
 }
 
@@ -194,14 +217,17 @@ fn put(
     Ok(Some(by_key))
 }
 
-/// The index of the deciding instance of the dart with this key.
+/// The index of the deciding instance of the dart with this key. It begins with the last dart, since
+/// a walk comes back to those that it found late.
 fn instance_among(reached: &[Mark], wanted: u64) -> Option<u32>
     requires { AreKeyed reached.now }
     ensures { MatchOption result (HasKey reached.now wanted → ⊥) (IsMarkedBy reached.now wanted) }
 {
-    for entry in reached {
-        if entry.key == wanted {
-            return Some(entry.instance);
+    let mut place = reached.len();
+    while place > 0 {
+        place -= 1;
+        if reached[place].key == wanted {
+            return Some(reached[place].instance);
         }
     }
     None
@@ -212,7 +238,7 @@ fn key(at: At) -> u64
     ensures { result ≡ key_of at }
 {
     match at {
-        At::Old(slot) => u64::from(slot.at) * 512,
-        At::New { node, position } => u64::from(position) * 512 + u64::from(node) + 1,
+        At::Old(slot) => u64::from(slot.at) * 2,
+        At::New { node, position } => u64::from(position) * 64 + u64::from(node) * 2 + 1,
     }
 }

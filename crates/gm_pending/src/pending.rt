@@ -1,10 +1,10 @@
-ghost use Rattle.std.specs.Prelude.{◌≡◌, ◌≢◌, ℕ, ◌+◌, ◌<◌, ◌≤◌, List, length, Some, None, MatchOption, ◌↔◌, IfOk, IsTrue};
+ghost use Rattle.std.specs.Prelude.{◌≡◌, ◌≢◌, ℕ, ◌+◌, ◌<◌, ◌≤◌, List, length, false, Some, None, MatchOption, ◌↔◌, IfOk, IsTrue};
 
 use crate::at::At;
 use crate::decided_orbits::{OrbitsByEmbed, no_orbits};
 use crate::lookup::{Lookup, instance_at};
 use gm_arena::{Arena, Slot, Steps};
-use gm_model::{MOST_DARTS, OutOfMemory, Side, Step};
+use gm_model::{MOST_DARTS, Mask, OutOfMemory, Side, Step};
 use gm_plan::{Instances, Plan};
 use std::alloc::Global;
 use std::marker::Model;
@@ -46,9 +46,8 @@ impl<'a, 'm> Pending<'a, 'm> {
     ghost use Rattle.gm_model.specs.Rules.{rule_of};
     ghost use Rattle.gm_model.specs.Unfolding.{IsArcAfter, IsMadeArc};
     ghost use Rattle.gm_arena.specs.ArenaAsMap.{as_map};
-    ghost use Rattle.gm_model.specs.declared.step.Step.TheVariants.{Absent};
-    ghost use Rattle.gm_plan.specs.Changes.{made_step};
     ghost use Rattle.gm_plan.specs.InArena.{AreMatched, slot_number};
+    ghost use Rattle.gm_pending.specs.MadeLabels.{KeepsArcs, AreMadeLabels};
     ghost use Rattle.gm_pending.specs.Lookup.{IsWithin, IsAtSlot};
     ghost use Rattle.gm_pending.specs.Results.{IsPrepared, pending_of, scene_in, rule_in, name_of, IsResultDart, IsRightInstance};
 
@@ -89,8 +88,28 @@ impl<'a, 'm> Pending<'a, 'm> {
         ensures cost { steps.new ≤ steps.old + 1 }
         ensures least { steps.old ≤ steps.new }
     {
-        // Where each arc of a right step is there already, no dart is looked up.
-        if self.keeps_arcs(label) {
+        self.neighbour(at, label, !self.keeps_arcs(label), steps)
+    }
+
+    /// The neighbour along a label, where `made` tells whether the rule makes arcs at the label that
+    /// the old map doesn't have.
+    pub(crate) fn neighbour<L: Ledger>(
+        &self,
+        at: At,
+        label: u8,
+        made: bool,
+        steps: &mut Steps<L>,
+    ) -> At
+        requires dart { IsResultDart self.now at }
+        requires label { label ≤ self.now.map.schema.dim }
+        requires kept { made ≡ false → KeepsArcs self.now label }
+        ensures arc { IsArcAfter (scene_in self.now) (name_of self.now at) label (name_of self.now result) }
+        ensures dart { IsResultDart self.now result }
+        ensures cost { steps.new ≤ steps.old + 1 }
+        ensures least { steps.old ≤ steps.new }
+    {
+        // Where it makes none, an old dart isn't looked up.
+        if !made {
             if let At::Old(slot) = at {
                 return At::Old(self.arena.alpha(slot, label, steps));
             }
@@ -104,22 +123,23 @@ impl<'a, 'm> Pending<'a, 'm> {
         }
     }
 
-    /// Whether the rule makes arcs that the old map doesn't have.
-    pub(crate) fn makes_arcs(&self) -> bool
-        ensures prepared { IsPrepared self.now }
+    /// The labels of a set at which the rule makes arcs that the old map doesn't have.
+    pub(crate) fn made_labels(&self, among: Mask) -> Mask
+        ensures { AreMadeLabels self.now among result }
     {
+        let mut bits = 0;
         for label in 0..self.labels() {
-            if !self.keeps_arcs(label) {
-                return true;
+            if among.has(label) && !self.keeps_arcs(label) {
+                bits |= 1 << label;
             }
         }
-        false
+        Mask { bits }
     }
 
     /// Whether each arc of a right step at the label is there in the old map.
     fn keeps_arcs(&self, label: u8) -> bool
         requires { label ≤ self.now.map.schema.dim }
-        ensures { IsTrue result → (x : ℕ) → x < length (rule_in self.now).nodes → made_step (rule_in self.now) x label ≡ Absent }
+        ensures { IsTrue result → KeepsArcs self.now label }
     {
         for node in 0..self.nodes() {
             match self.plan.made_step(node, label) {

@@ -12,7 +12,7 @@ ghost use Rattle.gm_plan.specs.InArena.{slot_number};
 ghost use Rattle.gm_pending.specs.Results.{IsPrepared, IsAsked, AreAllGiven, IsResultDart, IsValueIn, instances_of, given_at, with_instances, name_of, place_of, rule_in};
 
 use crate::at::At;
-use crate::decided_orbits::{DecidedOrbits, put_orbits, take_orbits};
+use crate::decided_orbits::DecidedOrbits;
 use crate::deciding_instance::DecidingInstance;
 use crate::pending::Pending;
 use gm_arena::{Slot, Steps};
@@ -35,11 +35,10 @@ impl Pending<'_, '_> {
         requires value { (kept : Embed) → IsEmbedAt self.old.map.schema embed kept → IsValueOf kept.kind value }
         ensures { self.new ≡ with_instances self.old embed (given_at (instances_of self.old embed) index value) }
     {
-        let Some(mut orbits) = take_orbits(&mut self.orbits, embed) else {
-            unreachable!()
-        };
-        orbits.instances[index as usize].given = Some(value);
-        put_orbits(&mut self.orbits, embed, orbits);
+        match &mut self.orbits[embed as usize] {
+            Some(orbits) => orbits.instances[index as usize].given = Some(value),
+            None => unreachable!(),
+        }
     }
 
     /// The value of a dart of the result, of an embedding whose deciding instances all have values.

@@ -1,4 +1,4 @@
-use Rattle.std.proofs.Common.{◌≡◌, inr, subst, arith}
+use Rattle.std.proofs.Common.{◌≡◌, None, inr, subst, arith}
 use Rattle.gm_pending.specs.Reached.{AreMarkedTo}
 use Rattle.gm_pending.proofs.OneOrbit.{next_absent, next_marked, none_marked_yet}
 use Rattle.gm_pending.proofs.Spread.{marked_darts}
@@ -24,7 +24,7 @@ loop-position-preserved c =
     let absent = next_absent app prepared c.args.node c.requires.right c.args.marks.now l.marks c.args.index l.position at l.invariant.marked c.place-at.ensures.name
     c.requires.unmarked (omega (arith, c.loop-position-test.true, c.positions-position-end.ensures.positions)) c.place-at.ensures.dart l.invariant.darts in
     record {
-      darts = marked_darts app prepared l.marks c.mark_new.new.self at c.args.index (inr (absent, c.in_ok-mark_new.ensures.ok)) c.place-at.ensures.dart l.invariant.darts;
+      darts = marked_darts app prepared l.marks c.mark_new.new.self at c.args.index None (inr (absent, c.in_ok-mark_new.ensures.ok)) c.place-at.ensures.dart l.invariant.darts;
       marked = rw c.in_ok-mark_new.ensures.ok (next_marked app prepared c.args.node c.requires.right c.args.marks.now l.marks c.args.index l.position at l.invariant.marked c.place-at.ensures.name);
     }
 

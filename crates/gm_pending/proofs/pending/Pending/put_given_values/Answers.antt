@@ -1,4 +1,4 @@
-use Rattle.std.proofs.Common.{◌≡◌, ◌*◌, length, get_or, IsSome, Some, sym, ◌∙◌, subst, arith, mul_comm}
+use Rattle.std.proofs.Common.{◌≡◌, ◌*◌, length, get_or, IsSome, None, Some, sym, ◌∙◌, subst, arith, mul_comm}
 use Rattle.std.proofs.lemmas.Nat.{mul-add-lt}
 use Rattle.std.proofs.lemmas.Option.{slice_get-get_or}
 use Rattle.gm_model.specs.Unfolding.{added_nodes}
@@ -19,18 +19,18 @@ loop-entry-init c = record {
 
 pub new_number-number-requires-clause-added : goal.new_number-number-requires-clause-added
 new_number-number-requires-clause-added c =
-    let here = slice_get-get_or c.as_slice-entry-items.result.now c.loop-entry.entry-index (record { at = Old (record { at = 0 }); instance = 0; key = 0 }) c.loop-entry-test.true in
+    let here = slice_get-get_or c.as_slice-entry-items.result.now c.loop-entry.entry-index (record { at = Old (record { at = 0 }); instance = 0; over = None; key = 0 }) c.loop-entry-test.true in
     (subst (IsResultDart c.args.self.now) c.in-New.is (entry_dart c.args.self.now c.orbits-orbits.ensures.prepared c.args.embed c.as_slice-entry-items.result.now c.requires.embed c.loop-entry.invariant.reached c.loop-entry.entry-index _ here)).0
 
 pub new_number-number-requires-clause-position : goal.new_number-number-requires-clause-position
 new_number-number-requires-clause-position c =
-    let here = slice_get-get_or c.as_slice-entry-items.result.now c.loop-entry.entry-index (record { at = Old (record { at = 0 }); instance = 0; key = 0 }) c.loop-entry-test.true in
+    let here = slice_get-get_or c.as_slice-entry-items.result.now c.loop-entry.entry-index (record { at = Old (record { at = 0 }); instance = 0; over = None; key = 0 }) c.loop-entry-test.true in
     (subst (IsResultDart c.args.self.now) c.in-New.is (entry_dart c.args.self.now c.orbits-orbits.ensures.prepared c.args.embed c.as_slice-entry-items.result.now c.requires.embed c.loop-entry.invariant.reached c.loop-entry.entry-index _ here)).1
 
 pub given-requires : goal.given-requires
 given-requires c =
-    let here = slice_get-get_or c.as_slice-entry-items.result.now c.loop-entry.entry-index (record { at = Old (record { at = 0 }); instance = 0; key = 0 }) c.loop-entry-test.true in
-    let entry = get_or c.as_slice-entry-items.result.now c.loop-entry.entry-index (record { at = Old (record { at = 0 }); instance = 0; key = 0 }) in
+    let here = slice_get-get_or c.as_slice-entry-items.result.now c.loop-entry.entry-index (record { at = Old (record { at = 0 }); instance = 0; over = None; key = 0 }) c.loop-entry-test.true in
+    let entry = get_or c.as_slice-entry-items.result.now c.loop-entry.entry-index (record { at = Old (record { at = 0 }); instance = 0; over = None; key = 0 }) in
     let there = entry_given c.args.self.now c.orbits-orbits.ensures.prepared c.args.embed c.as_slice-entry-items.result.now c.requires.embed c.loop-entry.invariant.reached c.loop-entry.entry-index _ here (c.requires.given c.args.embed c.requires.embed) in
     subst (λ ds. IsSome (given_of ds entry.instance)) (sym (c.deref.ensures.value ∙ c.orbits-orbits.ensures.deciders)) there
 
@@ -50,8 +50,8 @@ loop-entry-preserved c =
     let app = c.args.self.now in
     let items = c.as_slice-entry-items.result.now in
     let now = c.loop-entry.invariant in
-    let here = slice_get-get_or items c.loop-entry.entry-index (record { at = Old (record { at = 0 }); instance = 0; key = 0 }) c.loop-entry-test.true in
-    let entry = get_or items c.loop-entry.entry-index (record { at = Old (record { at = 0 }); instance = 0; key = 0 }) in
+    let here = slice_get-get_or items c.loop-entry.entry-index (record { at = Old (record { at = 0 }); instance = 0; over = None; key = 0 }) c.loop-entry-test.true in
+    let entry = get_or items c.loop-entry.entry-index (record { at = Old (record { at = 0 }); instance = 0; over = None; key = 0 }) in
     let dart = entry_dart app c.orbits-orbits.ensures.prepared c.args.embed items c.requires.embed now.reached c.loop-entry.entry-index _ here in
     elim c.match-entry.branch [
       | in-New w ↦

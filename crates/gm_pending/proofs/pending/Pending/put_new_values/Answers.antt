@@ -1,4 +1,4 @@
-use Rattle.std.proofs.Common.{◌≡◌, IsSome, Some, get_or, subst, sym, ◌∙◌, arith}
+use Rattle.std.proofs.Common.{◌≡◌, IsSome, None, Some, get_or, subst, sym, ◌∙◌, arith}
 use Rattle.std.proofs.lemmas.Option.{slice_get-get_or}
 use Rattle.gm_pending.specs.declared.at.At.TheVariants.{Old, New}
 use Rattle.gm_pending.specs.Gathered.{AreAllReached}
@@ -23,8 +23,8 @@ loop-entry-init c =
 
 pub given-value-requires : goal.given-value-requires
 given-value-requires c =
-    let here = slice_get-get_or c.as_slice-entry-items.result.now c.loop-entry.entry-index (record { at = Old (record { at = 0 }); instance = 0; key = 0 }) c.loop-entry-test.true in
-    let entry = get_or c.as_slice-entry-items.result.now c.loop-entry.entry-index (record { at = Old (record { at = 0 }); instance = 0; key = 0 }) in
+    let here = slice_get-get_or c.as_slice-entry-items.result.now c.loop-entry.entry-index (record { at = Old (record { at = 0 }); instance = 0; over = None; key = 0 }) c.loop-entry-test.true in
+    let entry = get_or c.as_slice-entry-items.result.now c.loop-entry.entry-index (record { at = Old (record { at = 0 }); instance = 0; over = None; key = 0 }) in
     let there = entry_given c.args.self.now c.orbits-orbits.ensures.prepared c.args.embed c.as_slice-entry-items.result.now c.requires.embed c.loop-entry.invariant.there c.loop-entry.entry-index _ here (c.requires.given c.args.embed c.requires.embed) in
     subst (λ ds. IsSome (given_of ds entry.instance)) (sym (c.deref.ensures.value ∙ c.orbits-orbits.ensures.deciders)) there
 
@@ -33,8 +33,8 @@ loop-entry-preserved c =
     let app = c.args.self.now in
     let items = c.as_slice-entry-items.result.now in
     let now = c.loop-entry.invariant in
-    let here = slice_get-get_or items c.loop-entry.entry-index (record { at = Old (record { at = 0 }); instance = 0; key = 0 }) c.loop-entry-test.true in
-    let entry = get_or items c.loop-entry.entry-index (record { at = Old (record { at = 0 }); instance = 0; key = 0 }) in
+    let here = slice_get-get_or items c.loop-entry.entry-index (record { at = Old (record { at = 0 }); instance = 0; over = None; key = 0 }) c.loop-entry-test.true in
+    let entry = get_or items c.loop-entry.entry-index (record { at = Old (record { at = 0 }); instance = 0; over = None; key = 0 }) in
     elim c.match-entry.branch [
       | in-Old+in_ok-push w ↦
           let given = subst (λ ds. given_of ds entry.instance ≡ Some w.given-value.result) (w.deref.ensures.value ∙ c.orbits-orbits.ensures.deciders) w.given-value.ensures in

@@ -1,4 +1,4 @@
-use Rattle.std.proofs.Common.{◌≡◌, ◌+◌, ◌<◌, length, sym, subst, arith, ◌*◌, ◌≤◌}
+use Rattle.std.proofs.Common.{◌≡◌, ◌+◌, ◌<◌, length, None, sym, subst, arith, ◌*◌, ◌≤◌}
 use Rattle.std.proofs.lemmas.Option.{slice_get_within}
 use Rattle.gm_pending.specs.Reached.{IsSpreadTo}
 use Rattle.gm_pending.specs.Results.{name_of}
@@ -21,9 +21,9 @@ loop-next-init g c =
     let more = c.in_ok-mark.ensures.ok in
     let start : c.len-next.result ≡ length c.args.marks.now = c.len-next.ensures.len in
     record {
-      darts = marked_darts app prepared c.args.marks.now c.mark.new.self c.args.at c.args.index more c.requires.dart c.requires.darts;
+      darts = marked_darts app prepared c.args.marks.now c.mark.new.self c.args.at c.args.index None more c.requires.dart c.requires.darts;
       late = omega (arith, start);
-      within = omega (arith, start, stays_longer c.args.marks.now c.mark.new.self (marked_kept app prepared c.args.marks.now c.mark.new.self c.args.at c.args.index more));
+      within = omega (arith, start, stays_longer c.args.marks.now c.mark.new.self (marked_kept app prepared c.args.marks.now c.mark.new.self c.args.at c.args.index None more));
       spread = λ result unfolded closed. subst (λ n. IsSpreadTo app c.args.declared.now result c.args.marks.now c.mark.new.self c.args.index (name_of app c.args.at) n 0) (sym start)
           (spread_starts app prepared c.args.embed c.args.declared.now c.requires.embed result unfolded c.args.marks.now c.mark.new.self c.args.at c.args.index closed c.requires.absent more);
       cost = rw start (omega arith);
