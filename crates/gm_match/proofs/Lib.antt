@@ -3,6 +3,7 @@ pub mod InArena
 pub mod Answering
 pub mod Costs
 pub mod Paths
+pub mod FirstBroken
 pub mod FirstTurns
 pub mod ForcedMet
 pub mod Growing
