@@ -1,6 +1,7 @@
 pub mod Hooks
 pub mod InArena
 pub mod Answering
+pub mod Apart
 pub mod Costs
 pub mod Paths
 pub mod FirstBroken
