@@ -2,6 +2,7 @@ pub mod Hooks
 pub mod InArena
 pub mod Answering
 pub mod Apart
+pub mod Column
 pub mod Costs
 pub mod Paths
 pub mod FirstBroken

@@ -12,6 +12,7 @@ ghost use Rattle.gm_walk.specs.Walks.{AreLive, along, names_of};
 ghost use Rattle.gm_match.specs.Layout.{AreMatchable, AreRows, HaveFirstTurns, IsCandidateAt, LeadBefore, IsFirstTo};
 ghost use Rattle.gm_match.specs.Taken.{AreSlotsOf};
 
+use crate::columns::fill_columns;
 use crate::rows::{first_row, later_row};
 use gm_arena::{Arena, Slot, Steps};
 use gm_model::{MOST_NODES, OutOfMemory, Word};
@@ -118,6 +119,9 @@ fn fill_slots<L: Ledger>(
     let nodes = plan.left_nodes() as usize;
     if nodes == 1 {
         return fill_along(walk, slots);
+    }
+    if plan.hooks() == 1 {
+        return fill_columns(plan, arena, walk, slots, steps);
     }
     slots.reserve(walk.len() * nodes)?;
     let mut row = [darts[0]; MOST_NODES];

@@ -13,6 +13,7 @@ use Rattle.gm_walk.specs.Walks.{AreLive, names_of}
 use Rattle.gm_walk.proofs.NameLemmas.{name_there}
 use Rattle.gm_match.specs.Layout.{AreRows, dart_in, stepped}
 use Rattle.gm_match.proofs.Growing.{first_next, later_next, none_yet, one_first, one_more, wide_row, none_ok}
+use Rattle.gm_match.proofs.Column.{column_rows}
 use Rattle.gm_match.proofs.Costs.{row_cost, row_room, some_node}
 use Rattle.gm_match.proofs.OneNode.{walk_rows}
 use Rattle.gm_match.proofs.Stepping.{same_count}
@@ -212,3 +213,9 @@ returns-clause-cost g c =
 
 pub returns-clause-least : goal.returns-clause-least
 returns-clause-least g c = c.loop-position.invariant.least
+
+pub returns-then-hooks-eq1-clause-slots : goal.returns-then-hooks-eq1-clause-slots
+returns-then-hooks-eq1-clause-slots g c =
+    let m = c.args.arena.now in
+    let rule = rule_of c.args.plan.now.table in
+    on_ok_weaker c.fill_columns.result (λ made. (made.0, made.1, column_rows m rule (names_of m c.args.darts.now) (names_of m c.args.walk.now) c.args.turns.now made.0 _ _ (sym c.hooks.ensures ∙ c.if-hooks-eq1.true) c.requires.starts made.2)) c.fill_columns.ensures.columns
