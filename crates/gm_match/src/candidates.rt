@@ -129,7 +129,7 @@ fn fill_slots<L: Ledger>(
     push_row(&row[..nodes], slots);
     let mut turn = 0;
     for position in 1..walk.len() {
-        turn = next_turn(plan, turns, turn, position as u32);
+        turn = next_turn(turns, turn, position as u32);
         later_row(plan, arena, walk[position], slots, turn, &mut row, steps);
         push_row(&row[..nodes], slots);
     }
@@ -157,17 +157,13 @@ fn fill_along(walk: &[Slot], slots: &mut Vec<Slot>) -> Result<(), OutOfMemory>
     Ok(())
 }
 
-/// The first turn to the position, where those before `from` lead to earlier positions. With one
-/// hook it isn't asked for, and not looked for.
-fn next_turn(plan: &Plan<'_>, turns: &[u32], from: usize, position: u32) -> usize
+/// The first turn to the position, where those before `from` lead to earlier positions.
+fn next_turn(turns: &[u32], from: usize, position: u32) -> usize
     requires before { LeadBefore turns.now from position }
     requires some { (k : ℕ) × IsFirstTo turns.now position k }
     ensures before { LeadBefore turns.now result position }
-    ensures first { 1 < length (rule_of plan.now.table).hooks → IsFirstTo turns.now position result }
+    ensures first { IsFirstTo turns.now position result }
 {
-    if plan.hooks() <= 1 {
-        return from;
-    }
     let mut turn = from;
     while turns[turn] != position {
         turn += 1;

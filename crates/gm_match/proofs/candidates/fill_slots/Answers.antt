@@ -82,7 +82,7 @@ later_row-requires-clause-turn g c = λ several count counts.
     let long = c.loop-position.invariant.rows.long ∙ ap length (sym c.deref.ensures.value) in (
       p,
       subst (λ n. p * n ≡ length c.deref.result.now) (same_count rule c.left_nodes-nodes.result count c.left_nodes-nodes.ensures.left counts) long,
-      subst (λ k. k < p * width rule) (one_first turns p first.0 turn first.2 (c.next_turn-turn.ensures.first several)) first.1,
+      subst (λ k. k < p * width rule) (one_first turns p first.0 turn first.2 c.next_turn-turn.ensures.first) first.1,
     )
 
 pub push_row-requires-in-loop-position : goal.push_row-requires-in-loop-position
@@ -113,7 +113,7 @@ loop-position-preserved g c =
     let i = c.loop-position.invariant in
     let wide = wide_row nodes _ row c.left_nodes-nodes.ensures.most planned.within.nodes made.row.long in
     let along = sym (name_there m c.args.walk.now p (record { at = 0 }) c.loop-position-test.true) in
-    let next = later_next m schema rule planned hooks walk turns nodes counts p turn slots row _ (omega (arith, c.loop-position.auto.position)) c.next_turn-turn.ensures.first along made.first
+    let next = later_next m schema rule planned hooks walk turns nodes counts p turn slots row _ (omega (arith, c.loop-position.auto.position)) (λ several. c.next_turn-turn.ensures.first) along made.first
     (subst (λ xs. (t h count : ℕ) → 0 < t → slice_get rule.hooks t ≡ Some h → IsLeftCount rule count → dart_in m row h ≡ stepped m rule count xs turn h) c.deref.ensures.value made.later) in
     record {
       rows = rw c.push_row-in-loop-position.ensures.items (one_more m schema rule planned hooks walk turns nodes counts p slots row i.rows made.row wide next);
