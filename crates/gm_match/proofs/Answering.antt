@@ -6,6 +6,7 @@ use Rattle.std.proofs.lemmas.Option.{slice_get-get_or, slice_get_within, get_or_
 use Rattle.std.specs.FinMap.{get}
 use Rattle.std.specs.List.{slice_get, All, Contains}
 use Rattle.std.specs.Prelude.{slice_index, ◌==◌}
+use Rattle.gm_model.specs.declared.rule.RuleTable.{RuleTable}
 use Rattle.gm_model.specs.declared.rule.Side.TheVariants.{Left}
 use Rattle.gm_model.specs.declared.schema.Schema.{Schema}
 use Rattle.gm_model.specs.declared.value.Value.{Value}
@@ -15,11 +16,11 @@ use Rattle.gm_model.specs.Maps.{IsGeneralised}
 use Rattle.gm_model.specs.Matches.{Placement, ArePositions, IsCandidate, IsInstance, IsMatch, along_hook}
 use Rattle.gm_model.specs.Matches.ArePositions.{Created}
 use Rattle.gm_model.specs.Orbits.{IsPairBefore, IsWalk}
-use Rattle.gm_model.specs.Rules.{Rule, first_hook, has_word, width}
+use Rattle.gm_model.specs.Rules.{Rule, rule_of, first_hook, has_word, width}
 use Rattle.gm_model.specs.Structure.{IsInRange, HasIncidence}
 use Rattle.gm_arena.specs.declared.slot.Slot.{Slot}
 use Rattle.gm_arena.specs.ArenaAsMap.{as_map}
-use Rattle.gm_arena.specs.ArenaMap.{ArenaMap, IsAt, IsLiveName, name_at}
+use Rattle.gm_arena.specs.ArenaMap.{ArenaMap, IsLiveName, name_at}
 use Rattle.gm_arena.specs.Lawful.{IsLawful}
 use Rattle.gm_arena.proofs.MapLemmas.{IsAt-name_at, IsLiveName-name_at}
 use Rattle.gm_plan.specs.Placed.{Placed, slot_at}
@@ -33,7 +34,6 @@ use Rattle.gm_theory.proofs.Turns.{no_places}
 use Rattle.gm_theory.proofs.Walks.{walk_unique}
 use Rattle.gm_walk.specs.Walks.{AreLive, names_of}
 use Rattle.gm_walk.proofs.NameLemmas.{name_there}
-use Rattle.gm_walk.proofs.MarkLemmas.{same_slot}
 use Rattle.gm_match.specs.declared.fault.MatchFault.{MatchFault}
 use Rattle.gm_match.specs.Firsts.{AreMet, IsFirstStep}
 use Rattle.gm_match.specs.Firsts.IsFirstStep.{NotMet}
@@ -41,16 +41,20 @@ use Rattle.gm_match.specs.Layout.{AreDarts, AreHookSlots, IsNoDart, IsCandidateA
 use Rattle.gm_match.specs.Layout.IsNoDart.{Dead}
 use Rattle.gm_match.proofs.InArena.{answered}
 use Rattle.gm_match.specs.Outcome.{application_of, name_of, place_of, IsAnswer, IsCause}
-use Rattle.gm_match.specs.Taken.{TakeEachOnce, TakeEachOnceBefore, IsFirstTwice}
+use Rattle.gm_match.specs.Taken.{TakeEachOnce, TakeEachOnceBefore, TakesEachOnce, IsFirstTwice}
 use Rattle.gm_match.specs.Taken.IsFirstTwice.{Twice}
 use Rattle.gm_match.proofs.Costs.{found_cost, met_cost}
-use Rattle.gm_match.proofs.Stepping.{slot_live, slot_some, meets_all, first_broken}
+use Rattle.gm_match.proofs.Stepping.{one_slot, slot_live, slot_some, meets_all, first_broken}
 
 -- ---- lists of hooks
 
 pub no_items : {A : Type 0} (xs : List A) → length xs ≡ 0 → xs ≡ []
 no_items [] e = refl
 no_items (x ∷ xs) e = absurd (omega arith)
+
+-- the first hook that a table has is that of its rule
+pub first_same : (table other : RuleTable) (hooks : List ℕ) → hooks ≡ other.hooks → other ≡ table → slice_index hooks 0 ≡ slice_index (rule_of table).hooks 0
+first_same table other hooks are same = ap (λ hs. slice_index hs 0) are ∙ ap (λ (t : RuleTable). slice_index t.hooks 0) same
 
 pub none_within : (items : List ℕ) (n : ℕ) → items ≡ [] → All (λ q. q < n) items
 none_within items n none k d h = absurd (omega (arith, ap length none))
@@ -178,10 +182,10 @@ module _ (m : ArenaMap) (rule : Rule) (hooks : List ℕ) (begun : IsBegun m rule
   first_dart : slice_get hooks 0 ≡ Some (slice_index hooks 0)
   first_dart = slice_get-get_or hooks 0 0 begun.some
 
-  abbrev hook : ℕ
+  abbrev pub hook : ℕ
   hook = slice_index rule.hooks 0
 
-  first : first_hook rule ≡ Some hook
+  pub first : first_hook rule ≡ Some hook
   first = slice_get-get_or rule.hooks 0 0 (omega (arith, begun.some, begun.count))
 
   left : IsTrue (has_word rule Left hook)
@@ -248,9 +252,7 @@ module _ (m : ArenaMap) (rule : Rule) (hooks : List ℕ) (begun : IsBegun m rule
         go : (s : Slot) × (slot_at found x p ≡ Some s) → (t : Slot) × (slot_at found y q ≡ Some t) → slot_at found x p ≡ slot_at found y q
         go (s, e) (t, f) =
             let names : name_at m s.at ≡ name_at m t.at = ap (name_of m) (sym e) ∙ same ∙ ap (name_of m) f in
-            let s_at : IsAt m s.at (name_at m t.at) = subst (IsAt m s.at) names (IsAt-name_at m s.at (slot_live m found at.laid.slots x p s e)) in
-            let t_at : IsAt m t.at (name_at m t.at) = IsAt-name_at m t.at (slot_live m found at.laid.slots y q t f) in
-            e ∙ ap Some (same_slot s t (begun.lawful.one_slot t.at s.at (name_at m t.at) t_at s_at)) ∙ sym f
+            e ∙ ap Some (one_slot m begun.lawful s t (slot_live m found at.laid.slots x p s e) (slot_live m found at.laid.slots y q t f) names) ∙ sym f
 
     first_repeat : (params : List Value) (x p y q : ℕ) → y < found.nodes → p < found.positions → q < found.positions → IsPairBefore x p y q → slot_at found x p ≡ slot_at found y q → TakeEachOnceBefore found y q →
         IsFirstRepeat (application_of m rule hooks params) (place_of m found) x p y q
@@ -283,33 +285,17 @@ module _ (m : ArenaMap) (rule : Rule) (hooks : List ℕ) (begun : IsBegun m rule
         go (inl less) (e, f) = omega arith
         go (inr (g, less)) (e, f) = omega arith
 
-    -- ---- one node
+    -- ---- the first hook
 
-    -- no two instances of one node have one slot, since no dart comes twice in a walk
-    pub one_node : found.nodes ≤ 1 → TakeEachOnce found
-    one_node one y q z r before last q_in r_in same = go before
+    -- no two of its instances have one slot, since no dart comes twice in a walk
+    pub hook_once : TakesEachOnce found hook
+    hook_once q r less r_in same = walked.is_walk.distinct q r less (subst (λ k. r < k) walked.size r_in) (sym (lies q (omega (arith, less, r_in))) ∙ ap (name_of m) same ∙ lies r r_in)
       where
         walked : IsWalkedBy (as_map m) rule hooks (place_of m found) at.candidate.walk
         walked = walked_from (as_map m) rule hooks (place_of m found) at.candidate.walk (slice_index hooks 0) first_dart at.candidate.positions
 
         lies : (p : ℕ) → p < found.positions → name_of m (slot_at found hook p) ≡ slice_index at.candidate.walk p
         lies p within = at.candidate.hooked hook p first within
-
-        z_in : z < found.nodes
-        z_in = elim last [
-          | inl less ↦ less
-          | inr end ↦ absurd (let k : r < 0 = end.1 in omega arith)
-        ]
-
-        is_hook : (x : ℕ) → x < found.nodes → x ≡ hook
-        is_hook x h' = let k : hook < found.nodes = (at.laid.nodes hook).0 left in omega arith
-
-        go : IsPairBefore y q z r → ⊥
-        go (inl less) = omega (arith, z_in, one)
-        go (inr (e, less)) =
-            let within : r < length at.candidate.walk = subst (λ k. r < k) walked.size r_in in
-            let here : slot_at found hook q ≡ slot_at found hook r = subst (λ x. slot_at found x q ≡ slot_at found x r) (is_hook z z_in) (subst (λ x. slot_at found x q ≡ slot_at found z r) e same) in
-            walked.is_walk.distinct q r less within (sym (lies q q_in) ∙ ap (name_of m) here ∙ lies r r_in)
 
     -- ---- a match
 

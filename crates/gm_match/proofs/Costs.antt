@@ -60,42 +60,10 @@ whole_cost labels positions node left nodes start after within most a =
     let part : node * positions ≤ nodes * positions = mul-le-mul_right positions (omega (arith, within, most)) in
     omega (arith, mul-le-mul_left labels part, a)
 
--- ---- one label after another
-
-pub low_label : {label dim : ℕ} → label ≤ dim → dim ≤ 7 → label < 8
-low_label most low = omega (arith, most, low)
-
-pub one_step : (before after : ℕ) → after ≡ before + 1 → after ≤ before + 1
-one_step before after e = omega (arith, e)
-
-pub one_least : (before after : ℕ) → after ≡ before + 1 → before ≤ after
-one_least before after e = omega (arith, e)
-
-pub label_below : {label top own : ℕ} → label < top + 1 → top ≡ own → own ≤ 7 → label < 8
-label_below less e low = omega (arith, less, e, low)
+-- ---- labels
 
 pub label_most : {label top own dim : ℕ} → label < top + 1 → top ≡ own → own ≡ dim → label ≤ dim
 label_most less e f = omega (arith, less, e, f)
-
-pub label_within : {label top own dim : ℕ} → label < top + 1 → top ≡ own → own ≡ dim → label < dim + 1
-label_within less e f = omega (arith, less, e, f)
-
-pub label_before : {label top own dim other : ℕ} → top + 1 ≤ label → top ≡ own → own ≡ dim → other < dim + 1 → other < label
-label_before all e f less = omega (arith, all, e, f, less)
-
-pub label_cost : (label labels start before after : ℕ) → before ≤ start + label → after ≤ before + 1 → label < labels → after ≤ start + labels
-label_cost label labels start before after a b less = omega (arith, a, b, less)
-
-pub labels_cost : (label top own dim start after : ℕ) → after ≤ start + label → label ≤ top + 1 → top ≡ own → own ≡ dim → after ≤ start + (dim + 1)
-labels_cost label top own dim start after a most e f = omega (arith, a, most, e, f)
-
--- ---- one position after another
-
-pub position_cost : (labels position positions start before after : ℕ) → position < positions → before ≤ start + labels * position → after ≤ before + labels → after ≤ start + labels * positions
-position_cost labels position positions start before after within a b = omega (arith, mul-le-mul_left labels within, a, b)
-
-pub positions_cost : (labels position positions start after : ℕ) → position ≤ positions → after ≤ start + labels * position → after ≤ start + labels * positions
-positions_cost labels position positions start after most a = omega (arith, mul-le-mul_left labels most, a)
 
 -- ---- one hook after another
 

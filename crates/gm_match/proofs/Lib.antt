@@ -1,8 +1,11 @@
 pub mod Hooks
 pub mod InArena
 pub mod Answering
+pub mod Apart
+pub mod Column
 pub mod Costs
 pub mod Paths
+pub mod FirstBroken
 pub mod FirstTurns
 pub mod ForcedMet
 pub mod Growing

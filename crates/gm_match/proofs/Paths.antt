@@ -83,11 +83,17 @@ module _ (schema : Schema) (rule : Rule) (planned : IsPlanned schema rule) where
       end : (z : ℕ) × Leads rule.left_links last.hook last.front z × IsLinked rule.left_links z link.label link.to
       end = last_link rule last.hook last.front link.label link.to last.to_end.leads
 
+      pub from_left : IsTrue (has_word rule Left link.from)
+      from_left = path_left link.from last.hook last.front last.to_from
+
+      pub to_left : IsTrue (has_word rule Left link.to)
+      to_left = path_left link.to last.hook (last.front ++ link.label ∷ []) last.to_end
+
       pub from_within : link.from < 32
-      from_within = omega (arith, word_below rule Left link.from (path_left link.from last.hook last.front last.to_from), planned.within.nodes)
+      from_within = omega (arith, word_below rule Left link.from from_left, planned.within.nodes)
 
       pub to_within : link.to < 32
-      to_within = omega (arith, word_below rule Left link.to (path_left link.to last.hook (last.front ++ link.label ∷ []) last.to_end), planned.within.nodes)
+      to_within = omega (arith, word_below rule Left link.to to_left, planned.within.nodes)
 
       pub low_label : link.label ≤ schema.dim
       low_label = (linked_in_range schema rule planned.accepted.in_range planned.accepted.incidence Left end.0 link.label link.to end.2).2
@@ -100,10 +106,10 @@ module _ (schema : Schema) (rule : Rule) (planned : IsPlanned schema rule) where
 
     -- ---- the darts to which the links lead
 
-    module _ (m : ArenaMap) (old : List Slot) where
-      -- the nodes to which the first links lead lie where their paths lead from the hooks' darts in the old row
-      abbrev pub AreReached : ℕ → List Slot → Type 0
-      AreReached t row = (x : ℕ) → Contains (path_nodes rule (take t links)) x → (h : ℕ) (path : List ℕ) → IsPathTo rule x h path → dart_in m row x ≡ follow (alpha m) path (dart_in m old h)
+    module _ (m : ArenaMap) (old : ℕ → ℕ) where
+      -- the nodes to which the first links lead lie where their paths lead from the hooks' old darts
+      abbrev pub AreReached : ℕ → (ℕ → ℕ) → Type 0
+      AreReached t lies = (x : ℕ) → Contains (path_nodes rule (take t links)) x → (h : ℕ) (path : List ℕ) → IsPathTo rule x h path → lies x ≡ follow (alpha m) path (old h)
 
       pub hooks_reached : AreReached 0 old
       hooks_reached x c h path to = go (same_path rule x h x path [] to (hook_path rule planned.accepted.in_range.hooks_differ hooked.0 x (contained_at rule.hooks x hooked)))
@@ -111,7 +117,7 @@ module _ (schema : Schema) (rule : Rule) (planned : IsPlanned schema rule) where
           hooked : Contains rule.hooks x
           hooked = subst (λ xs. Contains xs x) (append-nil rule.hooks) c
 
-          go : (h ≡ x) × (path ≡ []) → dart_in m old x ≡ follow (alpha m) path (dart_in m old h)
+          go : (h ≡ x) × (path ≡ []) → old x ≡ follow (alpha m) path (old h)
           go (same, none) = rw (same, none) refl
 
       -- the nodes of one more link
@@ -120,18 +126,17 @@ module _ (schema : Schema) (rule : Rule) (planned : IsPlanned schema rule) where
           let more : take (t + 1) links ≡ take t links ++ link ∷ [] = take_more links t link (slice_get_within links t link at) ∙ ap (λ l. take t links ++ l ∷ []) (get_or_from_slice_get links t link link at) in
           ap (λ ls. rule.hooks ++ map (λ (l : Link). l.to) ls) more ∙ ap (λ xs. rule.hooks ++ xs) (map_push (λ (l : Link). l.to) (take t links) link) ∙ sym (append_assoc rule.hooks (map (λ (l : Link). l.to) (take t links)) (link.to ∷ []))
 
-      pub link_reached : (t : ℕ) (link : Link) (row : List Slot) (next : Slot) → slice_get links t ≡ Some link → link.to < length row → AreReached t row → IsAt m next.at (alpha m link.label (dart_in m row link.from)) → AreReached (t + 1) (set row link.to next)
-      link_reached t link row next at within before next_at x c h path to = go (cases_eq x link.to)
+      pub link_reached : (t : ℕ) (link : Link) (lies next : ℕ → ℕ) → slice_get links t ≡ Some link → AreReached t lies → next link.to ≡ alpha m link.label (lies link.from) → ((x : ℕ) → IsTrue (has_word rule Left x) → x ≢ link.to → next x ≡ lies x) → AreReached (t + 1) next
+      link_reached t link lies next at before leads stays x c h path to = go (cases_eq x link.to)
         where
           last : IsLastLink rule link
           last = are.ends t link at
 
-          new : dart_in m (set row link.to next) link.to ≡ follow (alpha m) (last.front ++ link.label ∷ []) (dart_in m old last.hook)
+          new : next link.to ≡ follow (alpha m) (last.front ++ link.label ∷ []) (old last.hook)
           new =
-              dart_set m row link.to next within
-              ∙ name_at-is m next.at (alpha m link.label (dart_in m row link.from)) next_at
+              leads
               ∙ ap (alpha m link.label) (before link.from (are.earlier t link at) last.hook last.front last.to_from)
-              ∙ sym (follow_more (alpha m) last.front link.label (dart_in m old last.hook))
+              ∙ sym (follow_more (alpha m) last.front link.label (old last.hook))
 
           earlier : x ≢ link.to → Contains (path_nodes rule (take t links)) x
           earlier apart = pick (Contains-push_cases (path_nodes rule (take t links)) link.to x (subst (λ xs. Contains xs x) (one_more t link at) c))
@@ -140,24 +145,28 @@ module _ (schema : Schema) (rule : Rule) (planned : IsPlanned schema rule) where
               pick (inl k) = k
               pick (inr e) = absurd (apart (sym e))
 
-          go : (x ≡ link.to) ⊎ (x ≢ link.to) → dart_in m (set row link.to next) x ≡ follow (alpha m) path (dart_in m old h)
+          go : (x ≡ link.to) ⊎ (x ≢ link.to) → next x ≡ follow (alpha m) path (old h)
           go (inl e) = by (same_path rule link.to h last.hook path (last.front ++ link.label ∷ []) (subst (λ y. IsPathTo rule y h path) e to) last.to_end)
             where
-              by : (h ≡ last.hook) × (path ≡ last.front ++ link.label ∷ []) → dart_in m (set row link.to next) x ≡ follow (alpha m) path (dart_in m old h)
+              by : (h ≡ last.hook) × (path ≡ last.front ++ link.label ∷ []) → next x ≡ follow (alpha m) path (old h)
               by (same, along) = rw (e, same, along) new
-          go (inr apart) = dart_stays m row link.to next x apart ∙ before x (earlier apart) h path to
+          go (inr apart) = stays x (path_left x h path to) apart ∙ before x (earlier apart) h path to
 
       -- once all links are followed, the hooks have stayed
-      module _ (t : ℕ) (row : List Slot) (end_at : length links ≤ t) (reached : AreReached t row) where
-        lies : (x h : ℕ) (path : List ℕ) → IsPathTo rule x h path → dart_in m row x ≡ follow (alpha m) path (dart_in m old h)
-        lies x h path to = reached x (subst (λ ls. Contains (path_nodes rule ls) x) (sym (take_all t links end_at)) ((are.nodes.same x).1 (path_left x h path to))) h path to
+      module _ (t : ℕ) (lies : ℕ → ℕ) (end_at : length links ≤ t) (reached : AreReached t lies) where
+        led : (x h : ℕ) (path : List ℕ) → IsPathTo rule x h path → lies x ≡ follow (alpha m) path (old h)
+        led x h path to = reached x (subst (λ ls. Contains (path_nodes rule ls) x) (sym (take_all t links end_at)) ((are.nodes.same x).1 (path_left x h path to))) h path to
 
-        pub hooks_stay : (k h : ℕ) → slice_get rule.hooks k ≡ Some h → dart_in m row h ≡ dart_in m old h
-        hooks_stay k h at = lies h h [] (hook_path rule planned.accepted.in_range.hooks_differ k h at)
+        pub hooks_stay : (k h : ℕ) → slice_get rule.hooks k ≡ Some h → lies h ≡ old h
+        hooks_stay k h at = led h h [] (hook_path rule planned.accepted.in_range.hooks_differ k h at)
 
         -- and each node lies where its path leads from its hook
-        pub all_forced : (x h : ℕ) (path : List ℕ) → IsPathTo rule x h path → dart_in m row x ≡ follow (alpha m) path (dart_in m row h)
-        all_forced x h path to = lies x h path to ∙ ap (follow (alpha m) path) (sym (hooks_stay to.index h to.hook_at))
+        pub all_forced : (x h : ℕ) (path : List ℕ) → IsPathTo rule x h path → lies x ≡ follow (alpha m) path (lies h)
+        all_forced x h path to = led x h path to ∙ ap (follow (alpha m) path) (sym (hooks_stay to.index h to.hook_at))
+
+-- a row in which the slot is set to which the link leads
+pub link_set : (m : ArenaMap) (row : List Slot) (link : Link) (next : Slot) → link.to < length row → IsAt m next.at (alpha m link.label (dart_in m row link.from)) → dart_in m (set row link.to next) link.to ≡ alpha m link.label (dart_in m row link.from)
+link_set m row link next within next_at = dart_set m row link.to next within ∙ name_at-is m next.at (alpha m link.label (dart_in m row link.from)) next_at
 
 -- the dart of a row at a node, by its slot
 pub row_name : (m : ArenaMap) (row : List Slot) (x : ℕ) (d : Slot) → x < length row → name_at m (get_or row x d).at ≡ dart_in m row x

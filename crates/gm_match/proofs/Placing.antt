@@ -20,6 +20,7 @@ use Rattle.gm_model.specs.Structure.{IsPlainWord}
 use Rattle.gm_arena.specs.declared.slot.Slot.{Slot}
 use Rattle.gm_arena.specs.ArenaAsMap.{as_map}
 use Rattle.gm_arena.specs.ArenaMap.{ArenaMap, IsLiveName, name_at, alpha}
+use Rattle.gm_arena.specs.Lawful.{IsLawful}
 use Rattle.gm_plan.specs.Placed.{Placed, slot_at, turn_at}
 use Rattle.gm_plan.specs.Plans.{PlanOf, IsLeftCount, IsPlanned}
 use Rattle.gm_plan.proofs.Distinct.{few_below}
@@ -27,13 +28,16 @@ use Rattle.gm_theory.proofs.Candidates.{hook_left}
 use Rattle.gm_theory.proofs.RuleSteps.{word_below}
 use Rattle.gm_theory.proofs.Walks.{walk_unique}
 use Rattle.gm_walk.specs.Turns.{IsTurn}
-use Rattle.gm_walk.specs.Walks.{IsWord, IsLabelUpTo, along, names_of}
+use Rattle.gm_walk.specs.Walks.{AreLive, IsWord, IsLabelUpTo, along, names_of}
 use Rattle.gm_walk.proofs.WordLemmas.{plain_is_word}
 use Rattle.gm_walk.specs.Cells.{AreCells}
+use Rattle.gm_walk.proofs.NameLemmas.{name_there}
 use Rattle.gm_match.specs.Layout.{AreMatchable, AreRows, HaveFirstTurns, IsFirstTo, IsCandidateAt, dart_at, stepped}
 use Rattle.gm_match.specs.Outcome.{name_of, place_of}
+use Rattle.gm_match.specs.Taken.{AreSlotsOf}
 use Rattle.gm_match.proofs.Costs.{candidate_cost}
 use Rattle.gm_match.proofs.FirstTurns.{have_first, is_first}
+use Rattle.gm_match.proofs.Stepping.{one_slot, slot_live, slot_some}
 
 -- ---- the hook's word
 
@@ -179,6 +183,15 @@ module _ (m : ArenaMap) (rule : Rule) (d : ℕ) (slots : List Slot) where
         laid = record { slots = rows.live; long = long; nodes = subst (IsLeftCount rule) (sym nodes_are) counts; places = turned.places };
         candidate = candidate;
       }
+
+      -- the slots of the first hook are those of the walk
+      pub walk_slots : IsLawful m → AreLive m slots → (h : ℕ) → first_hook rule ≡ Some h → h < nodes → AreSlotsOf found h slots
+      walk_slots lawful walked h at left p less =
+          let within : p < length slots = subst (λ n. p < n) positions less in
+          let there = slot_some m found long h p (subst (λ n. h < n) (sym nodes_are) left) less in
+          let names = ap (name_of m) (sym there.1) ∙ lies h p ∙ rows.hooked h p at within ∙ name_there m slots p (record { at = 0 }) within in
+          let same = one_slot m lawful there.0 (get_or slots p (record { at = 0 })) (slot_live m found rows.live h p there.0 there.1) (walked p (record { at = 0 }) within) names in
+          there.1 ∙ ap Some same ∙ sym (slice_get-get_or slots p (record { at = 0 }) within)
 
 -- ---- where it begins
 

@@ -1,30 +1,30 @@
--- When a step of the candidate is met, by slots, and which is the first that isn't.
-use Rattle.std.proofs.Common.{◌≡◌, ℕ, ◌+◌, ◌*◌, ◌<◌, ◌≤◌, ◌↔◌, inl, inr, Bool, IsTrue, List, length, get_or, Some, sym, ap, subst, ◌∙◌, arith}
+-- Which step of the candidate is the first that isn't met, and what its slots are.
+use Rattle.std.proofs.Common.{◌≡◌, ℕ, ◌+◌, ◌*◌, ◌<◌, ◌≤◌, inl, inr, List, length, get_or, Some, sym, subst, arith}
 use Rattle.std.proofs.lemmas.Bool.{cases_order}
 use Rattle.std.proofs.lemmas.Nat.{mul-add-lt}
 use Rattle.std.proofs.lemmas.Option.{slice_get-get_or, slice_get_within, get_or_from_slice_get}
 use Rattle.gm_model.specs.declared.rule.Side.TheVariants.{Left}
 use Rattle.gm_model.specs.declared.schema.Schema.{Schema}
-use Rattle.gm_model.specs.declared.step.Step.{Step}
 use Rattle.gm_model.specs.declared.step.Step.TheVariants.{Exp, Imp}
 use Rattle.gm_model.specs.declared.value.Value.{Value}
 use Rattle.gm_model.specs.Applications.{IsStepBefore, IsFirstBroken}
-use Rattle.gm_model.specs.Maps.{IsGeneralised, dimension}
-use Rattle.gm_model.specs.Matches.{IsInstance, IsMetAt, IsStepMet}
+use Rattle.gm_model.specs.Maps.{dimension}
+use Rattle.gm_model.specs.Matches.{IsInstance, IsMetAt}
 use Rattle.gm_model.specs.Rules.{Rule, rule_of, step}
 use Rattle.gm_model.specs.Structure.{IsFirstBad}
 use Rattle.gm_arena.specs.declared.slot.Slot.{Slot}
 use Rattle.gm_arena.specs.ArenaAsMap.{as_map}
-use Rattle.gm_arena.specs.ArenaMap.{ArenaMap, IsLiveSlot, name_at, alpha}
+use Rattle.gm_arena.specs.ArenaMap.{ArenaMap, IsAt, IsLiveSlot, name_at}
 use Rattle.gm_arena.specs.Lawful.{IsLawful}
-use Rattle.gm_arena.proofs.MapLemmas.{IsLiveName-name_at}
-use Rattle.gm_plan.specs.Placed.{Placed, slot_at, turn_at}
+use Rattle.gm_arena.proofs.MapLemmas.{IsAt-name_at}
+use Rattle.gm_plan.specs.Placed.{Placed, slot_at}
 use Rattle.gm_plan.specs.Plans.{PlanOf, IsLeftCount}
 use Rattle.gm_theory.proofs.RuleSteps.{step_back, step_within, word_below}
 use Rattle.gm_walk.specs.Walks.{AreLive}
+use Rattle.gm_walk.proofs.MarkLemmas.{same_slot}
 use Rattle.gm_match.specs.Firsts.{AreMetBy, AreMet, IsFirstAt}
 use Rattle.gm_match.specs.Layout.{AreMatchable, IsLaid}
-use Rattle.gm_match.specs.Outcome.{application_of, name_of, place_of}
+use Rattle.gm_match.specs.Outcome.{application_of, place_of}
 
 module _ (m : ArenaMap) (found : Placed) where
   -- ---- slots
@@ -37,30 +37,6 @@ module _ (m : ArenaMap) (found : Placed) where
       let at = p * found.nodes + x in
       let within : at < length found.slots = omega (arith, mul-add-lt p found.nodes x found.positions k h) in
       (get_or found.slots at (record { at = 0 }), slice_get-get_or found.slots at (record { at = 0 }) within)
-
-  -- ---- one step, by the slots
-
-  module _ (lawful : IsLawful m) (generalised : IsGeneralised (as_map m)) (x p i : ℕ) (from : Slot) (here : slot_at found x p ≡ Some from) (live : IsLiveSlot m from.at) (label : i ≤ m.schema.dim) where
-    pub linked_met : (y : ℕ) (to : Slot) (leads : Bool) → slot_at found y p ≡ Some to → IsTrue leads ↔ (alpha m i (name_at m from.at) ≡ name_at m to.at) → (s : Step) → Exp y ≡ s → IsTrue leads ↔ IsStepMet (alpha m) (place_of m found) x p i s
-    linked_met y to leads there says s e = subst (λ s'. IsTrue leads ↔ IsStepMet (alpha m) (place_of m found) x p i s') e (
-      (λ told. (on (says.0 told), back (says.0 told))),
-      (λ met. says.1 (sym (ap (λ o. alpha m i (name_of m o)) here) ∙ met.0 ∙ ap (name_of m) there)),
-    )
-      where
-        on : alpha m i (name_at m from.at) ≡ name_at m to.at → alpha m i (name_of m (slot_at found x p)) ≡ name_of m (slot_at found y p)
-        on f = ap (λ o. alpha m i (name_of m o)) here ∙ f ∙ sym (ap (name_of m) there)
-
-        back : alpha m i (name_at m from.at) ≡ name_at m to.at → alpha m i (name_of m (slot_at found y p)) ≡ name_of m (slot_at found x p)
-        back f = ap (λ o. alpha m i (name_of m o)) there ∙ ap (alpha m i) (sym f) ∙ generalised.back (name_at m from.at) i (IsLiveName-name_at m from.at lawful live) label ∙ sym (ap (name_of m) here)
-
-  pub turned_met : (x p i : ℕ) (from : Slot) → slot_at found x p ≡ Some from → (k q : ℕ) (to : Slot) (leads : Bool) → q ≡ turn_at found p k → slot_at found x q ≡ Some to → IsTrue leads ↔ (alpha m i (name_at m from.at) ≡ name_at m to.at) → (s : Step) → Imp k ≡ s → IsTrue leads ↔ IsStepMet (alpha m) (place_of m found) x p i s
-  turned_met x p i from here k q to leads turn there says s e = subst (λ s'. IsTrue leads ↔ IsStepMet (alpha m) (place_of m found) x p i s') e (
-    (λ told. ap (λ o. alpha m i (name_of m o)) here ∙ says.0 told ∙ sym (ap (name_of m) end)),
-    (λ met. says.1 (sym (ap (λ o. alpha m i (name_of m o)) here) ∙ met ∙ ap (name_of m) end)),
-  )
-    where
-      end : slot_at found x (turn_at found p k) ≡ Some to
-      end = subst (λ r. slot_at found x r ≡ Some to) turn there
 
 module _ (m : ArenaMap) (rule : Rule) (found : Placed) where
   -- ---- the steps together
@@ -97,6 +73,10 @@ module _ (m : ArenaMap) (plan : PlanOf) (able : AreMatchable m plan) (found : Pl
 
   pub place_below : (x i k : ℕ) → x < found.nodes → step (rule_of plan.table) Left x i ≡ Imp k → k < found.places
   place_below x i k h e = subst (λ w. k < w) (sym laid.places) (step_within plan.schema (rule_of plan.table) able.planned.accepted.in_range able.planned.accepted.incidence Left x i k ((laid.nodes x).1 h) e)
+
+-- two live slots of one dart are one
+pub one_slot : (m : ArenaMap) → IsLawful m → (s t : Slot) → IsLiveSlot m s.at → IsLiveSlot m t.at → name_at m s.at ≡ name_at m t.at → s ≡ t
+one_slot m lawful s t s_live t_live same = same_slot s t (lawful.one_slot t.at s.at (name_at m t.at) (IsAt-name_at m t.at t_live) (subst (IsAt m s.at) same (IsAt-name_at m s.at s_live)))
 
 -- a rule has one number of left nodes
 pub same_count : (rule : Rule) (a b : ℕ) → IsLeftCount rule a → IsLeftCount rule b → a ≡ b

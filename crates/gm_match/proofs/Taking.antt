@@ -18,7 +18,7 @@ use Rattle.gm_match.specs.Taken.IsFirstTwice.{Twice}
 use Rattle.gm_walk.proofs.CellLemmas.{get_left}
 
 -- the pairs before the next are those before this one, and this one
-before_next : (y q x p : ℕ) → IsPairBefore y q x (p + 1) → IsPairBefore y q x p ⊎ ((y ≡ x) × (q ≡ p))
+pub before_next : (y q x p : ℕ) → IsPairBefore y q x (p + 1) → IsPairBefore y q x p ⊎ ((y ≡ x) × (q ≡ p))
 before_next y q x p (inl less) = inl (inl less)
 before_next y q x p (inr (e, less)) = elim (cases_lt q p) [ inl h ↦ inl (inr (e, h)) | inr h ↦ inr (e, omega arith) ]
 

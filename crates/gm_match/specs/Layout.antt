@@ -78,6 +78,18 @@ pub record IsForcedRow (m : ArenaMap) (rule : Rule) (row : List Slot) : Type 0 w
   pub live : AreLive m row
   pub forced : (x hook : ℕ) (path : List ℕ) → IsPathTo rule x hook path → dart_in m row x ≡ follow (alpha m) path (dart_in m row hook)
 
+-- In the new rows each left node lies where its least path leads from where its hook lies in the old ones, as it does in the new.
+pub record AreForced (m : ArenaMap) (rule : Rule) (nodes rows : ℕ) (old slots : List Slot) : Type 0 where
+  pub hooks : (t h p : ℕ) → p < rows → slice_get rule.hooks t ≡ Some h → dart_at m nodes slots h p ≡ dart_at m nodes old h p
+  pub forced : (x p hook : ℕ) (path : List ℕ) → p < rows → IsPathTo rule x hook path → dart_at m nodes slots x p ≡ follow (alpha m) path (dart_at m nodes slots hook p)
+
+-- rows of live slots, in which the first hook lies along the walk and each left node where its least path leads
+pub record AreColumns (m : ArenaMap) (rule : Rule) (nodes : ℕ) (walk : List ℕ) (rows : ℕ) (slots : List Slot) : Type 0 where
+  pub long : rows * nodes ≡ length slots
+  pub live : AreLive m slots
+  pub hooked : (h p : ℕ) → first_hook rule ≡ Some h → p < rows → dart_at m nodes slots h p ≡ slice_index walk p
+  pub forced : (x p hook : ℕ) (path : List ℕ) → p < rows → IsPathTo rule x hook path → dart_at m nodes slots x p ≡ follow (alpha m) path (dart_at m nodes slots hook p)
+
 -- The first rows, so many of them, are those of the candidate at these hook darts, by its walk and its turns.
 pub record AreRows (m : ArenaMap) (rule : Rule) (hooks walk turns : List ℕ) (nodes rows : ℕ) (slots : List Slot) : Type 0 where
   pub long : rows * nodes ≡ length slots

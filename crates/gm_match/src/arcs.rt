@@ -2,12 +2,15 @@ ghost use Rattle.std.specs.Prelude.{◌≡◌, ℕ, List, ◌+◌, ◌*◌, ◌<
 ghost use Rattle.gm_arena.specs.ArenaAsMap.{as_map};
 ghost use Rattle.gm_arena.specs.ArenaMap.{IsLiveSlot, name_at, alpha};
 ghost use Rattle.gm_arena.specs.Lawful.{IsLawful};
-ghost use Rattle.gm_model.specs.Matches.{IsMetAt};
+ghost use Rattle.gm_model.specs.declared.step.Step.TheVariants.{Exp, Imp};
+ghost use Rattle.gm_model.specs.Maps.{IsGeneralised};
+ghost use Rattle.gm_model.specs.Matches.{IsMetAt, IsStepMet};
 ghost use Rattle.gm_model.specs.Rules.{rule_of};
 ghost use Rattle.gm_model.specs.Structure.{AreGood, IsFirstBad};
+ghost use Rattle.gm_walk.specs.Walks.{AreLive};
 ghost use Rattle.gm_match.specs.Outcome.{place_of};
 ghost use Rattle.gm_match.specs.Layout.{AreMatchable, IsCandidateAt};
-ghost use Rattle.gm_match.specs.Firsts.{AreMetAt, AreMetBy, AreMet, IsFirstAt, IsFirstStep};
+ghost use Rattle.gm_match.specs.Firsts.{AreMetBy, AreMet, IsFirstAt, IsFirstStep};
 
 use crate::fault::MatchFault;
 use gm_arena::{Arena, Slot, Steps};
@@ -46,6 +49,9 @@ pub(crate) fn meet_steps<L: Ledger>(
 }
 
 /// The first position and label at which a left step of the node is broken.
+///
+/// It goes label by label, so that each step is looked up once for all positions, and of a label only
+/// the positions count that come before what an earlier one has broken.
 fn broken_position<L: Ledger>(
     plan: &Plan<'_>,
     arena: &Arena,
@@ -62,69 +68,110 @@ fn broken_position<L: Ledger>(
     ensures cost { steps.new ≤ steps.old + (arena.now.schema.dim + 1) * found.now.positions }
     ensures least { steps.old ≤ steps.new }
 {
-    for position in 0..found.positions() {
-        if let Some(label) = broken_label(plan, arena, found, node, position, steps) {
-            return Some((position, label));
-        }
-    }
-    None
-}
-
-/// The first label at which the left step of the node is broken at the position.
-fn broken_label<L: Ledger>(
-    plan: &Plan<'_>,
-    arena: &Arena,
-    found: &Instances,
-    node: u8,
-    position: u32,
-    steps: &mut Steps<L>,
-) -> Option<u8>
-    requires matchable { AreMatchable arena.now plan.now }
-    requires candidate { (hooks : List ℕ) × IsCandidateAt arena.now (rule_of plan.now.table) hooks found.now }
-    requires node { node < found.now.nodes }
-    requires position { position < found.now.positions }
-    ensures first { MatchOption result
-        (AreMetAt arena.now (rule_of plan.now.table) found.now node position)
-        (IsFirstBad (IsMetAt (as_map arena.now) (rule_of plan.now.table) (place_of arena.now found.now) node position) (arena.now.schema.dim + 1)) }
-    ensures cost { steps.new ≤ steps.old + (arena.now.schema.dim + 1) }
-    ensures least { steps.old ≤ steps.new }
-{
+    let mut first = None;
+    let mut end = found.positions();
     for label in 0..arena.schema().dim.top() + 1 {
-        if !is_met(plan, arena, found, node, position, label, steps) {
-            return Some(label);
+        if let Some(position) = first_broken(plan, arena, found, node, label, end, steps) {
+            first = Some((position, label));
+            end = position;
+        }
+    }
+    first
+}
+
+/// The first position before `end` at which the left step of the node at the label is broken. One
+/// that needs no test is met at each.
+fn first_broken<L: Ledger>(
+    plan: &Plan<'_>,
+    arena: &Arena,
+    found: &Instances,
+    node: u8,
+    label: u8,
+    end: u32,
+    steps: &mut Steps<L>,
+) -> Option<u32>
+    requires matchable { AreMatchable arena.now plan.now }
+    requires candidate { (hooks : List ℕ) × IsCandidateAt arena.now (rule_of plan.now.table) hooks found.now }
+    requires node { node < found.now.nodes }
+    requires label { label ≤ arena.now.schema.dim }
+    requires end { end ≤ found.now.positions }
+    ensures first { MatchOption result
+        (AreGood (λ p. IsMetAt (as_map arena.now) (rule_of plan.now.table) (place_of arena.now found.now) node p label) end)
+        (IsFirstBad (λ p. IsMetAt (as_map arena.now) (rule_of plan.now.table) (place_of arena.now found.now) node p label) end) }
+    ensures cost { steps.new ≤ steps.old + end }
+    ensures least { steps.old ≤ steps.new }
+{
+    match plan.tested_step(node, label) {
+        Step::Absent => None,
+        Step::Exp(other) => first_unlinked(arena, found, node, label, other, end, steps),
+        Step::Imp(place) => first_unturned(arena, found, node, label, place, end, steps),
+    }
+}
+
+/// The first position before `end` at which the label doesn't lead from the node to the other one.
+fn first_unlinked<L: Ledger>(
+    arena: &Arena,
+    found: &Instances,
+    node: u8,
+    label: u8,
+    other: u8,
+    end: u32,
+    steps: &mut Steps<L>,
+) -> Option<u32>
+    requires lawful { IsLawful arena.now }
+    requires map { IsGeneralised (as_map arena.now) }
+    requires live { AreLive arena.now found.now.slots }
+    requires node { node < found.now.nodes }
+    requires label { label ≤ arena.now.schema.dim }
+    requires other { other < found.now.nodes }
+    requires end { end ≤ found.now.positions }
+    ensures first { MatchOption result
+        (AreGood (λ p. IsStepMet (alpha arena.now) (place_of arena.now found.now) node p label (Exp other)) end)
+        (IsFirstBad (λ p. IsStepMet (alpha arena.now) (place_of arena.now found.now) node p label (Exp other)) end) }
+    ensures cost { steps.new ≤ steps.old + end }
+    ensures least { steps.old ≤ steps.new }
+{
+    for position in 0..end {
+        let from = found.slot(node, position);
+        let to = found.slot(other, position);
+        if !leads(arena, from, label, to, steps) {
+            return Some(position);
         }
     }
     None
 }
 
-/// Whether the left step of the node at the label is met at the position. One that needs no test is.
-fn is_met<L: Ledger>(
-    plan: &Plan<'_>,
+/// The first position before `end` at which the label doesn't lead along the node to where the
+/// position turns at the place.
+fn first_unturned<L: Ledger>(
     arena: &Arena,
     found: &Instances,
     node: u8,
-    position: u32,
     label: u8,
+    place: u8,
+    end: u32,
     steps: &mut Steps<L>,
-) -> bool
-    requires matchable { AreMatchable arena.now plan.now }
-    requires candidate { (hooks : List ℕ) × IsCandidateAt arena.now (rule_of plan.now.table) hooks found.now }
+) -> Option<u32>
+    requires lawful { IsLawful arena.now }
+    requires live { AreLive arena.now found.now.slots }
     requires node { node < found.now.nodes }
-    requires position { position < found.now.positions }
     requires label { label ≤ arena.now.schema.dim }
-    ensures met { IsTrue result ↔ IsMetAt (as_map arena.now) (rule_of plan.now.table) (place_of arena.now found.now) node position label }
-    ensures cost { steps.new ≤ steps.old + 1 }
+    requires place { place < found.now.places }
+    requires end { end ≤ found.now.positions }
+    ensures first { MatchOption result
+        (AreGood (λ p. IsStepMet (alpha arena.now) (place_of arena.now found.now) node p label (Imp place)) end)
+        (IsFirstBad (λ p. IsStepMet (alpha arena.now) (place_of arena.now found.now) node p label (Imp place)) end) }
+    ensures cost { steps.new ≤ steps.old + end }
     ensures least { steps.old ≤ steps.new }
 {
-    let from = found.slot(node, position);
-    match plan.tested_step(node, label) {
-        Step::Absent => true,
-        Step::Exp(other) => leads(arena, from, label, found.slot(other, position), steps),
-        Step::Imp(place) => {
-            let turned = found.turn(position, place);
-            leads(arena, from, label, found.slot(node, turned), steps)
+    for position in 0..end {
+        let from = found.slot(node, position);
+        let to = found.slot(node, found.turn(position, place));
+        if !leads(arena, from, label, to, steps) {
+            return Some(position);
         }
     }
+    None
 }
 
 /// Whether the second dart is the neighbour of the first along the label.

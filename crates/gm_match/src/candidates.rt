@@ -3,14 +3,16 @@ ghost use Rattle.gm_arena.specs.ArenaAsMap.{as_map};
 ghost use Rattle.gm_arena.specs.Lawful.{IsLawful};
 ghost use Rattle.gm_model.specs.Matches.{along_hook};
 ghost use Rattle.gm_model.specs.Orbits.{IsWalk};
-ghost use Rattle.gm_model.specs.Rules.{rule_of, hook_word, width};
+ghost use Rattle.gm_model.specs.Rules.{rule_of, first_hook, hook_word, width};
 ghost use Rattle.gm_plan.specs.Plans.{IsLeftCount};
 ghost use Rattle.gm_walk.specs.Cells.{AreCells};
 ghost use Rattle.gm_walk.specs.Room.{Fits};
 ghost use Rattle.gm_walk.specs.Turns.{IsTurn};
 ghost use Rattle.gm_walk.specs.Walks.{AreLive, along, names_of};
 ghost use Rattle.gm_match.specs.Layout.{AreMatchable, AreRows, HaveFirstTurns, IsCandidateAt, LeadBefore, IsFirstTo};
+ghost use Rattle.gm_match.specs.Taken.{AreSlotsOf};
 
+use crate::columns::fill_columns;
 use crate::rows::{first_row, later_row};
 use gm_arena::{Arena, Slot, Steps};
 use gm_model::{MOST_NODES, OutOfMemory, Word};
@@ -19,7 +21,7 @@ use gm_walk::{Scratch, walk_turns};
 use std::alloc::Global;
 use std::sync::ledger::Ledger;
 
-/// The candidate from the darts of the hooks.
+/// The candidate from the darts of the hooks. The scratch has walked the slots of the first hook.
 pub(crate) fn candidate<L: Ledger>(
     alloc: Global,
     plan: &Plan<'_>,
@@ -34,6 +36,7 @@ pub(crate) fn candidate<L: Ledger>(
     requires live { AreLive arena.now darts.now }
     requires fits { Fits scratch.old arena.now }
     ensures candidate { IfOk result (IsCandidateAt arena.now (rule_of plan.now.table) (names_of arena.now darts.now)) }
+    ensures walked { IfOk result (λ found. (h : ℕ) → first_hook (rule_of plan.now.table) ≡ Some h → AreSlotsOf found h scratch.new.walked) }
     ensures cost { let rule = rule_of plan.now.table in (walk : List ℕ)
         → IsWalk (along_hook (as_map arena.now) rule) (width rule) (slice_index (names_of arena.now darts.now) 0) walk
         → steps.new ≤ steps.old + 6 * (arena.now.schema.dim + 1) * (length rule.nodes * length walk) }
@@ -78,6 +81,7 @@ fn along_walk<L: Ledger>(
     requires no_slots { slots.items ≡ [] }
     requires turns { AreCells (IsTurn arena.now word.now (names_of arena.now walk.now)) (length walk.now) (length word.now) turns.items }
     ensures candidate { IfOk result (IsCandidateAt arena.now (rule_of plan.now.table) (names_of arena.now darts.now)) }
+    ensures walked { IfOk result (λ found. (h : ℕ) → first_hook (rule_of plan.now.table) ≡ Some h → AreSlotsOf found h walk.now) }
     ensures cost { steps.new ≤ steps.old + length walk.now * length (rule_of plan.now.table).nodes }
     ensures least { steps.old ≤ steps.new }
 {
@@ -116,13 +120,16 @@ fn fill_slots<L: Ledger>(
     if nodes == 1 {
         return fill_along(walk, slots);
     }
+    if plan.hooks() == 1 {
+        return fill_columns(plan, arena, walk, slots, steps);
+    }
     slots.reserve(walk.len() * nodes)?;
     let mut row = [darts[0]; MOST_NODES];
     first_row(plan, arena, darts, &mut row, steps);
     push_row(&row[..nodes], slots);
     let mut turn = 0;
     for position in 1..walk.len() {
-        turn = next_turn(plan, turns, turn, position as u32);
+        turn = next_turn(turns, turn, position as u32);
         later_row(plan, arena, walk[position], slots, turn, &mut row, steps);
         push_row(&row[..nodes], slots);
     }
@@ -150,17 +157,13 @@ fn fill_along(walk: &[Slot], slots: &mut Vec<Slot>) -> Result<(), OutOfMemory>
     Ok(())
 }
 
-/// The first turn to the position, where those before `from` lead to earlier positions. With one
-/// hook it isn't asked for, and not looked for.
-fn next_turn(plan: &Plan<'_>, turns: &[u32], from: usize, position: u32) -> usize
+/// The first turn to the position, where those before `from` lead to earlier positions.
+fn next_turn(turns: &[u32], from: usize, position: u32) -> usize
     requires before { LeadBefore turns.now from position }
     requires some { (k : ℕ) × IsFirstTo turns.now position k }
     ensures before { LeadBefore turns.now result position }
-    ensures first { 1 < length (rule_of plan.now.table).hooks → IsFirstTo turns.now position result }
+    ensures first { IsFirstTo turns.now position result }
 {
-    if plan.hooks() <= 1 {
-        return from;
-    }
     let mut turn = from;
     while turns[turn] != position {
         turn += 1;

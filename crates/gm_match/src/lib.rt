@@ -9,6 +9,7 @@
 
 mod arcs;
 mod candidates;
+mod columns;
 mod darts;
 mod fault;
 mod matching;

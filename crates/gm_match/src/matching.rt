@@ -58,8 +58,9 @@ pub fn find<L: Ledger>(
     }
     prove!((darts[0].at as usize) < arena.bound());
     let darts = &darts[..hooks.len()];
+    let first = plan.rule().hooks.as_slice()[0];
     let found = candidate(alloc, plan, arena, darts, scratch, steps)?;
     meet_steps(plan, arena, &found, steps)?;
-    take_once(&found, plan.left_nodes(), scratch)?;
+    take_once(&found, plan.left_nodes(), first, scratch)?;
     Ok(found)
 }

@@ -1,33 +1,72 @@
-ghost use Rattle.std.specs.Prelude.{◌≡◌, ◌+◌, ◌<◌, ◌≤◌, MatchResult};
+ghost use Rattle.std.specs.Prelude.{◌≡◌, ℕ, ◌+◌, ◌<◌, IsTrue, MatchResult};
 ghost use Rattle.std.specs.List.{All};
 ghost use Rattle.gm_arena.specs.declared.slot.Slot.{Slot};
-ghost use Rattle.gm_match.specs.Taken.{IsTaken, TakeEachOnce, IsFirstTwice};
+ghost use Rattle.gm_match.specs.Taken.{AreApart, AreSlotsOf, IsTaken, TakeEachOnce, TakesEachOnce, IsFirstTwice};
 
 use crate::fault::MatchFault;
 use gm_plan::Instances;
 use gm_walk::Scratch;
 
-/// Tests that no two instances have one slot. Those of one node have none in common, so that they
-/// need no test.
+/// Tests that no two instances have one slot. Those of the hook are walked, and none of them comes
+/// twice.
 pub(crate) fn take_once(
     found: &Instances,
     nodes: u8,
+    hook: u8,
     scratch: &mut Scratch,
 ) -> Result<(), MatchFault>
     requires nodes { nodes ≡ found.now.nodes }
     requires room { All (λ (s : Slot). s.at < scratch.old.bound) found.now.slots }
-    requires alone { found.now.nodes ≤ 1 → TakeEachOnce found.now }
+    requires walked { AreSlotsOf found.now hook scratch.old.walked }
+    requires alone { TakesEachOnce found.now hook }
     ensures once { MatchResult result (λ _. TakeEachOnce found.now) (IsFirstTwice found.now) }
     ensures room { scratch.new.bound ≡ scratch.old.bound }
 {
-    if nodes <= 1 {
+    if are_apart(found, nodes, hook, scratch) {
         return Ok(());
     }
+    // Only where a slot comes twice it matters in which order they are taken.
     scratch.clear();
     for node in 0..nodes {
         take_node(found, node, scratch)?;
     }
     Ok(())
+}
+
+/// Whether no two instances have one slot. Those of the hook are walked, and none of them comes
+/// twice.
+fn are_apart(found: &Instances, nodes: u8, hook: u8, scratch: &mut Scratch) -> bool
+    requires nodes { nodes ≡ found.now.nodes }
+    requires room { All (λ (s : Slot). s.at < scratch.old.bound) found.now.slots }
+    requires walked { AreSlotsOf found.now hook scratch.old.walked }
+    requires alone { TakesEachOnce found.now hook }
+    ensures apart { IsTrue result → TakeEachOnce found.now }
+    ensures room { scratch.new.bound ≡ scratch.old.bound }
+{
+    for node in 0..nodes {
+        if node == hook {
+            continue;
+        }
+        if !take_apart(found, node, scratch) {
+            return false;
+        }
+    }
+    true
+}
+
+/// Takes the slots of the node, and tells whether each was new.
+fn take_apart(found: &Instances, node: u8, scratch: &mut Scratch) -> bool
+    requires node { node < found.now.nodes }
+    requires room { All (λ (s : Slot). s.at < scratch.old.bound) found.now.slots }
+    ensures apart { IsTrue result → (hook : ℕ) → AreApart found.now hook node 0 scratch.old.walked → AreApart found.now hook (node + 1) 0 scratch.new.walked }
+    ensures room { scratch.new.bound ≡ scratch.old.bound }
+{
+    for position in 0..found.positions() {
+        if !scratch.take_new(found.slot(node, position)) {
+            return false;
+        }
+    }
+    true
 }
 
 /// Takes the slots of the node, by position, where those of the nodes before it are taken.

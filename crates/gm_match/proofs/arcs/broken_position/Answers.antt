@@ -1,43 +1,24 @@
-use Rattle.std.proofs.Common.{◌<◌, ◌≤◌, subst, below_more, arith}
-use Rattle.std.proofs.Math.Nat.{le_refl, le_trans, le-add_right, lt_of_lt_of_le}
-use Rattle.gm_match.proofs.Costs.{nothing_below, position_cost, positions_cost}
+use Rattle.std.proofs.Common.{ap, arith}
+use Rattle.std.proofs.Math.Nat.{le_trans}
+use Rattle.gm_model.specs.declared.schema.Schema.{Schema}
+use Rattle.gm_model.specs.Rules.{rule_of}
+use Rattle.gm_match.proofs.Costs.{label_most}
+use Rattle.gm_match.proofs.FirstBroken.{met_too, broken_too, all_labels, label_steps}
+use Rattle.gm_match.proofs.arcs.broken_position.Goals.{in-Some, in_default}
 use Rattle.gm_match.proofs.arcs.broken_position.Goals as goal
 
-pub loop-position-preserved : goal.loop-position-preserved
-loop-position-preserved g c = record { met = below_more _ _ c.loop-position.invariant.met c.in_default.ensures.first; cost = omega (arith, c.loop-position.invariant.cost, c.broken_label.ensures.cost); least = omega (arith, c.loop-position.invariant.least, c.broken_label.ensures.least) }
+pub first_broken-requires-clause-label : goal.first_broken-requires-clause-label
+first_broken-requires-clause-label g c = label_most c.loop-label-test.true c.top-label-end.ensures.value (ap (λ (schema : Schema). schema.dim) c.schema.ensures)
+
+pub loop-label-preserved : goal.loop-label-preserved
+loop-label-preserved g c =
+    let i = c.loop-label.invariant in
+    let cost = label_steps c.loop-label.label c.args.found.now.positions c.loop-label.end _ _ _ i.so_far.within i.cost c.first_broken.ensures.cost in
+    let least = le_trans i.least c.first_broken.ensures.least in
+    elim c.match-first_broken.branch [
+      | in-Some w ↦ record { so_far = rw (w.first-is, w.end-is) (broken_too c.args.arena.now (rule_of c.args.plan.now.table) c.args.found.now c.args.node c.loop-label.label c.loop-label.end c.loop-label.first i.so_far _ w.in-Some.ensures.first); cost = cost; least = least }
+      | in_default w ↦ record { so_far = rw (w.first-is, w.end-is) (met_too c.args.arena.now (rule_of c.args.plan.now.table) c.args.found.now c.args.node c.loop-label.label c.loop-label.end c.loop-label.first i.so_far w.in_default.ensures.first); cost = cost; least = least }
+    ]
 
 pub returns-clause-first : goal.returns-clause-first
-returns-clause-first g c = λ p h. c.loop-position.invariant.met p (lt_of_lt_of_le h (subst (λ n. n ≤ c.loop-position.position) c.positions-position-end.ensures.value c.loop-position-test.false))
-
-pub loop-position-init : goal.loop-position-init
-loop-position-init g c = record { met = λ x h. absurd (nothing_below h); cost = le-add_right _ _; least = le_refl _ }
-
-pub broken_label-requires-clause-matchable : goal.broken_label-requires-clause-matchable
-broken_label-requires-clause-matchable g c = c.requires.matchable
-
-pub broken_label-requires-clause-candidate : goal.broken_label-requires-clause-candidate
-broken_label-requires-clause-candidate g c = c.requires.candidate
-
-pub broken_label-requires-clause-node : goal.broken_label-requires-clause-node
-broken_label-requires-clause-node g c = c.requires.node
-
-pub broken_label-requires-clause-position : goal.broken_label-requires-clause-position
-broken_label-requires-clause-position g c = subst (λ n. c.loop-position.position < n) c.positions-position-end.ensures.value c.loop-position-test.true
-
-pub returns-in-Some-clause-first : goal.returns-in-Some-clause-first
-returns-in-Some-clause-first g c =
-    let first = c.in-Some.ensures.first in
-    let within = subst (λ n. c.loop-position.position < n) c.positions-position-end.ensures.value c.loop-position-test.true in
-    record { position = record { within = within; fails = λ met. first.fails (met _ first.within); before = c.loop-position.invariant.met }; label = first }
-
-pub returns-in-Some-clause-cost : goal.returns-in-Some-clause-cost
-returns-in-Some-clause-cost g c = position_cost _ _ _ _ _ _ (subst (λ n. c.loop-position.position < n) c.positions-position-end.ensures.value c.loop-position-test.true) c.loop-position.invariant.cost c.broken_label.ensures.cost
-
-pub returns-in-Some-clause-least : goal.returns-in-Some-clause-least
-returns-in-Some-clause-least g c = le_trans c.loop-position.invariant.least c.broken_label.ensures.least
-
-pub returns-clause-cost : goal.returns-clause-cost
-returns-clause-cost g c = positions_cost _ _ _ _ _ (subst (λ n. c.loop-position.position ≤ n) c.positions-position-end.ensures.value c.loop-position.auto.position-end) c.loop-position.invariant.cost
-
-pub returns-clause-least : goal.returns-clause-least
-returns-clause-least g c = c.loop-position.invariant.least
+returns-clause-first g c = all_labels c.args.arena.now (rule_of c.args.plan.now.table) c.args.found.now c.args.node c.loop-label.label c.loop-label.end c.loop-label.first (omega (arith, c.loop-label-test.false, c.loop-label.auto.label-end, c.top-label-end.ensures.value, ap (λ (schema : Schema). schema.dim) c.schema.ensures)) c.loop-label.invariant.so_far

@@ -7,11 +7,12 @@ use Rattle.gm_model.specs.Rules.{rule_of}
 use Rattle.gm_arena.specs.declared.slot.Slot.{Slot}
 use Rattle.gm_arena.specs.ArenaMap.{IsLiveName, IsLiveSlot, name_at}
 use Rattle.gm_arena.proofs.MapLemmas.{IsLiveName-name_at}
+use Rattle.gm_theory.proofs.Candidates.{hook_left}
 use Rattle.gm_walk.specs.Turns.{IsTurn}
 use Rattle.gm_walk.specs.Walks.{names_of}
 use Rattle.gm_walk.proofs.CellLemmas.{each_entry}
 use Rattle.gm_walk.proofs.NameLemmas.{name_there}
-use Rattle.gm_match.proofs.Placing.{IsTurned, names_begin, some_position, firsts_of, is_candidate}
+use Rattle.gm_match.proofs.Placing.{IsTurned, names_begin, some_position, firsts_of, is_candidate, walk_slots}
 use Rattle.gm_match.proofs.candidates.along_walk.Goals as goal
 
 pub fill_slots-requires-clause-some_position : goal.fill_slots-requires-clause-some_position
@@ -90,3 +91,23 @@ returns-clause-cost g c = omega (arith, c.fill_slots.ensures.cost)
 
 pub returns-clause-least : goal.returns-clause-least
 returns-clause-least g c = c.fill_slots.ensures.least
+
+pub returns-clause-walked : goal.returns-clause-walked
+returns-clause-walked g c =
+    let word = c.args.word.now in
+    let m = c.args.arena.now in
+    let walk = c.args.walk.now in
+    let start = name_there m c.args.darts.now 0 (record { at = 0 }) c.requires.some in
+    let rule = rule_of c.args.plan.now.table in
+    let found = c.new.result in
+    let begin = names_begin m c.args.darts.now c.requires.some in
+    let live = subst (IsLiveName m) (sym start) (IsLiveName-name_at m _ c.requires.matchable.lawful (All-get_or (λ (s : Slot). IsLiveSlot m s.at) c.args.darts.now 0 (record { at = 0 }) c.requires.some c.requires.live)) in
+    let made : IsTurned m rule _ walk found word = record { walk = c.requires.walk; turns = rw c.new.ensures.turns c.requires.turns; places = c.new.ensures.places ∙ c.len.ensures.value } in
+    let laid = c.in_ok-fill_slots.ensures.slots in
+    let planned = c.requires.matchable.planned in
+    λ h first. walk_slots m rule _ walk found (names_of m c.args.darts.now) begin.0 begin.1 (length-map c.args.darts.now (λ (s : Slot). name_at m s.at) ∙ c.requires.count) laid.0 laid.1 (rw (c.new.ensures.turns, ← c.deref.ensures.value, c.new.ensures.slots) laid.2)
+    c.new.ensures.positions (rw (c.new.ensures.slots, c.new.ensures.positions) c.new.ensures.nodes) live (subst (IsTurned m rule _ walk found) c.requires.word made)
+    c.requires.matchable.lawful c.requires.walked h first ((laid.1 h).0 (hook_left c.args.plan.now.schema rule planned.accepted.in_range planned.accepted.incidence 0 h first))
+
+pub returns-in_err-fill_slots-clause-walked : goal.returns-in_err-fill_slots-clause-walked
+returns-in_err-fill_slots-clause-walked g c = IfOk-from_err c.from_residual.result _ c.from_residual.ensures.0

@@ -102,3 +102,9 @@ along_walk-requires-clause-turns g c = rw c.walked.ensures.value c.in_ok-walk_tu
 
 pub returns-clause-room : goal.returns-clause-room
 returns-clause-room g c = c.walk_turns.ensures.room ∙ ap (λ room. room.bound) c.lend_rows-slots.ensures.stays
+
+pub returns-clause-walked : goal.returns-clause-walked
+returns-clause-walked g c = rw (← c.walked.ensures.value) c.along_walk.ensures.walked
+
+pub returns-in_err-walk_turns-clause-walked : goal.returns-in_err-walk_turns-clause-walked
+returns-in_err-walk_turns-clause-walked g c = unless_ok _ c.from_residual.result c.from_residual.ensures.0

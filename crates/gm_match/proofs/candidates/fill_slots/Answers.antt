@@ -13,6 +13,7 @@ use Rattle.gm_walk.specs.Walks.{AreLive, names_of}
 use Rattle.gm_walk.proofs.NameLemmas.{name_there}
 use Rattle.gm_match.specs.Layout.{AreRows, dart_in, stepped}
 use Rattle.gm_match.proofs.Growing.{first_next, later_next, none_yet, one_first, one_more, wide_row, none_ok}
+use Rattle.gm_match.proofs.Column.{column_rows}
 use Rattle.gm_match.proofs.Costs.{row_cost, row_room, some_node}
 use Rattle.gm_match.proofs.OneNode.{walk_rows}
 use Rattle.gm_match.proofs.Stepping.{same_count}
@@ -81,7 +82,7 @@ later_row-requires-clause-turn g c = λ several count counts.
     let long = c.loop-position.invariant.rows.long ∙ ap length (sym c.deref.ensures.value) in (
       p,
       subst (λ n. p * n ≡ length c.deref.result.now) (same_count rule c.left_nodes-nodes.result count c.left_nodes-nodes.ensures.left counts) long,
-      subst (λ k. k < p * width rule) (one_first turns p first.0 turn first.2 (c.next_turn-turn.ensures.first several)) first.1,
+      subst (λ k. k < p * width rule) (one_first turns p first.0 turn first.2 c.next_turn-turn.ensures.first) first.1,
     )
 
 pub push_row-requires-in-loop-position : goal.push_row-requires-in-loop-position
@@ -112,7 +113,7 @@ loop-position-preserved g c =
     let i = c.loop-position.invariant in
     let wide = wide_row nodes _ row c.left_nodes-nodes.ensures.most planned.within.nodes made.row.long in
     let along = sym (name_there m c.args.walk.now p (record { at = 0 }) c.loop-position-test.true) in
-    let next = later_next m schema rule planned hooks walk turns nodes counts p turn slots row _ (omega (arith, c.loop-position.auto.position)) c.next_turn-turn.ensures.first along made.first
+    let next = later_next m schema rule planned hooks walk turns nodes counts p turn slots row _ (omega (arith, c.loop-position.auto.position)) (λ several. c.next_turn-turn.ensures.first) along made.first
     (subst (λ xs. (t h count : ℕ) → 0 < t → slice_get rule.hooks t ≡ Some h → IsLeftCount rule count → dart_in m row h ≡ stepped m rule count xs turn h) c.deref.ensures.value made.later) in
     record {
       rows = rw c.push_row-in-loop-position.ensures.items (one_more m schema rule planned hooks walk turns nodes counts p slots row i.rows made.row wide next);
@@ -212,3 +213,9 @@ returns-clause-cost g c =
 
 pub returns-clause-least : goal.returns-clause-least
 returns-clause-least g c = c.loop-position.invariant.least
+
+pub returns-then-hooks-eq1-clause-slots : goal.returns-then-hooks-eq1-clause-slots
+returns-then-hooks-eq1-clause-slots g c =
+    let m = c.args.arena.now in
+    let rule = rule_of c.args.plan.now.table in
+    on_ok_weaker c.fill_columns.result (λ made. (made.0, made.1, column_rows m rule (names_of m c.args.darts.now) (names_of m c.args.walk.now) c.args.turns.now made.0 _ _ (sym c.hooks.ensures ∙ c.if-hooks-eq1.true) c.requires.starts made.2)) c.fill_columns.ensures.columns

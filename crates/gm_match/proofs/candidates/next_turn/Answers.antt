@@ -4,9 +4,6 @@ use Rattle.std.proofs.lemmas.Option.{slice_get-get_or, slice_get_within}
 use Rattle.gm_match.proofs.FirstTurns.{not_before, not_here}
 use Rattle.gm_match.proofs.candidates.next_turn.Goals as goal
 
-pub returns-then-hooks-le1-clause-before : goal.returns-then-hooks-le1-clause-before
-returns-then-hooks-le1-clause-before c = c.requires.before
-
 pub loop-turn-init : goal.loop-turn-init
 loop-turn-init c = λ k first. not_before c.args.turns.now c.args.from c.args.position k c.requires.before first
 
@@ -23,7 +20,7 @@ pub returns-clause-first : goal.returns-clause-first
 returns-clause-first c =
     let at_most = c.loop-turn.invariant c.requires.some.0 c.requires.some.1 in
     let within = lt_of_le_of_lt at_most (slice_get_within c.args.turns.now c.requires.some.0 c.args.position c.requires.some.1.here) in
-    λ several. record {
+    record {
       here = slice_get-get_or c.args.turns.now c.loop-turn.turn 0 within ∙ ap Some c.loop-turn-test.false;
       before = λ j less. c.requires.some.1.before j (lt_of_lt_of_le less at_most);
     }

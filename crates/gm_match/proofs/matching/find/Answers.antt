@@ -1,15 +1,17 @@
-use Rattle.std.proofs.Common.{ℕ, ◌+◌, ◌*◌, ◌<◌, ◌≤◌, List, length, refl, sym, ap, subst, ◌∙◌, arith}
+use Rattle.std.proofs.Common.{◌≡◌, ℕ, ◌+◌, ◌*◌, ◌<◌, ◌≤◌, List, Some, length, refl, sym, ap, subst, ◌∙◌, arith}
 use Rattle.std.proofs.Math.Nat.{le_trans}
+use Rattle.std.proofs.lemmas.Option.{slice_get-get_or}
 use Rattle.std.proofs.lemmas.Result.{err_from_is_err_and}
 use Rattle.std.specs.Prelude.{slice_index}
 use Rattle.gm_model.specs.declared.rule.RuleTable.{RuleTable}
 use Rattle.gm_model.specs.Matches.{along_hook}
 use Rattle.gm_model.specs.Orbits.{IsWalk}
-use Rattle.gm_model.specs.Rules.{rule_of, width}
+use Rattle.gm_model.specs.Rules.{rule_of, first_hook, width}
 use Rattle.gm_arena.specs.ArenaAsMap.{as_map}
 use Rattle.gm_plan.proofs.Hooks.{few_hooks}
 use Rattle.gm_match.specs.Layout.{IsCandidateAt}
-use Rattle.gm_match.proofs.Answering.{sound_of, begun_of, is_nil, not_nil, no_items, none_within, as_many, within_taken, slots_below, first_below, dart_cause, dart_missed, missed_cost, created, made_cost, tested_cost, step_cause, step_missed, twice_cause, twice_missed, one_node, answer}
+use Rattle.gm_match.specs.Taken.{TakesEachOnce}
+use Rattle.gm_match.proofs.Answering.{sound_of, begun_of, is_nil, not_nil, no_items, none_within, as_many, within_taken, first_same, slots_below, first_below, dart_cause, dart_missed, missed_cost, created, made_cost, tested_cost, step_cause, step_missed, twice_cause, twice_missed, hook_once, answer}
 use Rattle.gm_match.proofs.Costs.{no_cost}
 use Rattle.gm_match.proofs.Stepping.{same_count}
 use Rattle.gm_match.proofs.matching.find.Goals as goal
@@ -104,6 +106,12 @@ pub take_once-requires-clause-room : goal.take_once-requires-clause-room
 take_once-requires-clause-room g c =
     slots_below c.args.arena.now c.in_ok-found.found.slots _ c.bound.ensures.lawful c.in_ok-found.ensures.candidate.laid.slots (omega (arith, c.requires.fits, c.candidate.ensures.room))
 
+pub take_once-requires-clause-walked : goal.take_once-requires-clause-walked
+take_once-requires-clause-walked g c =
+    let rule = rule_of c.args.plan.now.table in
+    let same = first_same c.args.plan.now.table _ _ c.as_slice-2.ensures c.rule-2.ensures.rule in
+    c.in_ok-found.ensures.walked _ (subst (λ h. first_hook rule ≡ Some h) (sym same) (slice_get-get_or rule.hooks 0 0 (subst (λ n. 0 < n) c.requires.hooks (not_nil c.args.hooks.now c.is_empty.result c.is_empty.ensures c.if-is_empty.false))))
+
 pub take_once-requires-clause-alone : goal.take_once-requires-clause-alone
 take_once-requires-clause-alone g c =
     let m = c.args.arena.now in
@@ -113,7 +121,8 @@ take_once-requires-clause-alone g c =
     let begun = begun_of m rule c.args.hooks.now _ sound c.bound.ensures.lawful (not_nil c.args.hooks.now c.is_empty.result c.is_empty.ensures c.if-is_empty.false) c.requires.hooks are in
     let found = c.in_ok-found.found in
     let at = subst (λ hs. IsCandidateAt m rule hs found) are.names c.in_ok-found.ensures.candidate in
-    one_node m rule _ begun found at
+    let same = first_same c.args.plan.now.table _ _ c.as_slice-2.ensures c.rule-2.ensures.rule in
+    subst (TakesEachOnce found) (sym same) (hook_once m rule _ begun found at)
 
 pub returns-in_err-take_once-clause-answer : goal.returns-in_err-take_once-clause-answer
 returns-in_err-take_once-clause-answer g c =

@@ -1,18 +1,19 @@
-use Rattle.std.proofs.Common.{get_or, subst, ◌∙◌, arith, length-set}
+use Rattle.std.proofs.Common.{get_or, set, subst, ◌∙◌, arith, length-set}
 use Rattle.std.proofs.lemmas.List.Elements.{All-get_or, All-set}
 use Rattle.std.proofs.lemmas.Option.{slice_get-get_or}
 use Rattle.gm_arena.specs.declared.slot.Slot.{Slot}
 use Rattle.gm_arena.specs.ArenaMap.{IsAt, IsLiveSlot, alpha}
 use Rattle.gm_model.specs.Rules.{link_from, rule_of}
 use Rattle.gm_walk.proofs.NameLemmas.{live_at}
-use Rattle.gm_match.proofs.Paths.{from_within, to_within, low_label, few_links, hooks_reached, hooks_stay, all_forced, link_reached, row_name}
+use Rattle.gm_match.specs.Layout.{dart_in}
+use Rattle.gm_match.proofs.Paths.{from_within, to_within, low_label, few_links, hooks_reached, hooks_stay, all_forced, link_reached, link_set, dart_stays, row_name}
 use Rattle.gm_match.proofs.rows.follow_paths.Goals as goal
 
 pub loop-link-init : goal.loop-link-init
 loop-link-init g c = record {
   whole = c.told-row;
   live = c.requires.live;
-  reached = hooks_reached c.args.plan.now.schema (rule_of c.args.plan.now.table) c.requires.matchable.planned c.paths-link-items.result.now c.paths-link-items.ensures c.args.arena.now c.args.row.now;
+  reached = hooks_reached c.args.plan.now.schema (rule_of c.args.plan.now.table) c.requires.matchable.planned c.paths-link-items.result.now c.paths-link-items.ensures c.args.arena.now (dart_in c.args.arena.now c.args.row.now);
   cost = omega arith;
 }
 
@@ -53,15 +54,16 @@ loop-link-preserved g c =
     record {
       whole = length-set _ _ _ ∙ i.whole;
       live = All-set (λ (s : Slot). IsLiveSlot m s.at) c.loop-link.row link.to c.alpha.result (live_at m c.alpha.result.at _ c.alpha.ensures.neighbour) i.live;
-      reached = link_reached schema rule planned links are m c.args.row.now c.loop-link.link-index link c.loop-link.row c.alpha.result at (omega (arith, i.whole, to_within schema rule planned links are _ link at)) i.reached
-          (subst (λ d. IsAt m c.alpha.result.at (alpha m link.label d)) from c.alpha.ensures.neighbour);
+      reached = link_reached schema rule planned links are m (dart_in m c.args.row.now) c.loop-link.link-index link (dart_in m c.loop-link.row) (dart_in m (set c.loop-link.row link.to c.alpha.result)) at i.reached
+          (link_set m c.loop-link.row link c.alpha.result (omega (arith, i.whole, to_within schema rule planned links are _ link at)) (subst (λ d. IsAt m c.alpha.result.at (alpha m link.label d)) from c.alpha.ensures.neighbour))
+          (λ x left apart. dart_stays m c.loop-link.row link.to c.alpha.result x apart);
       cost = omega (arith, i.cost, c.alpha.ensures.cost);
     }
 
 pub returns-clause-hooks : goal.returns-clause-hooks
 returns-clause-hooks g c =
     let links = c.paths-link-items.result.now in
-    hooks_stay c.args.plan.now.schema (rule_of c.args.plan.now.table) c.requires.matchable.planned links c.paths-link-items.ensures c.args.arena.now c.args.row.now c.loop-link.link-index c.loop-link.row (omega arith) c.loop-link.invariant.reached
+    hooks_stay c.args.plan.now.schema (rule_of c.args.plan.now.table) c.requires.matchable.planned links c.paths-link-items.ensures c.args.arena.now (dart_in c.args.arena.now c.args.row.now) c.loop-link.link-index (dart_in c.args.arena.now c.loop-link.row) (omega arith) c.loop-link.invariant.reached
 
 pub returns-clause-row : goal.returns-clause-row
 returns-clause-row g c =
@@ -69,7 +71,7 @@ returns-clause-row g c =
     record {
       long = c.loop-link.invariant.whole;
       live = c.loop-link.invariant.live;
-      forced = all_forced c.args.plan.now.schema (rule_of c.args.plan.now.table) c.requires.matchable.planned links c.paths-link-items.ensures c.args.arena.now c.args.row.now c.loop-link.link-index c.loop-link.row (omega arith) c.loop-link.invariant.reached;
+      forced = all_forced c.args.plan.now.schema (rule_of c.args.plan.now.table) c.requires.matchable.planned links c.paths-link-items.ensures c.args.arena.now (dart_in c.args.arena.now c.args.row.now) c.loop-link.link-index (dart_in c.args.arena.now c.loop-link.row) (omega arith) c.loop-link.invariant.reached;
     }
 
 pub returns-clause-cost : goal.returns-clause-cost

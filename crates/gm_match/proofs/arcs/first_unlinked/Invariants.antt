@@ -1,0 +1,14 @@
+use Rattle.std.proofs.Common.{◌+◌, ◌≤◌}
+use Rattle.gm_arena.specs.ArenaMap.{alpha}
+use Rattle.gm_model.specs.declared.step.Step.TheVariants.{Exp}
+use Rattle.gm_model.specs.Matches.{IsStepMet}
+use Rattle.gm_model.specs.Structure.{AreGood}
+use Rattle.gm_match.specs.Outcome.{place_of}
+use Rattle.gm_match.proofs.arcs.first_unlinked.Given as goal
+
+abbrev pub invariant-loop-position : goal.invariant-loop-position
+invariant-loop-position g l = record {
+  met : AreGood (λ p. IsStepMet (alpha l.arena) (place_of l.arena l.found) l.node p l.label (Exp l.other)) l.position;
+  cost : l.steps ≤ l.fn.steps + l.position;
+  least : l.fn.steps ≤ l.steps;
+}

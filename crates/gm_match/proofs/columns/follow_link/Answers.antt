@@ -1,0 +1,36 @@
+use Rattle.std.proofs.Common.{◌+◌, ◌*◌, inr, length, sym, ◌∙◌, arith}
+use Rattle.std.proofs.Math.Nat.{le_refl}
+use Rattle.std.proofs.lemmas.List.Elements.{All-set}
+use Rattle.gm_arena.specs.declared.slot.Slot.{Slot}
+use Rattle.gm_arena.specs.ArenaMap.{IsLiveSlot, alpha}
+use Rattle.gm_walk.proofs.NameLemmas.{live_at}
+use Rattle.gm_match.specs.Layout.{dart_at}
+use Rattle.gm_match.proofs.Column.{place_within, column_begun, column_next, led_on}
+use Rattle.gm_match.proofs.Paths.{row_name}
+use Rattle.gm_match.proofs.columns.follow_link.Goals as goal
+
+pub loop-position-init : goal.loop-position-init
+loop-position-init g c = record {
+  so_far = column_begun c.args.arena.now c.args.nodes c.args.link.to (λ p. alpha c.args.arena.now c.args.link.label (dart_at c.args.arena.now c.args.nodes c.args.slots.now c.args.link.from p)) c.args.slots.now;
+  live = c.requires.live;
+  cost = omega arith;
+}
+
+pub loop-position-preserved : goal.loop-position-preserved
+loop-position-preserved g c =
+    let m = c.args.arena.now in
+    let nodes = c.args.nodes in
+    let link = c.args.link in
+    let p = c.loop-position.position in
+    let i = c.loop-position.invariant in
+    let old = c.args.slots.now in
+    let slots = c.loop-position.slots in
+    let long = c.requires.long ∙ sym i.so_far.long in
+    let read = place_within c.args.rows nodes p link.from (length slots) long c.loop-position-test.true c.requires.from in
+    let room = place_within c.args.rows nodes p link.to (length slots) long c.loop-position-test.true c.requires.to in
+    let from = row_name m slots (p * nodes + link.from) (record { at = 0 }) read ∙ i.so_far.stays link.from p c.requires.from (inr (le_refl p)) in
+    record {
+      so_far = column_next m nodes link.to (λ q. alpha m link.label (dart_at m nodes old link.from q)) old p slots c.alpha.result c.requires.to room (led_on m nodes old link.from p link.label _ c.alpha.result from c.alpha.ensures.neighbour) i.so_far;
+      live = All-set (λ (s : Slot). IsLiveSlot m s.at) slots (p * nodes + link.to) c.alpha.result (live_at m c.alpha.result.at _ c.alpha.ensures.neighbour) i.live;
+      cost = omega (arith, i.cost, c.alpha.ensures.cost);
+    }

@@ -1,0 +1,18 @@
+use Rattle.std.proofs.Common.{◌≡◌, ℕ, ◌+◌, ◌*◌, ◌<◌, List, length, take}
+use Rattle.std.specs.List.{Contains}
+use Rattle.gm_arena.specs.ArenaMap.{alpha}
+use Rattle.gm_model.specs.Matches.{IsPathTo}
+use Rattle.gm_model.specs.Orbits.{follow}
+use Rattle.gm_model.specs.Rules.{rule_of}
+use Rattle.gm_plan.specs.Paths.{path_nodes}
+use Rattle.gm_walk.specs.Walks.{AreLive}
+use Rattle.gm_match.specs.Layout.{dart_at}
+use Rattle.gm_match.proofs.columns.follow_links.Given as goal
+
+abbrev pub invariant-loop-link : goal.invariant-loop-link
+invariant-loop-link g l = record {
+  long : length l.slots ≡ length l.fn.slots;
+  live : AreLive l.arena l.slots;
+  reached : (p : ℕ) → p < l.rows → (x : ℕ) → Contains (path_nodes (rule_of l.plan.table) (take l.link-index l.link-items)) x → (h : ℕ) (path : List ℕ) → IsPathTo (rule_of l.plan.table) x h path → dart_at l.arena l.nodes l.slots x p ≡ follow (alpha l.arena) path (dart_at l.arena l.nodes l.fn.slots h p);
+  cost : l.steps ≡ l.fn.steps + l.link-index * l.rows;
+}
