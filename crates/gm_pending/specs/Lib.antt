@@ -3,8 +3,8 @@ pub mod Answered
 pub mod Collected
 pub mod EditLists
 pub mod Gathered
-pub mod MadeLabels
 pub mod Lookup
+pub mod MadeLabels
 pub mod Marks
 pub mod Reached
 pub mod Results
