@@ -75,14 +75,11 @@ links_cost rows index links hooks nodes start after few all cost =
 -- with one hook such rows are those of the candidate
 pub column_rows : (m : ArenaMap) (rule : Rule) (hooks walk turns : List ℕ) (nodes rows : ℕ) (slots : List Slot) → length rule.hooks ≡ 1 → slice_index walk 0 ≡ slice_index hooks 0 → AreColumns m rule nodes walk rows slots → AreRows m rule hooks walk turns nodes rows slots
 column_rows m rule hooks walk turns nodes rows slots one starts are = record {
-  long = are.long;
-  live = are.live;
-  hooked = are.hooked;
+  along = are;
   at_darts = λ t h d some at named.
       let first = only t h at in
       are.hooked h 0 (subst (λ k. slice_get rule.hooks k ≡ Some h) first at) some ∙ starts ∙ get_or_from_slice_get hooks 0 d 0 (subst (λ k. slice_get hooks k ≡ Some d) first named);
   in_step = λ t h p k later at less turn first. absurd (omega (arith, later, only t h at));
-  forced = are.forced;
 }
   where
     only : (t h : ℕ) → slice_get rule.hooks t ≡ Some h → t ≡ 0

@@ -84,12 +84,14 @@ module _ (m : ArenaMap) (schema : Schema) (rule : Rule) (planned : IsPlanned sch
 
   pub none_yet : AreRows m rule hooks walk turns nodes 0 []
   none_yet = record {
-    long = omega arith;
-    live = λ k d h. absurd (omega (arith, h));
-    hooked = λ h p first less. absurd (omega (arith, less));
+    along = record {
+      long = omega arith;
+      live = λ k d h. absurd (omega (arith, h));
+      hooked = λ h p first less. absurd (omega (arith, less));
+      forced = λ x p hook path less to. absurd (omega (arith, less));
+    };
     at_darts = λ t h d some at named. absurd (omega (arith, some));
     in_step = λ t h p k later at less turn first. absurd (omega (arith, less));
-    forced = λ x p hook path less to. absurd (omega (arith, less));
   }
 
   hook_below : (t h : ℕ) → slice_get rule.hooks t ≡ Some h → h < nodes
@@ -98,13 +100,13 @@ module _ (m : ArenaMap) (schema : Schema) (rule : Rule) (planned : IsPlanned sch
   module _ (rows : ℕ) (slots row : List Slot) (are : AreRows m rule hooks walk turns nodes rows slots) (next : IsForcedRow m rule row) (wide : nodes ≤ length row) where
     earlier : (x p : ℕ) → x < nodes → p < rows → dart_at m nodes (slots ++ take nodes row) x p ≡ dart_at m nodes slots x p
     earlier x p left less =
-        let within : p * nodes + x < length slots = omega (arith, mul-add-lt p nodes x rows less left, are.long) in
+        let within : p * nodes + x < length slots = omega (arith, mul-add-lt p nodes x rows less left, are.along.long) in
         let here = slice_get-get_or slots (p * nodes + x) (record { at = 0 }) within in
         ap (name_of m) (get_left slots (take nodes row) (p * nodes + x) (get_or slots (p * nodes + x) (record { at = 0 })) here ∙ sym here)
 
     last : (x p : ℕ) → x < nodes → rows ≡ p → dart_at m nodes (slots ++ take nodes row) x p ≡ dart_in m row x
     last x p left same =
-        let at : length slots + x ≡ p * nodes + x = ap (λ n. n + x) (sym are.long) ∙ ap (λ n. n * nodes + x) same in
+        let at : length slots + x ≡ p * nodes + x = ap (λ n. n + x) (sym are.along.long) ∙ ap (λ n. n * nodes + x) same in
         let here = slice_get-get_or row x (record { at = 0 }) (omega (arith, left, wide)) in
         ap (name_of m) (ap (slice_get (slots ++ take nodes row)) (sym at) ∙ get_right slots (take nodes row) x (get_or row x (record { at = 0 })) (get_front row nodes x (get_or row x (record { at = 0 })) wide left here) ∙ sym here)
 
@@ -113,18 +115,20 @@ module _ (m : ArenaMap) (schema : Schema) (rule : Rule) (planned : IsPlanned sch
 
     pub one_more : IsNextRow rows slots row → AreRows m rule hooks walk turns nodes (rows + 1) (slots ++ take nodes row)
     one_more fits = record {
-      long = omega (arith, are.long, length-append slots (take nodes row), length-take-le nodes row wide);
-      live = All-append (λ (s : Slot). IsLiveSlot m s.at) slots (take nodes row) are.live (All-take (λ (s : Slot). IsLiveSlot m s.at) nodes row next.live);
-      hooked = λ h p first less. elim (cases_lt p rows) [
-        | inl before ↦ earlier h p (hook_below 0 h first) before ∙ are.hooked h p first before
-        | inr after ↦ last h p (hook_below 0 h first) (omega (arith, less, after)) ∙ fits.hooked h first ∙ ap (slice_index walk) (omega (arith, less, after))
-      ];
+      along = record {
+        long = omega (arith, are.along.long, length-append slots (take nodes row), length-take-le nodes row wide);
+        live = All-append (λ (s : Slot). IsLiveSlot m s.at) slots (take nodes row) are.along.live (All-take (λ (s : Slot). IsLiveSlot m s.at) nodes row next.live);
+        hooked = λ h p first less. elim (cases_lt p rows) [
+          | inl before ↦ earlier h p (hook_below 0 h first) before ∙ are.along.hooked h p first before
+          | inr after ↦ last h p (hook_below 0 h first) (omega (arith, less, after)) ∙ fits.hooked h first ∙ ap (slice_index walk) (omega (arith, less, after))
+        ];
+        forced = forced;
+      };
       at_darts = λ t h d some at named. elim (cases_lt 0 rows) [
         | inl before ↦ earlier h 0 (hook_below t h at) before ∙ are.at_darts t h d before at named
         | inr after ↦ last h 0 (hook_below t h at) (omega (arith, after)) ∙ fits.at_darts t h d (omega (arith, after)) at named
       ];
       in_step = in_step;
-      forced = forced;
     }
       where
         in_step : (t h p k : ℕ) → 0 < t → slice_get rule.hooks t ≡ Some h → p < rows + 1 → k < p * width rule → IsFirstTo turns p k → dart_at m nodes (slots ++ take nodes row) h p ≡ stepped m rule nodes (slots ++ take nodes row) k h
@@ -153,7 +157,7 @@ module _ (m : ArenaMap) (schema : Schema) (rule : Rule) (planned : IsPlanned sch
             hooked = hook_below to.index hook to.hook_at
 
             go : (p < rows) ⊎ (rows ≤ p) → dart_at m nodes (slots ++ take nodes row) x p ≡ follow (alpha m) path (dart_at m nodes (slots ++ take nodes row) hook p)
-            go (inl before) = earlier x p left before ∙ are.forced x p hook path before to ∙ ap (follow (alpha m) path) (sym (earlier hook p hooked before))
+            go (inl before) = earlier x p left before ∙ are.along.forced x p hook path before to ∙ ap (follow (alpha m) path) (sym (earlier hook p hooked before))
             go (inr after) =
                 let same : rows ≡ p = omega (arith, less, after) in
                 last x p left same ∙ next.forced x hook path to ∙ ap (follow (alpha m) path) (sym (last hook p hooked same))

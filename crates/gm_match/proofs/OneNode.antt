@@ -48,10 +48,12 @@ module _ (m : ArenaMap) (schema : Schema) (rule : Rule) (planned : IsPlanned sch
 
     pub walk_rows : (hooks turns : List ℕ) → AreLive m walk → slice_index (names_of m walk) 0 ≡ slice_index hooks 0 → AreRows m rule hooks (names_of m walk) turns 1 (length walk) walk
     walk_rows hooks turns live starts = record {
-      long = omega arith;
-      live = live;
-      hooked = λ h p first less. lies h p (hook_is 0 h first) less;
+      along = record {
+        long = omega arith;
+        live = live;
+        hooked = λ h p first less. lies h p (hook_is 0 h first) less;
+        forced = λ x p hook path less to. forced x p hook path to;
+      };
       at_darts = λ t h d some at named. lies h 0 (hook_is t h at) some ∙ starts ∙ get_or_from_slice_get hooks 0 d 0 (subst (λ k. slice_get hooks k ≡ Some d) (index_is t h at) named);
       in_step = λ t h p k later at less turn first. absurd (omega (arith, later, index_is t h at));
-      forced = λ x p hook path less to. forced x p hook path to;
     }

@@ -131,7 +131,7 @@ module _ (m : ArenaMap) (rule : Rule) (d : ℕ) (slots : List Slot) where
       some = some_position (hook_word rule) turned.walk
 
       nodes_are : found.nodes ≡ nodes
-      nodes_are = same_factor (length slots) found.nodes nodes some (ap (λ k. k * found.nodes) (sym positions) ∙ long ∙ sym rows.long)
+      nodes_are = same_factor (length slots) found.nodes nodes some (ap (λ k. k * found.nodes) (sym positions) ∙ long ∙ sym rows.along.long)
 
       -- the slots are read by the number of the left nodes
       lies : (x p : ℕ) → name_of m (slot_at found x p) ≡ dart_at m nodes found.slots x p
@@ -172,15 +172,15 @@ module _ (m : ArenaMap) (rule : Rule) (d : ℕ) (slots : List Slot) where
         count = count;
         walk = names_of m slots;
         positions = subst (λ hs. ArePositions (as_map m) rule (place_of m found) hs (names_of m slots)) (sym is_hooks) (Walked d others (names_of m slots) live turned.walk (positions ∙ sym names_long) turn_lies);
-        hooked = λ h p first less. lies h p ∙ rows.hooked h p first (subst (λ n. p < n) positions less);
+        hooked = λ h p first less. lies h p ∙ rows.along.hooked h p first (subst (λ n. p < n) positions less);
         at_darts = λ t h e at named. lies h 0 ∙ rows.at_darts t h e some at named;
         in_step = in_step;
-        forced = λ x p hook path at to. lies x p ∙ rows.forced x p hook path (subst (λ n. p < n) positions at.1) to ∙ ap (follow (alpha m) path) (sym (lies hook p));
+        forced = λ x p hook path at to. lies x p ∙ rows.along.forced x p hook path (subst (λ n. p < n) positions at.1) to ∙ ap (follow (alpha m) path) (sym (lies hook p));
       }
 
       pub is_candidate : IsCandidateAt m rule hooks found
       is_candidate = record {
-        laid = record { slots = rows.live; long = long; nodes = subst (IsLeftCount rule) (sym nodes_are) counts; places = turned.places };
+        laid = record { slots = rows.along.live; long = long; nodes = subst (IsLeftCount rule) (sym nodes_are) counts; places = turned.places };
         candidate = candidate;
       }
 
@@ -189,8 +189,8 @@ module _ (m : ArenaMap) (rule : Rule) (d : ℕ) (slots : List Slot) where
       walk_slots lawful walked h at left p less =
           let within : p < length slots = subst (λ n. p < n) positions less in
           let there = slot_some m found long h p (subst (λ n. h < n) (sym nodes_are) left) less in
-          let names = ap (name_of m) (sym there.1) ∙ lies h p ∙ rows.hooked h p at within ∙ name_there m slots p (record { at = 0 }) within in
-          let same = one_slot m lawful there.0 (get_or slots p (record { at = 0 })) (slot_live m found rows.live h p there.0 there.1) (walked p (record { at = 0 }) within) names in
+          let names = ap (name_of m) (sym there.1) ∙ lies h p ∙ rows.along.hooked h p at within ∙ name_there m slots p (record { at = 0 }) within in
+          let same = one_slot m lawful there.0 (get_or slots p (record { at = 0 })) (slot_live m found rows.along.live h p there.0 there.1) (walked p (record { at = 0 }) within) names in
           there.1 ∙ ap Some same ∙ sym (slice_get-get_or slots p (record { at = 0 }) within)
 
 -- ---- where it begins

@@ -1,9 +1,9 @@
-ghost use Rattle.std.specs.Prelude.{◌≡◌, ◌≢◌, ℕ, ◌+◌, ◌*◌, ◌<◌, ◌≤◌, [], length, slice_index, OnOk};
+ghost use Rattle.std.specs.Prelude.{◌≡◌, ◌≢◌, ℕ, ◌+◌, ◌*◌, ◌<◌, ◌≤◌, [], length, slice_get, slice_index, Some, OnOk};
 ghost use Rattle.gm_arena.specs.ArenaMap.{alpha};
 ghost use Rattle.gm_model.specs.Rules.{rule_of};
 ghost use Rattle.gm_plan.specs.Plans.{IsLeftCount};
 ghost use Rattle.gm_walk.specs.Walks.{AreLive, names_of};
-ghost use Rattle.gm_match.specs.Layout.{AreMatchable, AreColumns, AreForced, dart_at};
+ghost use Rattle.gm_match.specs.Layout.{AreMatchable, AreColumns, AreForcedRows, dart_at};
 
 use gm_arena::{Arena, Slot, Steps};
 use gm_model::{Link, OutOfMemory};
@@ -95,7 +95,8 @@ fn follow_links<L: Ledger>(
     requires live { AreLive arena.now slots.old }
     ensures live { AreLive arena.now slots.new }
     ensures long { length slots.new ≡ length slots.old }
-    ensures forced { AreForced arena.now (rule_of plan.now.table) nodes rows slots.old slots.new }
+    ensures hooks { (t h p : ℕ) → p < rows → slice_get (rule_of plan.now.table).hooks t ≡ Some h → dart_at arena.now nodes slots.new h p ≡ dart_at arena.now nodes slots.old h p }
+    ensures forced { AreForcedRows arena.now (rule_of plan.now.table) nodes rows slots.new }
     ensures cost { steps.new + rows * length (rule_of plan.now.table).hooks ≤ steps.old + rows * length (rule_of plan.now.table).nodes }
     ensures least { steps.old ≤ steps.new }
 {

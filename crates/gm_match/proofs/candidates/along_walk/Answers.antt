@@ -81,7 +81,7 @@ pub new-requires-clause-some_position : goal.new-requires-clause-some_position
 new-requires-clause-some_position g c = some_position c.args.arena.now (rule_of c.args.plan.now.table) _ c.args.walk.now c.args.word.now c.requires.walk
 
 pub new-requires-clause-slots : goal.new-requires-clause-slots
-new-requires-clause-slots g c = let laid = c.in_ok-fill_slots.ensures.slots in (laid.0, laid.2.long)
+new-requires-clause-slots g c = let laid = c.in_ok-fill_slots.ensures.slots in (laid.0, laid.2.along.long)
 
 pub new-requires-clause-turns : goal.new-requires-clause-turns
 new-requires-clause-turns g c = rw c.len.ensures.value c.requires.turns.long

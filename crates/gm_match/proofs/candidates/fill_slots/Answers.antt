@@ -79,7 +79,7 @@ later_row-requires-clause-turn g c = λ several count counts.
     let turns = c.args.turns.now in
     let turn = c.next_turn-turn.result in
     let first = c.requires.turns p (omega (arith, c.loop-position.auto.position)) c.loop-position-test.true in
-    let long = c.loop-position.invariant.rows.long ∙ ap length (sym c.deref.ensures.value) in (
+    let long = c.loop-position.invariant.rows.along.long ∙ ap length (sym c.deref.ensures.value) in (
       p,
       subst (λ n. p * n ≡ length c.deref.result.now) (same_count rule c.left_nodes-nodes.result count c.left_nodes-nodes.ensures.left counts) long,
       subst (λ k. k < p * width rule) (one_first turns p first.0 turn first.2 c.next_turn-turn.ensures.first) first.1,
@@ -92,7 +92,7 @@ push_row-requires-in-loop-position g c =
     let made = c.later_row.ensures in
     let wide = wide_row nodes _ c.later_row.new.row c.left_nodes-nodes.ensures.most c.requires.matchable.planned.within.nodes made.row.long in
     let room = mul-le-mul_right nodes c.loop-position-test.true in
-    omega (arith, room, i.rows.long, length-take-le nodes c.later_row.new.row wide, i.capacity)
+    omega (arith, room, i.rows.along.long, length-take-le nodes c.later_row.new.row wide, i.capacity)
 
 pub loop-position-preserved : goal.loop-position-preserved
 loop-position-preserved g c =
@@ -193,7 +193,7 @@ pub later_row-requires-clause-first : goal.later_row-requires-clause-first
 later_row-requires-clause-first g c = c.requires.walk c.loop-position.position (record { at = 0 }) c.loop-position-test.true
 
 pub later_row-requires-clause-slots : goal.later_row-requires-clause-slots
-later_row-requires-clause-slots g c = subst (AreLive c.args.arena.now) (sym c.deref.ensures.value) c.loop-position.invariant.rows.live
+later_row-requires-clause-slots g c = subst (AreLive c.args.arena.now) (sym c.deref.ensures.value) c.loop-position.invariant.rows.along.live
 
 pub later_row-requires-clause-row : goal.later_row-requires-clause-row
 later_row-requires-clause-row g c = c.loop-position.invariant.row_live

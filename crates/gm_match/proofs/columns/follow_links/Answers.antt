@@ -48,6 +48,19 @@ loop-link-preserved g c =
       cost = omega (arith, i.cost, led.cost);
     }
 
+pub returns-clause-hooks : goal.returns-clause-hooks
+returns-clause-hooks g c =
+    let m = c.args.arena.now in
+    let nodes = c.args.nodes in
+    let schema = c.args.plan.now.schema in
+    let rule = rule_of c.args.plan.now.table in
+    let planned = c.requires.matchable.planned in
+    let links = c.paths-link-items.result.now in
+    let are = c.paths-link-items.ensures in
+    let old : ℕ → ℕ → ℕ = λ p x. dart_at m nodes c.args.slots.now x p in
+    let new : ℕ → ℕ → ℕ = λ p x. dart_at m nodes c.loop-link.slots x p in
+    λ t h p less at. hooks_stay schema rule planned links are m (old p) c.loop-link.link-index (new p) (omega arith) (c.loop-link.invariant.reached p less) t h at
+
 pub returns-clause-forced : goal.returns-clause-forced
 returns-clause-forced g c =
     let m = c.args.arena.now in
@@ -59,10 +72,7 @@ returns-clause-forced g c =
     let are = c.paths-link-items.ensures in
     let old : ℕ → ℕ → ℕ = λ p x. dart_at m nodes c.args.slots.now x p in
     let new : ℕ → ℕ → ℕ = λ p x. dart_at m nodes c.loop-link.slots x p in
-    record {
-      hooks = λ t h p less at. hooks_stay schema rule planned links are m (old p) c.loop-link.link-index (new p) (omega arith) (c.loop-link.invariant.reached p less) t h at;
-      forced = λ x p hook path less to. all_forced schema rule planned links are m (old p) c.loop-link.link-index (new p) (omega arith) (c.loop-link.invariant.reached p less) x hook path to;
-    }
+    λ x p hook path less to. all_forced schema rule planned links are m (old p) c.loop-link.link-index (new p) (omega arith) (c.loop-link.invariant.reached p less) x hook path to
 
 pub returns-clause-cost : goal.returns-clause-cost
 returns-clause-cost g c =
