@@ -2,7 +2,6 @@
 use Rattle.std.specs.Prelude.{◌≡◌, ℕ, ◌+◌, ◌^◌, ◌-◌, ◌<◌, ◌≤◌, min, Bool, true, false, nat_lt, nat_le, if◌then◌else◌, ℤ, pos, neg_ℤ, List, [], ◌∷◌, ◌++◌, length, Option, Some, None, Result, Ok, Err, codes}
 use Rattle.std.specs.Option.{option_map}
 use Rattle.std.specs.Str.{bytes_eq}
-use Rattle.gm_model.specs.declared.limit.LimitKind.{LimitKind}
 use Rattle.gm_model.specs.declared.limit.LimitKind.TheVariants as limits
 use Rattle.gm_model.specs.declared.token.Token.{Token}
 use Rattle.gm_model.specs.declared.token.TokenKind.TheVariants as tokens
@@ -485,6 +484,14 @@ pub record IsNext (before : Cursor) (token : Token) (behind : Cursor) : Type 0 w
   pub order : token.start ≤ token.end
   pub within : token.end ≤ length before.text
   pub lexeme : IsLexeme token.kind (bytes_of before.text token)
+
+-- the token is the next item, in which this is seen, and lies in the text
+pub record IsSeenNext (before : Cursor) (sight : Sight) (token : Token) (behind : Cursor) : Type 0 where
+  pub text : behind.text ≡ before.text
+  pub items : rest_of before ≡ Lexed token ∷ rest_of behind
+  pub goes_on : before.place < behind.place
+  pub inside : IsInText before.text token
+  pub seen : sight ≡ sight_of (symbol_at before.text token)
 
 abbrev pub IsStray : Cursor → TextFault → Type 0
 IsStray cursor (faults.Text place) = rest_of cursor ≡ StrayAt place ∷ []

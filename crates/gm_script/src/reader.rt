@@ -158,6 +158,13 @@ impl Reader {
         }
     }
 
+    /// What was read last.
+    pub(crate) fn spot(&self) -> Spot
+        ensures { result ≡ self.now.spot }
+    {
+        self.spot
+    }
+
     /// Compares the statement that ends where this is seen next, if one does. It is held no longer,
     /// and what is read next is the same.
     pub(crate) fn end_stat(
