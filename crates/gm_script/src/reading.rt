@@ -66,7 +66,7 @@ fn read_tokens(
 {
     let top = dim.top();
     let mut lexer = Lexer::new(bytes);
-    while let Some(seen) = next_seen(&mut lexer, reader.spot())? {
+    while let Some(seen) = next_seen(bytes, &mut lexer, reader.spot())? {
         let Seen { sight, token } = seen;
         reader.end_stat(bytes, sight, rules, compared)?;
         reader.take(top, sight, token)?;

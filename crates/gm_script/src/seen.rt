@@ -4,10 +4,10 @@ ghost use Rattle.gm_model.specs.Tokens as tokens;
 ghost use Rattle.gm_model.specs.Tokens.{EndAt};
 ghost use Rattle.gm_text.specs.Lexing.{rest_of};
 ghost use Rattle.gm_script.specs.Reading as reading;
-ghost use Rattle.gm_script.specs.Reading.{IsNext, IsSeenNext, IsStray};
+ghost use Rattle.gm_script.specs.Reading.{IsLead, IsNext, IsSeenNext, IsStray};
 
 use crate::reader::TextFault;
-use crate::sight::{Sight, sight_of};
+use crate::sight::{Head, Sight, sight_of};
 use crate::spot::Spot;
 use gm_text::{Lexer, Token, TokenKind};
 
@@ -20,19 +20,70 @@ pub(crate) struct Seen {
 
 /// What stands next, behind this spot.
 // A part of a value that is read as any other token takes some 150 instructions more.
-pub(crate) fn next_seen(lexer: &mut Lexer<'_>, spot: Spot) -> Result<Option<Seen>, TextFault>
+pub(crate) fn next_seen<'a>(
+    bytes: &'a [u8],
+    lexer: &mut Lexer<'a>,
+    spot: Spot,
+) -> Result<Option<Seen>, TextFault>
+    requires bytes { lexer.old.text ≡ bytes.now }
     ensures text { lexer.new.text ≡ lexer.old.text }
     ensures found { IfOk result (λ found. MatchOption found
         ((rest_of lexer.old ≡ EndAt (length lexer.old.text) ∷ []) × (lexer.new.place ≡ length lexer.old.text))
         (λ seen. IsSeenNext lexer.old seen.sight seen.token lexer.new)) }
     ensures stray { IfErr result (IsStray lexer.old) }
 {
+    if let Some(seen) = frequent_word(bytes, lexer, spot) {
+        return Ok(Some(seen));
+    }
     if spot.is_in_values() {
         if let Some(seen) = small_part(lexer, spot) {
             return Ok(Some(seen));
         }
     }
     next_token_seen(lexer)
+}
+
+/// The word `apply` at the beginning of a line, or `with`, where it can stand behind the spot.
+/// `None` says nothing of what stands next, and the lexer is then as before.
+fn frequent_word<'a>(bytes: &'a [u8], lexer: &mut Lexer<'a>, spot: Spot) -> Option<Seen>
+    requires bytes { lexer.old.text ≡ bytes.now }
+    ensures seen { IfSome result (λ seen. IsSeenNext lexer.old seen.sight seen.token lexer.new) }
+    ensures none { IfNone result (lexer.new ≡ lexer.old) }
+{
+    if !spot.is_whole() {
+        return None;
+    }
+    match blank_and_word(bytes, lexer, b"\napply ", Sight::Begins(Head::Apply)) {
+        Some(seen) => Some(seen),
+        None => blank_and_word(bytes, lexer, b" with ", Sight::With),
+    }
+}
+
+/// A word between two blanks, in which this is seen, where these bytes stand next.
+#[inline(always)]
+fn blank_and_word<'a>(
+    bytes: &'a [u8],
+    lexer: &mut Lexer<'a>,
+    lead: &[u8],
+    sight: Sight,
+) -> Option<Seen>
+    requires bytes { lexer.old.text ≡ bytes.now }
+    requires lead { IsLead lead.now sight }
+    ensures seen { IfSome result (λ seen. IsSeenNext lexer.old seen.sight seen.token lexer.new) }
+    ensures none { IfNone result (lexer.new ≡ lexer.old) }
+{
+    let place = lexer.place();
+    if bytes.len() - place < lead.len() || &bytes[place..place + lead.len()] != lead {
+        return None;
+    }
+    let end = place + lead.len() - 1;
+    *lexer = Lexer::at(bytes, end);
+    let token = Token {
+        kind: TokenKind::Name,
+        start: place + 1,
+        end,
+    };
+    Some(Seen { sight, token })
 }
 
 /// What stands next, whatever it is.
