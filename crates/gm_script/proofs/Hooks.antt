@@ -1,19 +1,18 @@
 -- Hooks that are read as small numbers: the same is read on behind each.
-use Rattle.std.proofs.Common.{◌≡◌, ℕ, ◌^◌, ◌-◌, ◌<◌, List, min, Result, Ok, Err, refl, sym, ap, subst, ◌∙◌, arith}
-use Rattle.gm_model.specs.declared.token.Token.{Token}
-use Rattle.gm_model.specs.declared.token.TokenKind.TheVariants as tokens
+use Rattle.std.proofs.Common.{◌≡◌, ℕ, ◌^◌, ◌<◌, List, Result, Ok, Err, refl, sym, ap, subst, ◌∙◌, arith}
 use Rattle.gm_model.specs.Rules.{Rule}
 use Rattle.gm_model.specs.declared.script.Stat.{Stat}
 use Rattle.gm_text.specs.Cursor.{Cursor}
 use Rattle.gm_text.specs.Lexing.{rest_of, IsNumberRead}
 use Rattle.gm_script.specs.Faults.{of_text, IsFaultOf}
-use Rattle.gm_script.specs.Reading.{HeldStat, Held, Stop, sight_of, symbol_at, taken_at, ended_by, put_first, read_from, Fails, ReadsOn, with_hook, ◌>>=◌}
+use Rattle.gm_script.specs.Reading.{HeldStat, Held, Stop, taken_at, ended_by, put_first, read_from, Fails, ReadsOn, with_hook, ◌>>=◌}
 use Rattle.gm_script.specs.SoFar.{IsSoFar}
 use Rattle.gm_script.specs.declared.fault.ScriptFault.{ScriptFault}
 use Rattle.gm_script.specs.declared.reader.TextFault.{TextFault}
 use Rattle.gm_script.specs.declared.sight.Sight.{Sight}
 use Rattle.gm_script.specs.declared.sight.Sight.TheVariants as sights
 use Rattle.gm_script.proofs.Loop.{fails, fails_on}
+use Rattle.gm_script.proofs.SmallParts.{number_at, number_seen}
 use Rattle.gm_script.proofs.Tokens.{token_stands}
 
 -- nothing is read
@@ -24,22 +23,14 @@ and_no_more : (read : Result (List HeldStat) Stop) → (read >>= λ stats. Ok st
 and_no_more (Ok stats) = refl
 and_no_more (Err stop) = refl
 
-abbrev pub number_at : ℕ → Cursor → Token
-number_at place new = record { kind = tokens.Number; start = place; end = new.place }
-
 module _ (value place : ℕ) (now : Held) (old new : Cursor) (small : value < 2 ^ 32) (is : IsNumberRead value place old new) where
   abbrev on : ℕ → List ℕ → Result Held Stop → Result (List HeldStat) Stop
   on n text taken = taken >>= λ next. read_from n text next (rest_of new) >>= λ stats. Ok stats
 
-  number_seen : sight_of (symbol_at old.text (number_at place new)) ≡ sights.Number value
-  number_seen =
-      let least : min value (2 ^ 64 - 1) ≡ value = omega arith in
-      rw (← is.value_is, least) refl
-
   reads_number : (n : ℕ) → read_from n old.text now (rest_of old) ≡ on n old.text (taken_at n (sights.Number value) (number_at place new) now)
   reads_number n =
       let by_sight : Sight → Result (List HeldStat) Stop = λ sight. taken_at n sight (number_at place new) now >>= λ next. read_from n old.text next (rest_of new) >>= λ stats. Ok (put_first (ended_by now.spot sight now.stat) stats) in
-      rw is.answer (ap by_sight number_seen)
+      rw is.answer (ap by_sight (number_seen value place old new small is))
 
   pub number_goes_on : old.place < new.place
   number_goes_on = let stands = token_stands old.text old.place (number_at place new) (rest_of new) is.answer in omega (arith, stands.0, stands.1)

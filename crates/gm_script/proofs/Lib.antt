@@ -16,6 +16,7 @@ pub mod OneScript
 mod Params
 mod Script
 mod Sights
+mod SmallParts
 mod Spelling
 mod Stats
 mod Steps

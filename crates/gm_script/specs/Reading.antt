@@ -1,8 +1,7 @@
 -- How a script's text is read, one symbol after another: what can stand next and in which role, and what is held of what was read.
-use Rattle.std.specs.Prelude.{◌≡◌, ℕ, ◌+◌, ◌^◌, ◌-◌, ◌<◌, ◌≤◌, min, Bool, true, false, nat_lt, nat_le, if◌then◌else◌, ℤ, pos, neg_ℤ, List, [], ◌∷◌, ◌++◌, length, Option, Some, None, Result, Ok, Err, codes}
+use Rattle.std.specs.Prelude.{◌≡◌, ℕ, ◌+◌, ◌^◌, ◌-◌, ◌<◌, ◌≤◌, min, Bool, true, false, nat_lt, nat_le, if◌then◌else◌, ℤ, pos, neg_ℤ, List, [], ◌∷◌, ◌++◌, length, take, drop, Option, Some, None, Result, Ok, Err, codes}
 use Rattle.std.specs.Option.{option_map}
 use Rattle.std.specs.Str.{bytes_eq}
-use Rattle.gm_model.specs.declared.limit.LimitKind.{LimitKind}
 use Rattle.gm_model.specs.declared.limit.LimitKind.TheVariants as limits
 use Rattle.gm_model.specs.declared.token.Token.{Token}
 use Rattle.gm_model.specs.declared.token.TokenKind.TheVariants as tokens
@@ -10,7 +9,7 @@ use Rattle.gm_model.specs.declared.value.Value.{Value}
 use Rattle.gm_model.specs.declared.value.Value.TheVariants as values
 use Rattle.gm_model.specs.Limits.{most_names}
 use Rattle.gm_model.specs.Names.{reserved, is_among}
-use Rattle.gm_model.specs.Tokens.{Item, Lexed, StrayAt, EndAt, items_of, bytes_of, IsLexeme}
+use Rattle.gm_model.specs.Tokens.{Item, Lexed, StrayAt, EndAt, items_from, items_of, bytes_of, IsLexeme}
 use Rattle.gm_model.specs.Symbols.{Symbol, Word, Numeral, Sign, End, symbol_of_kind}
 use Rattle.gm_model.specs.declared.word.Mask.{Mask}
 use Rattle.gm_model.specs.Labels.{has}
@@ -485,6 +484,20 @@ pub record IsNext (before : Cursor) (token : Token) (behind : Cursor) : Type 0 w
   pub order : token.start ≤ token.end
   pub within : token.end ≤ length before.text
   pub lexeme : IsLexeme token.kind (bytes_of before.text token)
+
+-- the token is the next item, in which this is seen, and lies in the text
+pub record IsSeenNext (before : Cursor) (sight : Sight) (token : Token) (behind : Cursor) : Type 0 where
+  pub text : behind.text ≡ before.text
+  pub items : rest_of before ≡ Lexed token ∷ rest_of behind
+  pub goes_on : before.place < behind.place
+  pub inside : IsInText before.text token
+  pub seen : sight ≡ sight_of (symbol_at before.text token)
+
+-- the bytes are a blank, a word in which this is seen, and a byte that no name goes on with: wherever they stand, the word is a token
+pub record IsLead (lead : List ℕ) (sight : Sight) : Type 0 where
+  pub some : 3 ≤ length lead
+  pub items : (place : ℕ) (rest : List ℕ) → items_from place 0 (lead ++ rest) ≡ Lexed (record { kind = tokens.Name; start = place + 1; end = place + length lead - 1 }) ∷ items_from (place + length lead - 1) 0 (drop (length lead - 1) lead ++ rest)
+  pub seen : sight ≡ sight_of_word (take (length lead - 2) (drop 1 lead))
 
 abbrev pub IsStray : Cursor → TextFault → Type 0
 IsStray cursor (faults.Text place) = rest_of cursor ≡ StrayAt place ∷ []

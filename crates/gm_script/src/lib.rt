@@ -8,6 +8,7 @@ mod laws;
 mod reader;
 mod reading;
 mod rules;
+mod seen;
 mod sight;
 mod spot;
 mod values;

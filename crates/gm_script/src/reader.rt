@@ -25,6 +25,10 @@ const MOST_NAME_BYTES: usize = 32;
 /// few rules have more hooks.
 const FIRST_HOOKS: usize = 4;
 
+/// What the first value of a statement makes room for. A value takes as many bytes as eight hooks, and
+/// few rules have more parameters.
+const FIRST_VALUES: usize = 1;
+
 pub(crate) const MOST_LINES: usize = 100_000;
 
 /// Why a text's lines can't be read: its first fault from left to right, or want of memory.
@@ -156,6 +160,13 @@ impl Reader {
             y: 0,
             z: 0,
         }
+    }
+
+    /// What was read last.
+    pub(crate) fn spot(&self) -> Spot
+        ensures { result ≡ self.now.spot }
+    {
+        self.spot
     }
 
     /// Compares the statement that ends where this is seen next, if one does. It is held no longer,
@@ -358,6 +369,9 @@ impl Reader {
         ensures ok { OnOk result (self.new ≡ reading.with_value value self.old) }
         ensures err { IfErr result (λ fault. fault ≡ TextFault.OutOfMemory) }
     {
+        if self.stat.values.is_empty() {
+            self.stat.values = Vec::with_capacity(self.alloc, FIRST_VALUES)?;
+        }
         self.stat.values.push(value)?;
         Ok(())
     }

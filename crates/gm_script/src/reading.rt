@@ -2,14 +2,14 @@
 //!
 //! The reader knows the grammar and its limits alone. Each statement is compared with the book as
 //! soon as it is whole, and where one disagrees, the text is read on: a fault of the text comes first.
-ghost use Rattle.std.specs.Prelude.{◌≡◌, ◌∷◌, ℕ, [], length, map, OnOk, IfOk, IfErr, MatchOption};
+ghost use Rattle.std.specs.Prelude.{◌≡◌, ◌∷◌, ℕ, [], length, map, OnOk, IfOk, IfErr};
 ghost use Rattle.gm_model.specs.Rules.{rule_of};
 ghost use Rattle.gm_model.specs.Tokens.{EndAt};
 ghost use Rattle.gm_text.specs.Lexing.{rest_of};
 ghost use Rattle.gm_script.specs.ScriptText.{ScriptText};
 ghost use Rattle.gm_script.specs.Faults.{IsFaultOf};
 ghost use Rattle.gm_script.specs.FirstRules.{first_rules};
-ghost use Rattle.gm_script.specs.Reading.{nothing, read_from, IsNext, IsStray, Fails, ReadsOn};
+ghost use Rattle.gm_script.specs.Reading.{nothing, read_from, Fails, ReadsOn};
 ghost use Rattle.gm_script.specs.SoFar.{IsSoFar};
 ghost use Rattle.gm_script.specs.declared.spot.Spot.{Spot};
 
@@ -17,23 +17,10 @@ use crate::comparing::Compared;
 use crate::fault::ScriptFault;
 use crate::reader::{Reader, TextFault};
 use crate::rules::RulesByName;
-use crate::sight::sight_of;
+use crate::seen::{Seen, next_seen};
 use gm_model::{Book, Dim, Items, Script, Stat};
 use gm_text::{Lexer, Token, TokenKind};
 use std::alloc::Global;
-
-fn next_token(lexer: &mut Lexer<'_>) -> Result<Option<Token>, TextFault>
-    ensures text { lexer.new.text ≡ lexer.old.text }
-    ensures found { IfOk result (λ found. MatchOption found
-        ((rest_of lexer.old ≡ EndAt (length lexer.old.text) ∷ []) × (lexer.new.place ≡ length lexer.old.text))
-        (λ token. IsNext lexer.old token lexer.new)) }
-    ensures stray { IfErr result (IsStray lexer.old) }
-{
-    match lexer.next() {
-        Ok(found) => Ok(found),
-        Err(fault) => Err(TextFault::Text { place: fault.place }),
-    }
-}
 
 /// Reads the hooks that stand next, as long as they are small numbers with one blank before them.
 fn read_hooks(lexer: &mut Lexer<'_>, reader: &mut Reader) -> Result<(), TextFault>
@@ -79,8 +66,8 @@ fn read_tokens(
 {
     let top = dim.top();
     let mut lexer = Lexer::new(bytes);
-    while let Some(token) = next_token(&mut lexer)? {
-        let sight = sight_of(&lexer, &token);
+    while let Some(seen) = next_seen(bytes, &mut lexer, reader.spot())? {
+        let Seen { sight, token } = seen;
         reader.end_stat(bytes, sight, rules, compared)?;
         reader.take(top, sight, token)?;
         read_hooks_there(&mut lexer, reader)?;

@@ -2,7 +2,8 @@ use Rattle.std.proofs.Common.{◌≡◌, ℕ, ◌^◌, ◌<◌, Ok, length, ap, 
 use Rattle.gm_text.specs.Lexing.{IsNumberRead}
 use Rattle.gm_script.specs.Reading.{taken_at}
 use Rattle.gm_script.specs.declared.sight.Sight.TheVariants as sights
-use Rattle.gm_script.proofs.Hooks.{reads_none, number_at, number_goes_on, hook_read}
+use Rattle.gm_script.proofs.Hooks.{reads_none, number_goes_on, hook_read}
+use Rattle.gm_script.proofs.SmallParts.{number_at}
 use Rattle.gm_script.proofs.reading.read_hooks.Goals as goal
 
 pub loop-number-init : goal.loop-number-init

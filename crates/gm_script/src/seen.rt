@@ -1,0 +1,186 @@
+//! What stands next in a text, and what a script sees in it.
+ghost use Rattle.std.specs.Prelude.{◌≡◌, ◌∷◌, ℕ, [], length, false, IsTrue, IfOk, IfErr, IfSome, IfNone, MatchOption};
+ghost use Rattle.gm_model.specs.Tokens as tokens;
+ghost use Rattle.gm_model.specs.Tokens.{EndAt};
+ghost use Rattle.gm_text.specs.Lexing.{rest_of};
+ghost use Rattle.gm_script.specs.Reading as reading;
+ghost use Rattle.gm_script.specs.Reading.{IsLead, IsNext, IsSeenNext, IsStray};
+
+use crate::reader::TextFault;
+use crate::sight::{Head, Sight, sight_of};
+use crate::spot::Spot;
+use gm_text::{Lexer, Token, TokenKind};
+
+/// A token, and what the script sees in it.
+#[derive(Clone, Copy)]
+pub(crate) struct Seen {
+    pub sight: Sight,
+    pub token: Token,
+}
+
+/// What stands next, behind this spot.
+// A part of a value that is read as any other token takes some 150 instructions more.
+pub(crate) fn next_seen<'a>(
+    bytes: &'a [u8],
+    lexer: &mut Lexer<'a>,
+    spot: Spot,
+) -> Result<Option<Seen>, TextFault>
+    requires bytes { lexer.old.text ≡ bytes.now }
+    ensures text { lexer.new.text ≡ lexer.old.text }
+    ensures found { IfOk result (λ found. MatchOption found
+        ((rest_of lexer.old ≡ EndAt (length lexer.old.text) ∷ []) × (lexer.new.place ≡ length lexer.old.text))
+        (λ seen. IsSeenNext lexer.old seen.sight seen.token lexer.new)) }
+    ensures stray { IfErr result (IsStray lexer.old) }
+{
+    if let Some(seen) = frequent_word(bytes, lexer, spot) {
+        return Ok(Some(seen));
+    }
+    if spot.is_in_values() {
+        if let Some(seen) = small_part(lexer, spot) {
+            return Ok(Some(seen));
+        }
+    }
+    next_token_seen(lexer)
+}
+
+/// The word `apply` at the beginning of a line, or `with`, where it can stand behind the spot.
+/// `None` says nothing of what stands next, and the lexer is then as before.
+fn frequent_word<'a>(bytes: &'a [u8], lexer: &mut Lexer<'a>, spot: Spot) -> Option<Seen>
+    requires bytes { lexer.old.text ≡ bytes.now }
+    ensures seen { IfSome result (λ seen. IsSeenNext lexer.old seen.sight seen.token lexer.new) }
+    ensures none { IfNone result (lexer.new ≡ lexer.old) }
+{
+    if !spot.is_whole() {
+        return None;
+    }
+    match blank_and_word(bytes, lexer, b"\napply ", Sight::Begins(Head::Apply)) {
+        Some(seen) => Some(seen),
+        None => blank_and_word(bytes, lexer, b" with ", Sight::With),
+    }
+}
+
+/// A word between two blanks, in which this is seen, where these bytes stand next.
+#[inline(always)]
+fn blank_and_word<'a>(
+    bytes: &'a [u8],
+    lexer: &mut Lexer<'a>,
+    lead: &[u8],
+    sight: Sight,
+) -> Option<Seen>
+    requires bytes { lexer.old.text ≡ bytes.now }
+    requires lead { IsLead lead.now sight }
+    ensures seen { IfSome result (λ seen. IsSeenNext lexer.old seen.sight seen.token lexer.new) }
+    ensures none { IfNone result (lexer.new ≡ lexer.old) }
+{
+    let place = lexer.place();
+    if bytes.len() - place < lead.len() || &bytes[place..place + lead.len()] != lead {
+        return None;
+    }
+    let end = place + lead.len() - 1;
+    *lexer = Lexer::at(bytes, end);
+    let token = Token {
+        kind: TokenKind::Name,
+        start: place + 1,
+        end,
+    };
+    Some(Seen { sight, token })
+}
+
+/// What stands next, whatever it is.
+fn next_token_seen(lexer: &mut Lexer<'_>) -> Result<Option<Seen>, TextFault>
+    ensures text { lexer.new.text ≡ lexer.old.text }
+    ensures found { IfOk result (λ found. MatchOption found
+        ((rest_of lexer.old ≡ EndAt (length lexer.old.text) ∷ []) × (lexer.new.place ≡ length lexer.old.text))
+        (λ seen. IsSeenNext lexer.old seen.sight seen.token lexer.new)) }
+    ensures stray { IfErr result (IsStray lexer.old) }
+{
+    let Some(token) = next_token(lexer)? else {
+        return Ok(None);
+    };
+    let sight = sight_of(lexer, &token);
+    Ok(Some(Seen { sight, token }))
+}
+
+fn next_token(lexer: &mut Lexer<'_>) -> Result<Option<Token>, TextFault>
+    ensures text { lexer.new.text ≡ lexer.old.text }
+    ensures found { IfOk result (λ found. MatchOption found
+        ((rest_of lexer.old ≡ EndAt (length lexer.old.text) ∷ []) × (lexer.new.place ≡ length lexer.old.text))
+        (λ token. IsNext lexer.old token lexer.new)) }
+    ensures stray { IfErr result (IsStray lexer.old) }
+{
+    match lexer.next() {
+        Ok(found) => Ok(found),
+        Err(fault) => Err(TextFault::Text { place: fault.place }),
+    }
+}
+
+/// A small number or a sign of a value, where one stands next with one blank before it at most.
+/// `None` says nothing of what stands next, and the lexer is then as before.
+fn small_part(lexer: &mut Lexer<'_>, spot: Spot) -> Option<Seen>
+    ensures seen { IfSome result (λ seen. IsSeenNext lexer.old seen.sight seen.token lexer.new) }
+    ensures none { IfNone result (lexer.new ≡ lexer.old) }
+{
+    match small_number(lexer) {
+        Some(seen) => Some(seen),
+        None => small_sign(lexer, spot),
+    }
+}
+
+fn small_number(lexer: &mut Lexer<'_>) -> Option<Seen>
+    ensures seen { IfSome result (λ seen. IsSeenNext lexer.old seen.sight seen.token lexer.new) }
+    ensures none { IfNone result (lexer.new ≡ lexer.old) }
+{
+    let number = lexer.small_number()?;
+    let token = Token {
+        kind: TokenKind::Number,
+        start: number.place,
+        end: lexer.place(),
+    };
+    let sight = Sight::Number(u64::from(number.value));
+    Some(Seen { sight, token })
+}
+
+/// A sign that can stand behind the spot.
+fn small_sign(lexer: &mut Lexer<'_>, spot: Spot) -> Option<Seen>
+    ensures seen { IfSome result (λ seen. IsSeenNext lexer.old seen.sight seen.token lexer.new) }
+    ensures none { IfNone result (lexer.new ≡ lexer.old) }
+{
+    match spot {
+        Spot::With | Spot::Value => bracket_or_minus(lexer, b'(', Sight::Open),
+        Spot::Second | Spot::Third => bracket_or_minus(lexer, b')', Sight::Close),
+        _ => sign(lexer, b'-', Sight::Minus),
+    }
+}
+
+fn bracket_or_minus(lexer: &mut Lexer<'_>, bracket: u8, sight: Sight) -> Option<Seen>
+    requires sign { IsTrue (tokens.is_sign bracket) }
+    requires alone { (c : ℕ) → tokens.is_two_byte_sign bracket c ≡ false }
+    requires sight { sight ≡ reading.sight_of_sign (bracket ∷ []) }
+    ensures seen { IfSome result (λ seen. IsSeenNext lexer.old seen.sight seen.token lexer.new) }
+    ensures none { IfNone result (lexer.new ≡ lexer.old) }
+{
+    match sign(lexer, bracket, sight) {
+        Some(seen) => Some(seen),
+        None => sign(lexer, b'-', Sight::Minus),
+    }
+}
+
+/// This sign, in which this is seen, where it stands next.
+fn sign(lexer: &mut Lexer<'_>, byte: u8, sight: Sight) -> Option<Seen>
+    requires sign { IsTrue (tokens.is_sign byte) }
+    requires alone { (c : ℕ) → tokens.is_two_byte_sign byte c ≡ false }
+    requires sight { sight ≡ reading.sight_of_sign (byte ∷ []) }
+    ensures seen { IfSome result (λ seen. IsSeenNext lexer.old seen.sight seen.token lexer.new) }
+    ensures none { IfNone result (lexer.new ≡ lexer.old) }
+{
+    if !lexer.small_sign(byte) {
+        return None;
+    }
+    let end = lexer.place();
+    let token = Token {
+        kind: TokenKind::Sign,
+        start: end - 1,
+        end,
+    };
+    Some(Seen { sight, token })
+}
