@@ -1,6 +1,6 @@
 //! A plain program that saves the maps of `gmr`, beside which `bench/beside` times it: dimension 2,
 //! at most one embedding of points on the vertices, and operations that are written by hand, with
-//! nothing proved. It reads and writes in pieces, or whole files as `gmr` does, and its report is its own;
+//! nothing proved. It reads and writes in pieces, or holds each text whole, and its report is its own;
 //! what `cells` puts is what `gmr` puts. A text that is no map, a script that it doesn't know and a number
 //! of more than 18 digits end it. `grid` has a map of its own, without names and free places, in which
 //! nothing is looked up: the least that its work can cost.

@@ -19,7 +19,7 @@ pub(crate) struct Seen {
 }
 
 /// What stands next, behind this spot.
-// To find what stands next takes the lexer longer than to see that it is one of the frequent things.
+// A part of a value that is read as any other token takes some 150 instructions more.
 pub(crate) fn next_seen<'a>(
     bytes: &'a [u8],
     lexer: &mut Lexer<'a>,
