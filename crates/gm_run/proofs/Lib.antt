@@ -6,6 +6,7 @@ pub mod AlikeRuns
 pub mod AlikeStates
 pub mod AlikeWork
 pub mod Courses
+pub mod DoneLine
 pub mod Endings
 pub mod OneBudget
 pub mod OneOutcome

@@ -3,6 +3,7 @@
 #![tactic(auto)]
 
 mod alike;
+mod done_line;
 mod each;
 mod laws;
 mod lines;

@@ -8,6 +8,7 @@ ghost use Rattle.gm_model.specs.Runs as runs;
 ghost use Rattle.gm_run.specs.Lines.{outcome_of, Tells};
 ghost use Rattle.gm_run.specs.Printing.{CanBePrinted, IsNamed, SpeaksOf, line_text};
 
+use crate::done_line::put_done_line;
 use crate::outcome::{Outcome, Report};
 use crate::words::{put_number, put_outcome};
 use gm_model::{Book, Node, OutOfMemory, RuleTable, Script, Stat};
@@ -64,16 +65,16 @@ fn put_line(
     requires speaks { IsSomeAnd (outcome_of outcome) (SpeaksOf (length (nodes_of (map rule_of book.now.rules) stat.now)) (length book.now.schema.embeds)) }
     ensures { OnOk result (text.new ≡ text.old ++ line_text book.now.schema (map rule_of book.now.rules) number stat.now outcome) }
 {
+    let rules = book.rules.as_slice();
+    if let (Stat::Apply(line), Outcome::Done(applied)) = (stat, outcome) {
+        let name = rules[line.rule as usize].name.bytes();
+        return put_done_line(text, number, name, applied);
+    }
     text.number(number as u64)?;
     text.put(b" ")?;
-    put_stat(text, book.rules.as_slice(), stat)?;
+    put_stat(text, rules, stat)?;
     text.put(b" ")?;
-    put_outcome(
-        text,
-        &book.schema,
-        nodes_at(book.rules.as_slice(), stat),
-        outcome,
-    )?;
+    put_outcome(text, &book.schema, nodes_at(rules, stat), outcome)?;
     text.put(b"\n")
 }
 

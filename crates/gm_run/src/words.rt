@@ -47,9 +47,6 @@ pub(crate) fn put_outcome(
 fn put_done(text: &mut Text, added: u32, removed: u32) -> Result<(), OutOfMemory>
     ensures { OnOk result (text.new ≡ text.old ++ (codes "done added " ++ decimal added ++ codes " removed " ++ decimal removed)) }
 {
-    if added < 10 && removed < 10 {
-        return put_done_of_few(text, added as u8, removed as u8);
-    }
     put_numbers(
         text,
         b"done added ",
@@ -57,19 +54,6 @@ fn put_done(text: &mut Text, added: u32, removed: u32) -> Result<(), OutOfMemory
         b" removed ",
         u64::from(removed),
     )
-}
-
-/// The same of as few darts as most rules add and remove.
-// Words and digits are put at once: a number by itself takes some 80 instructions.
-fn put_done_of_few(text: &mut Text, added: u8, removed: u8) -> Result<(), OutOfMemory>
-    requires added { added < 10 }
-    requires removed { removed < 10 }
-    ensures { OnOk result (text.new ≡ text.old ++ (codes "done added " ++ decimal added ++ codes " removed " ++ decimal removed)) }
-{
-    let mut words = *b"done added 0 removed 0";
-    words[11] = b'0' + added;
-    words[21] = b'0' + removed;
-    text.put(&words)
 }
 
 fn put_cause(

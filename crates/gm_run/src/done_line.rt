@@ -1,0 +1,62 @@
+//! The line of an application that is done, as most lines of a report are.
+ghost use Rattle.std.specs.Prelude.{◌≡◌, ◌+◌, ◌++◌, ◌≤◌, OnOk, codes, decimal, drop, length};
+
+use gm_apply::Applied;
+use gm_model::OutOfMemory;
+use gm_text::Text;
+use itoa::write_digits;
+
+/// No more bytes are the line: its number of twenty digits, a name of 32 bytes, two counts of ten
+/// digits each, and 23 bytes between and behind them.
+const LINE: usize = 96;
+
+/// Appends the line of this number about a rule of this name.
+// It is composed first and put at once: where each piece is put by itself, room is looked for anew.
+pub(crate) fn put_done_line(
+    text: &mut Text,
+    number: usize,
+    name: &[u8],
+    applied: Applied,
+) -> Result<(), OutOfMemory>
+    requires { length name.now ≤ 32 }
+    ensures { OnOk result (text.new ≡ text.old ++ (decimal number ++ codes " " ++ name.now ++ codes " " ++ (codes "done added " ++ decimal applied.added ++ codes " removed " ++ decimal applied.removed) ++ codes "\n")) }
+{
+    let mut line = [0; LINE];
+    let done = write_done(&mut line, applied, LINE);
+    let named = write_word(&mut line, name, done);
+    let blank = write_word(&mut line, b" ", named);
+    let start = write_digits(number as u64, &mut line, blank);
+    text.put(&line[start..])
+}
+
+/// Writes what is told of the application, so that the line ends at `end`. The answer is where it
+/// begins.
+fn write_done(line: &mut [u8], applied: Applied, end: usize) -> usize
+    requires room { 42 ≤ end }
+    requires within { end ≤ length line.old }
+    ensures few { end ≤ result + 42 }
+    ensures before { result ≤ end }
+    ensures long { length line.new ≡ length line.old }
+    ensures written { drop result line.new ≡ codes " " ++ (codes "done added " ++ decimal applied.added ++ codes " removed " ++ decimal applied.removed ++ codes "\n" ++ drop end line.old) }
+{
+    let feed = write_word(line, b"\n", end);
+    let removed = write_digits(u64::from(applied.removed), line, feed);
+    let words = write_word(line, b" removed ", removed);
+    let added = write_digits(u64::from(applied.added), line, words);
+    write_word(line, b" done added ", added)
+}
+
+/// Writes the bytes of a word, so that they end at `end`. The answer is where they begin.
+// Inlined, a word of a known length takes a few stores.
+#[inline(always)]
+fn write_word(bytes: &mut [u8], word: &[u8], end: usize) -> usize
+    requires room { length word.now ≤ end }
+    requires within { end ≤ length bytes.old }
+    ensures before { result + length word.now ≡ end }
+    ensures long { length bytes.new ≡ length bytes.old }
+    ensures written { drop result bytes.new ≡ word.now ++ drop end bytes.old }
+{
+    let start = end - word.len();
+    bytes[start..end].copy_from_slice(word);
+    start
+}
