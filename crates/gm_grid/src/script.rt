@@ -2,7 +2,7 @@
 ghost use Rattle.std.specs.Prelude.{◌≡◌, ◌≤◌, IfOk};
 ghost use Rattle.gm_grid.specs.GridBook.{IsGridScript, stat_at};
 
-use gm_model::{Items, Line, OutOfMemory, Script, Stat};
+use gm_model::{Hooks, Items, Line, OutOfMemory, Script, Stat};
 use std::alloc::Global;
 
 /// The script that applies the rule to each square of `m` rows, ascending.
@@ -25,11 +25,11 @@ fn stat_of(alloc: Global, square: u32) -> Result<Stat, OutOfMemory>
     requires { square ≤ 10000 }
     ensures { IfOk result (λ stat. stat ≡ stat_at square) }
 {
-    let mut hooks = Vec::new(alloc);
+    let mut hooks = Hooks::new(alloc);
     hooks.push(8 * square)?;
     Ok(Stat::Apply(Line {
         rule: 0,
-        hooks: Items::new(hooks),
+        hooks,
         params: Items::new(Vec::new(alloc)),
     }))
 }

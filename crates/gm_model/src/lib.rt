@@ -6,6 +6,7 @@
 
 mod dim;
 mod expr;
+mod hooks;
 mod items;
 mod limit;
 mod memory;
@@ -22,6 +23,7 @@ mod word;
 
 pub use dim::Dim;
 pub use expr::{BinOp, DartTerm, Expr, Path, UnOp};
+pub use hooks::Hooks;
 pub use items::Items;
 pub use limit::{LimitKind, MOST_DARTS, MOST_EMBEDS, MOST_NAMES};
 pub use memory::OutOfMemory;

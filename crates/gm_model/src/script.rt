@@ -1,3 +1,4 @@
+use crate::hooks::Hooks;
 use crate::items::Items;
 use crate::value::Value;
 use crate::word::Mask;
@@ -7,7 +8,7 @@ use crate::word::Mask;
 #[derive(Debug, Drop)]
 pub struct Line {
     pub rule: u16,
-    pub hooks: Items<u32>,
+    pub hooks: Hooks,
     pub params: Items<Value>,
 }
 

@@ -11,7 +11,7 @@ use crate::reader::{Draft, MOST_LINES};
 use crate::rules::RulesByName;
 use crate::sight::Head;
 use crate::values::params_of;
-use gm_model::{Items, Line, RuleTable, Stat};
+use gm_model::{Hooks, Items, Line, RuleTable, Stat};
 use std::alloc::Global;
 use std::marker::Model;
 use std::mem;
@@ -45,7 +45,7 @@ fn stat_of_rule(
         },
         _ => Stat::Apply(Line {
             rule: index,
-            hooks: Items::new(mem::replace(&mut draft.hooks, Vec::new(alloc))),
+            hooks: mem::replace(&mut draft.hooks, Hooks::new(alloc)),
             params,
         }),
     })

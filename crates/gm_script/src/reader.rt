@@ -14,19 +14,14 @@ use crate::fault::ScriptFault;
 use crate::rules::RulesByName;
 use crate::sight::{Head, Sight};
 use crate::spot::Spot;
-use gm_model::{LimitKind, MOST_NAMES, Mask, Token, Value};
+use gm_model::{Hooks, LimitKind, MOST_NAMES, Mask, Token, Value};
 use gm_text::with_label;
 use std::alloc::{AllocError, AllocFailed, Global};
 use std::marker::Model;
 
 const MOST_NAME_BYTES: usize = 32;
 
-/// What the first hook of a statement makes room for. The C library's blocks have no fewer bytes, and
-/// few rules have more hooks.
-const FIRST_HOOKS: usize = 4;
-
-/// What the first value of a statement makes room for. A value takes as many bytes as eight hooks, and
-/// few rules have more parameters.
+/// What the first value of a statement makes room for. Few rules have more parameters.
 const FIRST_VALUES: usize = 1;
 
 pub(crate) const MOST_LINES: usize = 100_000;
@@ -70,7 +65,7 @@ pub(crate) struct Draft {
     pub place: usize,
     pub head: Head,
     pub name: Token,
-    pub hooks: Vec<u32>,
+    pub hooks: Hooks,
     pub labels: Mask,
     pub values: Vec<Value>,
 }
@@ -80,7 +75,7 @@ impl Model for Draft {
 
     ghost Value = { HeldStat };
 
-    ghost view = { λ stat. record { place = stat.place; head = stat.head; name = stat.name; hooks = stat.hooks.items; labels = stat.labels; values = stat.values.items } };
+    ghost view = { λ stat. record { place = stat.place; head = stat.head; name = stat.name; hooks = stat.hooks; labels = stat.labels; values = stat.values.items } };
 }
 
 impl Draft {
@@ -92,7 +87,7 @@ impl Draft {
             place: 0,
             head: Head::Apply,
             name: NO_TOKEN,
-            hooks: Vec::new(alloc),
+            hooks: Hooks::new(alloc),
             labels: Mask { bits: 0 },
             values: Vec::new(alloc),
         }
@@ -351,9 +346,6 @@ impl Reader {
         ensures ok { OnOk result (self.new ≡ reading.with_hook hook self.old) }
         ensures err { IfErr result (λ fault. fault ≡ TextFault.OutOfMemory) }
     {
-        if self.stat.hooks.is_empty() {
-            self.stat.hooks = Vec::with_capacity(self.alloc, FIRST_HOOKS)?;
-        }
         self.stat.hooks.push(hook)?;
         Ok(())
     }
