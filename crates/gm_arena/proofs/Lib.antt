@@ -1,4 +1,5 @@
 pub mod FilledLemmas
+pub mod ListingLemmas
 pub mod InsideLemmas
 pub mod ChangeLemmas
 pub mod AlphaLemmas

@@ -5,3 +5,4 @@ pub mod InOrder
 pub mod Edits
 pub mod Filled
 pub mod Inside
+pub mod Listing

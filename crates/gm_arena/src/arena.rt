@@ -9,14 +9,12 @@ ghost use Rattle.gm_arena.specs.Inside.{no_slot, names_in, name_in, linked, IsWr
 
 use crate::slot::Slot;
 use crate::steps::Steps;
+use crate::table::{NO_SLOT, Table};
 use gm_model::{MOST_DARTS, OutOfMemory, Schema, Value};
 use slab::Slab;
 use std::alloc::Global;
 use std::marker::Model;
 use std::sync::ledger::Ledger;
-
-/// What the table has at a name that no live dart has.
-const NO_SLOT: u32 = u32::MAX;
 
 /// How many entries are filled past what a slot needs.
 const AHEAD: usize = 256;
@@ -41,8 +39,7 @@ pub struct Arena {
     neighbours: Vec<Slot>,
     /// The values of the slots one after another, `width` for each, in the same way.
     values: Vec<Value>,
-    /// The slot of each reserved name, or `NO_SLOT`.
-    table: Vec<u32>,
+    table: Table,
     next: u32,
     /// How many darts can be added.
     spare: u32,
@@ -73,9 +70,9 @@ impl Model for Arena {
     ghost use Rattle.std.specs.Vec.{vec_capacity};
     ghost use Rattle.gm_arena.specs.Inside.{map_of, FitTogether, HasParts, AreNamesSlots};
 
-    ghost view = { λ a. map_of a.schema a.labels a.width a.places a.neighbours.items a.values.items a.table.items a.next a.spare a.bound };
+    ghost view = { λ a. map_of a.schema a.labels a.width a.places a.neighbours.items a.values.items a.table a.next a.spare a.bound };
 
-    ghost invariant = { λ a. FitTogether a.schema a.labels a.width a.places a.neighbours.items a.values.items a.table.items a.next a.spare a.bound × HasParts a.places.capacity a.labels a.width (vec_capacity a.neighbours) (vec_capacity a.values) × AreNamesSlots a.names_are_slots a.places };
+    ghost invariant = { λ a. FitTogether a.schema a.labels a.width a.places a.neighbours.items a.values.items a.table a.next a.spare a.bound × HasParts a.places.capacity a.labels a.width (vec_capacity a.neighbours) (vec_capacity a.values) × AreNamesSlots a.names_are_slots a.places };
 }
 
 impl Arena {
@@ -100,7 +97,7 @@ impl Arena {
             places: Slab::new(alloc),
             neighbours: Vec::new(alloc),
             values: Vec::new(alloc),
-            table: Vec::new(alloc),
+            table: Table::new(alloc),
             next: 0,
             spare: 0,
             bound: 0,
@@ -180,7 +177,7 @@ impl Arena {
     {
         let count = self.places.len();
         steps.tick_times(count as u64);
-        taken_names(alloc, &self.table, count)
+        self.table.taken_names(alloc, count)
     }
 
     /// The slot of a name; `None` where no live dart has it.
@@ -192,10 +189,11 @@ impl Arena {
         if self.has_slots_for_names() {
             return self.slot_below_bound(name);
         }
-        match self.table.get(name as usize) {
-            Some(slot) if *slot != NO_SLOT => Some(Slot { at: *slot }),
-            _ => None,
+        let at = self.table.slot(name);
+        if at == NO_SLOT {
+            return None;
         }
+        Some(Slot { at })
     }
 
     /// The slot of the live dart with the least name from `from` on; `None` where there is none. It
@@ -209,9 +207,9 @@ impl Arena {
             return self.slot_below_bound(from);
         }
         for name in from as usize..self.table.len() {
-            let slot = self.table[name];
-            if slot != NO_SLOT {
-                return Some(Slot { at: slot });
+            let at = self.table.slot(name as u32);
+            if at != NO_SLOT {
+                return Some(Slot { at });
             }
         }
         None
@@ -283,7 +281,7 @@ impl Arena {
         ensures reserved_most { self.new.reserved ≤ max self.old.reserved names }
         ensures map { self.new ≡ record self.old { spare = self.new.spare; reserved = self.new.reserved } }
     {
-        pad_table(&mut self.table, names as usize)?;
+        self.table.pad(names as usize)?;
         let room = self.spare.max(more);
         reserve_places(
             &mut self.places,
@@ -314,7 +312,7 @@ impl Arena {
         let own = Slot { at: key as u32 };
         free(&mut self.neighbours, self.labels, own);
         write_values(&mut self.values, key, values);
-        self.table[name as usize] = own.at;
+        self.table.set(name, own.at);
         self.next = self.next.max(name + 1);
         self.spare -= 1;
         self.bound = self.bound.max(key + 1);
@@ -383,7 +381,7 @@ impl Arena {
     {
         steps.tick();
         let place = self.places.remove(slot.at as usize);
-        self.table[place.name as usize] = NO_SLOT;
+        self.table.set(place.name, NO_SLOT);
         self.spare += 1;
     }
 
@@ -407,32 +405,6 @@ fn read_name(places: &Slab<Place>, names_are_slots: bool, slot: Slot) -> u32
         return slot.at;
     }
     places[slot.at as usize].name
-}
-
-/// The names in the table that have a slot, of which there are about `count`.
-fn taken_names(alloc: Global, table: &[u32], count: usize) -> Result<Vec<u32>, OutOfMemory>
-    requires { length table.now ≤ most_names }
-    ensures { IfOk result (λ names. names.items ≡ names_in table.now) }
-{
-    let mut names = Vec::with_capacity(alloc, count)?;
-    for (name, slot) in table.iter().enumerate() {
-        if *slot != NO_SLOT {
-            names.push(name as u32)?;
-        }
-    }
-    Ok(names)
-}
-
-/// Makes the table at least so long.
-fn pad_table(table: &mut Vec<u32>, names: usize) -> Result<(), OutOfMemory>
-    ensures ok { OnOk result (table.new.items ≡ table.old.items ++ replicate (names - length table.old.items) no_slot) }
-    ensures len { OnOk result (length table.new.items ≡ max (length table.old.items) names) }
-    ensures err { OnErr result (table.new.items ≡ table.old.items) }
-{
-    if table.len() < names {
-        table.resize(names, NO_SLOT)?;
-    }
-    Ok(())
 }
 
 /// Makes each neighbour of the slot the slot itself. It takes no memory.

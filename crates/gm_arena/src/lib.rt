@@ -8,6 +8,7 @@ mod arena;
 mod laws;
 mod slot;
 mod steps;
+mod table;
 
 pub use arena::{Arena, Row};
 pub use laws::what_is_held_is_a_map;

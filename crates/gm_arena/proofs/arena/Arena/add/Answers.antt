@@ -31,12 +31,12 @@ invariant_of-self g c =
     let inserted = c.insert_reserved-key.ensures in
     let kinds : AreGoodValues s.schema own = rw (← c.self.view_is) at c.requires.values in
     let wide : length own ≡ s.width = length-values s.schema own kinds ∙ sym sound.sized.wide in (
-      sound_with s.schema s.labels s.width s.places s.neighbours.items s.values.items s.table.items s.next s.spare s.bound sound
+      rw c.set.ensures (sound_with s.schema s.labels s.width s.places s.neighbours.items s.values.items s.table s.next s.spare s.bound sound
           c.args.name (rw (← c.self.view_is) at c.requires.new_name) (rw (← c.self.view_is) at c.requires.reserved) (rw (← c.self.view_is) at c.requires.room)
           slot _ inserted.was_vacant inserted.updates inserted.len inserted.key_in_range inserted.capacity
           _ c.free.ensures.written c.free.ensures.reaches
           _ own kinds (rw wide at c.write_values.ensures.written) (rw wide at c.write_values.ensures.reaches)
-          c.max-self-inside.result c.max-self-inside-2.result c.max-self-inside.ensures c.max-self-inside-2.ensures,
+          c.max-self-inside.result c.max-self-inside-2.result c.max-self-inside.ensures c.max-self-inside-2.ensures),
       record {
         linked = rw inserted.capacity (omega (arith, c.free.ensures.capacity, c.self.invariant.1.linked));
         long = rw inserted.capacity (omega (arith, c.write_values.ensures.capacity, c.self.invariant.1.long));
@@ -56,8 +56,8 @@ returns-clause-map g c =
     let inserted = c.insert_reserved-key.ensures in
     let kinds : AreGoodValues s.schema own = rw (← c.self.view_is) at c.requires.values in
     let wide : length own ≡ s.width = length-values s.schema own kinds ∙ sym sound.sized.wide in
-    rw (← c.self.view_is)
-    (map_with s.schema s.labels s.width s.places s.neighbours.items s.values.items s.table.items s.next s.spare s.bound sound
+    rw (← c.self.view_is, c.set.ensures)
+    (map_with s.schema s.labels s.width s.places s.neighbours.items s.values.items s.table s.next s.spare s.bound sound
     c.args.name (rw (← c.self.view_is) at c.requires.new_name) (rw (← c.self.view_is) at c.requires.reserved) (rw (← c.self.view_is) at c.requires.room)
     slot _ inserted.was_vacant inserted.updates inserted.len inserted.key_in_range inserted.capacity
     _ c.free.ensures.written c.free.ensures.reaches

@@ -50,7 +50,7 @@ returns-clause-dart g c =
     let place = live_place s.places c.args.slot.at (rw (← c.self.view_is) at c.requires) in
     let name = c.read_name.ensures ∙ name_in-get s.places c.args.slot.at place.0 place.1 in
     rw (← c.self.view_is, back, back, c.deref.ensures.value, c.deref-2.ensures.value)
-    (ap (get (darts_in s.labels s.width s.places s.neighbours.items s.values.items s.table.items)) name ∙ row_at _ _ _ _ _ _ _ _ _ _ c.self.invariant.0 c.args.slot.at place.0 place.1)
+    (ap (get (darts_in s.labels s.width s.places s.neighbours.items s.values.items s.table)) name ∙ row_at _ _ _ _ _ _ _ _ _ _ c.self.invariant.0 c.args.slot.at place.0 place.1)
 
 pub returns-clause-live : goal.returns-clause-live
 returns-clause-live g c =

@@ -28,7 +28,7 @@ invariant_of-self g c =
     let from : All IsKey c.args.from.now = All-weaker IsHeld IsKey (λ slot h. key_at s.places slot.at h) c.args.from.now (rw (← c.self.view_is) at c.requires.live) in
     let to : All IsKey c.args.to.now = All-weaker IsHeld IsKey (λ slot h. key_at s.places slot.at h) c.args.to.now (rw (← c.self.view_is) at c.requires.to_live) in
     let links = lent_linked s.labels c.args.label s.neighbours.len (zip c.args.from.now c.args.to.now) s.neighbours.items c.as_mut_slice-neighbours.result.now c.link.new.neighbours (omega (arith, s.neighbours.ok.0)) c.as_mut_slice-neighbours.ensures.value c.link.ensures in (
-      rw links (sound_linked s.schema s.labels s.width s.places s.values.items s.table.items s.next s.spare s.bound c.args.label within c.args.from.now c.args.to.now from to s.neighbours.items c.self.invariant.0),
+      rw links (sound_linked s.schema s.labels s.width s.places s.values.items s.table s.next s.spare s.bound c.args.label within c.args.from.now c.args.to.now from to s.neighbours.items c.self.invariant.0),
       c.self.invariant.1,
       c.self.invariant.2,
     )
@@ -44,5 +44,5 @@ returns-clause-map g c =
     let to : All IsKey c.args.to.now = All-weaker IsHeld IsKey (λ slot h. key_at s.places slot.at h) c.args.to.now (rw (← c.self.view_is) at c.requires.to_live) in
     let links = lent_linked s.labels c.args.label s.neighbours.len (zip c.args.from.now c.args.to.now) s.neighbours.items c.as_mut_slice-neighbours.result.now c.link.new.neighbours (omega (arith, s.neighbours.ok.0)) c.as_mut_slice-neighbours.ensures.value c.link.ensures in
     rw (← c.self.view_is)
-    (ap (λ items. map_of s.schema s.labels s.width s.places items s.values.items s.table.items s.next s.spare s.bound) links
-    ∙ map_linked s.schema s.labels s.width s.places s.values.items s.table.items s.next s.spare s.bound c.args.label within c.args.from.now c.args.to.now from to s.neighbours.items c.self.invariant.0)
+    (ap (λ items. map_of s.schema s.labels s.width s.places items s.values.items s.table s.next s.spare s.bound) links
+    ∙ map_linked s.schema s.labels s.width s.places s.values.items s.table s.next s.spare s.bound c.args.label within c.args.from.now c.args.to.now from to s.neighbours.items c.self.invariant.0)

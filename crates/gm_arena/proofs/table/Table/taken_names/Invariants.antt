@@ -1,7 +1,7 @@
 use Rattle.std.proofs.Common.{◌≡◌, take}
 use Rattle.gm_arena.specs.Inside.{names_in}
-use Rattle.gm_arena.proofs.arena.taken_names.Given as goal
+use Rattle.gm_arena.proofs.table.Table.taken_names.Given as goal
 
 -- the names so far
 abbrev pub invariant-loop-name : goal.invariant-loop-name
-invariant-loop-name l = l.names.items ≡ names_in (take l.name l.table)
+invariant-loop-name l = l.names.items ≡ names_in (take l.name l.self)

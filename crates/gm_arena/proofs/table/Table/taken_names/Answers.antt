@@ -1,0 +1,18 @@
+use Rattle.std.proofs.Common.{◌<◌, ◌++◌, ◌∷◌, [], length, sym, ap, ◌∙◌, arith}
+use Rattle.std.proofs.lemmas.Grind.{get_or_default_zero}
+use Rattle.gm_arena.specs.Inside.{no_slot}
+use Rattle.gm_arena.proofs.NameLemmas.{names_taken, names_skipped}
+use Rattle.gm_arena.proofs.table.Table.taken_names.Goals as goal
+use Rattle.gm_arena.proofs.table.Table.taken_names.Goals.{then-slot+in_ok-push, else-slot}
+
+pub loop-name-preserved : goal.loop-name-preserved
+loop-name-preserved c =
+    let name = c.loop-name.name in
+    let below : c.loop-name.name < length c.args.self.now = omega (arith, c.loop-name-test.true, c.len-name-end.ensures) in
+    let read = c.slot.ensures ∙ get_or_default_zero c.args.self.now name no_slot below in
+    elim c.if-slot.branch [
+      | then-slot+in_ok-push w ↦
+          ap (λ v. v.items) w.names-is ∙ (w.in_ok-push.ensures.items ∙ (ap (λ xs. xs ++ name ∷ []) c.loop-name.invariant
+          ∙ sym (names_taken c.args.self.now name below (λ e. w.if-slot.true (read ∙ e)))))
+      | else-slot w ↦ ap (λ v. v.items) w.names-is ∙ (c.loop-name.invariant ∙ sym (names_skipped c.args.self.now name below (sym read ∙ w.if-slot.false)))
+    ]
