@@ -2,6 +2,7 @@ pub mod FilledLemmas
 pub mod InsideLemmas
 pub mod ChangeLemmas
 pub mod AlphaLemmas
+pub mod LineLemmas
 pub mod LinkLemmas
 pub mod RemoveLemmas
 pub mod ReserveLemmas
