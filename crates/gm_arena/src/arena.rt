@@ -452,7 +452,22 @@ fn pad_table(table: &mut Vec<u32>, names: usize) -> Result<(), OutOfMemory>
 }
 
 /// Makes each neighbour of the slot the slot itself. It takes no memory.
+// As above, the compiler is told the labels of a surface and of a solid.
 fn free(neighbours: &mut Vec<Slot>, labels: usize, own: Slot)
+    requires { own.at * labels + labels ≤ vec_capacity neighbours.old }
+    ensures written { IsWritten labels own.at neighbours.old.items (replicate labels own) neighbours.new.items }
+    ensures reaches { own.at * labels + labels ≤ length neighbours.new.items }
+    ensures capacity { vec_capacity neighbours.old ≤ vec_capacity neighbours.new }
+{
+    match labels {
+        3 => free_labels(neighbours, 3, own),
+        4 => free_labels(neighbours, 4, own),
+        _ => free_labels(neighbours, labels, own),
+    }
+}
+
+#[inline(always)]
+fn free_labels(neighbours: &mut Vec<Slot>, labels: usize, own: Slot)
     requires { own.at * labels + labels ≤ vec_capacity neighbours.old }
     ensures written { IsWritten labels own.at neighbours.old.items (replicate labels own) neighbours.new.items }
     ensures reaches { own.at * labels + labels ≤ length neighbours.new.items }
@@ -530,7 +545,22 @@ fn link(neighbours: &mut [Slot], labels: usize, label: usize, from: &[Slot], to:
 }
 
 /// Gives the slots of lines other neighbours. A line has a slot and then its neighbours, as numbers.
+// The compiler is told the labels of a surface and of a solid, and does each line without a loop.
 fn write_lines(neighbours: &mut Vec<Slot>, labels: usize, lines: &[u32])
+    requires labels { labels ≤ 8 }
+    requires within { All (λ at. at * labels + labels ≤ length neighbours.old.items) lines.now }
+    ensures items { neighbours.new.items ≡ lines_written labels (length lines.now / (labels + 1)) lines.now neighbours.old.items }
+    ensures capacity { vec_capacity neighbours.old ≤ vec_capacity neighbours.new }
+{
+    match labels {
+        3 => write_each_line(neighbours, 3, lines),
+        4 => write_each_line(neighbours, 4, lines),
+        _ => write_each_line(neighbours, labels, lines),
+    }
+}
+
+#[inline(always)]
+fn write_each_line(neighbours: &mut Vec<Slot>, labels: usize, lines: &[u32])
     requires labels { labels ≤ 8 }
     requires within { All (λ at. at * labels + labels ≤ length neighbours.old.items) lines.now }
     ensures items { neighbours.new.items ≡ lines_written labels (length lines.now / (labels + 1)) lines.now neighbours.old.items }
@@ -543,6 +573,7 @@ fn write_lines(neighbours: &mut Vec<Slot>, labels: usize, lines: &[u32])
 }
 
 /// Writes the slots of these numbers over a slice that is as long.
+#[inline(always)]
 fn write_slots(part: &mut [Slot], numbers: &[u32])
     requires { length part.old ≡ length numbers.now }
     ensures { part.new ≡ map slot_numbered numbers.now }

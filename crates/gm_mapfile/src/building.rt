@@ -7,7 +7,7 @@
 //! is missing among them.
 ghost use Rattle.gm_model.specs.Limits.{most_names};
 ghost use Rattle.gm_model.specs.Maps.{IsSchema};
-ghost use Rattle.std.specs.Prelude.{◌≡◌, ◌+◌, ◌*◌, ◌/◌, ◌<◌, ◌≤◌, length, min, nat_lt, if◌then◌else◌, None, All, IsTrue, MatchOption, IfOk, IfErr, IfSome, OnOk};
+ghost use Rattle.std.specs.Prelude.{◌≡◌, ◌+◌, ◌*◌, ◌/◌, ◌<◌, ◌≤◌, length, min, nat_lt, if◌then◌else◌, None, All, IsTrue, MatchOption, IfOk, IfErr, IfSome, OnSome, OnOk};
 ghost use Rattle.std.specs.FinMap.{get};
 ghost use Rattle.gm_arena.specs.ArenaMap.{IsAt, IsLiveName};
 ghost use Rattle.gm_arena.specs.Edits.{with_dart};
@@ -144,6 +144,8 @@ fn fill<L: Ledger>(
 
 /// Adds the dart of each line with its values, free for every label. The answer is the least name
 /// that two lines have.
+// By itself, it keeps in registers what it would not among all that reads a map.
+#[inline(never)]
 fn add_darts<L: Ledger>(
     arena: &mut Arena,
     numbers: &[u32],
@@ -183,7 +185,8 @@ fn add_darts<L: Ledger>(
 /// is where they come in ascending order.
 fn slot_there<L: Ledger>(arena: &Arena, name: u32, steps: &mut Steps<L>) -> Option<Slot>
     requires next { IsNextLeast arena.now }
-    ensures slot { MatchOption result (get arena.now.darts name ≡ None) (λ s. IsAt arena.now s.at name × (steps.new ≡ steps.old + 1)) }
+    ensures slot { MatchOption result (get arena.now.darts name ≡ None) (λ s. IsAt arena.now s.at name) }
+    ensures found { OnSome result (steps.new ≡ steps.old + 1) }
     ensures most { steps.new ≤ steps.old + 1 }
     ensures least { steps.old ≤ steps.new }
 {

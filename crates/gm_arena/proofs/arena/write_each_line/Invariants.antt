@@ -1,7 +1,7 @@
 use Rattle.std.proofs.Common.{◌≡◌, ◌+◌, ◌*◌, ◌/◌, ◌≤◌, length, All, vec_capacity}
 use Rattle.std.specs.Slice.Iter.{chunks_exact_rest, chunks_exact_size}
 use Rattle.gm_arena.specs.Inside.{lines_written}
-use Rattle.gm_arena.proofs.arena.write_lines.Given as goal
+use Rattle.gm_arena.proofs.arena.write_each_line.Given as goal
 
 -- with the lines that are left it comes to the same
 abbrev pub invariant-loop-line : goal.invariant-loop-line

@@ -4,7 +4,7 @@ use Rattle.std.specs.Slice.Iter.{chunks_exact_rest}
 use Rattle.gm_arena.specs.Inside.{slot_numbered, lines_written}
 use Rattle.gm_arena.proofs.ValueLemmas.{written_slice}
 use Rattle.gm_arena.proofs.LineLemmas.{all_of_line, all_behind, lines_more, lines_none, line_read, length_line_written}
-use Rattle.gm_arena.proofs.arena.write_lines.Goals as goal
+use Rattle.gm_arena.proofs.arena.write_each_line.Goals as goal
 
 pub loop-line-preserved : goal.loop-line-preserved
 loop-line-preserved c =
