@@ -8,7 +8,7 @@ use Rattle.std.proofs.lemmas.List.Elements.{All-get_or}
 use Rattle.gm_model.specs.declared.value.Value.{Value}
 use Rattle.gm_arena.specs.ArenaMap.{ArenaMap, Dart, IsAt, IsLiveSlot, IsLiveName, name_at, alpha}
 use Rattle.gm_arena.specs.Lawful.{IsLawful}
-use Rattle.gm_arena.specs.Edits.{with_dart, with_alpha, without_dart, turned, put_if, free_dart}
+use Rattle.gm_arena.specs.Edits.{with_dart, with_alpha, with_neighbours, without_dart, turned, relinked, put_if, free_dart}
 use Rattle.gm_arena.proofs.FilledLemmas.{get-insert_same, get-insert_other, get-remove_same, get-remove_other}
 use Rattle.gm_arena.proofs.InsideLemmas.{some_of}
 
@@ -43,22 +43,42 @@ name_below m name lawful live = let d = some_of _ live in (lawful.dart name d.0 
 pub alpha-alike : (m n : ArenaMap) (label name : ℕ) → map.get n.darts name ≡ map.get m.darts name → alpha n label name ≡ alpha m label name
 alpha-alike m n label name e = ap (λ o. option_map_or (λ (dart : Dart). get_or dart.alphas label name) o name) e
 
--- ---- another neighbour
+-- ---- other neighbours
+
+-- a dart that is changed, where it is live
+module _ (m : ArenaMap) (name : ℕ) (f : Dart → Dart) where
+  changed_at : (o : Option Dart) → map.get m.darts name ≡ o → map.get (put_if m.darts name (option_map f o)) name ≡ option_map f o
+  changed_at None e = e
+  changed_at (Some dart) e = get-insert_same m.darts name (f dart)
+
+  get-put_if_same : map.get (put_if m.darts name (option_map f (map.get m.darts name))) name ≡ option_map f (map.get m.darts name)
+  get-put_if_same = changed_at (map.get m.darts name) refl
+
+  other_at : (o : Option Dart) (other : ℕ) → other ≢ name → map.get (put_if m.darts name (option_map f o)) other ≡ map.get m.darts other
+  other_at None other apart = refl
+  other_at (Some dart) other apart = get-insert_other m.darts name (f dart) other apart
+
+module _ (m : ArenaMap) (name : ℕ) (neighbours : List ℕ) where
+  pub get-with_neighbours_same : map.get (with_neighbours m name neighbours).darts name ≡ option_map (λ dart. relinked dart neighbours) (map.get m.darts name)
+  get-with_neighbours_same = get-put_if_same m name (λ dart. relinked dart neighbours)
+
+  pub get-with_neighbours_other : (other : ℕ) → other ≢ name → map.get (with_neighbours m name neighbours).darts other ≡ map.get m.darts other
+  get-with_neighbours_other = other_at m name (λ dart. relinked dart neighbours) (map.get m.darts name)
+
+  pub alpha-with_neighbours_same : (i : ℕ) → IsLiveName m name → alpha (with_neighbours m name neighbours) i name ≡ get_or neighbours i name
+  alpha-with_neighbours_same i live =
+      let d : (dart : Dart) × (map.get m.darts name ≡ Some dart) = some_of _ live in
+      ap (λ o. option_map_or (λ (dart : Dart). get_or dart.alphas i name) o name) (get-with_neighbours_same ∙ ap (option_map (λ dart. relinked dart neighbours)) d.1)
+
+  pub alpha-with_neighbours_other : (i other : ℕ) → other ≢ name → alpha (with_neighbours m name neighbours) i other ≡ alpha m i other
+  alpha-with_neighbours_other i other apart = alpha-alike m (with_neighbours m name neighbours) i other (get-with_neighbours_other other apart)
 
 module _ (m : ArenaMap) (name label to : ℕ) where
-  turned_at : (o : Option Dart) → map.get m.darts name ≡ o → map.get (with_alpha m name label to).darts name ≡ option_map (λ dart. turned dart label to) o
-  turned_at None e = rw e e
-  turned_at (Some dart) e = rw e (get-insert_same m.darts name (turned dart label to))
-
   pub get-with_alpha_same : map.get (with_alpha m name label to).darts name ≡ option_map (λ dart. turned dart label to) (map.get m.darts name)
-  get-with_alpha_same = turned_at (map.get m.darts name) refl
-
-  other_at : (o : Option Dart) (other : ℕ) → other ≢ name → map.get (put_if m.darts name (option_map (λ dart. turned dart label to) o)) other ≡ map.get m.darts other
-  other_at None other apart = refl
-  other_at (Some dart) other apart = get-insert_other m.darts name (turned dart label to) other apart
+  get-with_alpha_same = get-put_if_same m name (λ dart. turned dart label to)
 
   pub get-with_alpha_other : (other : ℕ) → other ≢ name → map.get (with_alpha m name label to).darts other ≡ map.get m.darts other
-  get-with_alpha_other = other_at (map.get m.darts name)
+  get-with_alpha_other = other_at m name (λ dart. turned dart label to) (map.get m.darts name)
 
   pub alpha-with_alpha_same : IsLawful m → IsLiveName m name → label ≤ m.schema.dim → alpha (with_alpha m name label to) label name ≡ to
   alpha-with_alpha_same lawful live within =

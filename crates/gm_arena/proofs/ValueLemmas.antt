@@ -53,7 +53,8 @@ module _ {A : Type 0} (width : ℕ) (items grown own more : List A) (slot : ℕ)
   kept : take (length items) grown ≡ items
   kept = ap (take (length items)) longer ∙ take_at items more (length items) refl
 
-  length_written : length (written_at (slot * width) own grown) ≡ max (length grown) (slot * width + width)
+  -- it is no longer than it has to be
+  pub length_written : length (written_at (slot * width) own grown) ≡ max (length grown) (slot * width + width)
   length_written =
       let rest = drop (length own) (drop (slot * width) grown) in
       omega (arith, length-append (take (slot * width) grown) (own ++ rest), length-append own rest, length-drop (length own) (drop (slot * width) grown), length-drop (slot * width) grown, length-take-le (slot * width) grown long, wide)

@@ -1,5 +1,5 @@
 -- How an arena keeps its map: names in a slab with their neighbours and values beside them, and a table from names to slots. No public clause cites this module.
-use Rattle.std.specs.Prelude.{◌≡◌, ◌≢◌, ℕ, ◌+◌, ◌*◌, ◌<◌, ◌≤◌, List, [], ◌∷◌, ◌++◌, map, length, take, drop, ◌==◌, if◌then◌else◌, Bool, IsTrue, Option, Some, None, IsSome, All, slice_index_or, slice_set}
+use Rattle.std.specs.Prelude.{◌≡◌, ◌≢◌, ℕ, zero, suc, ◌+◌, ◌*◌, ◌<◌, ◌≤◌, List, [], ◌∷◌, ◌++◌, map, length, take, drop, ◌==◌, if◌then◌else◌, Bool, IsTrue, Option, Some, None, IsSome, All, slice_index_or, slice_set}
 use Rattle.std.specs.Option.{option_map, option_map_or}
 use Rattle.std.specs.Ordering.{nat_cmp}
 use Rattle.std.specs.FinMap.{FinMap, len}
@@ -50,6 +50,20 @@ pub record IsWritten {A : Type 0} (width slot : ℕ) (items own items' : List A)
 abbrev pub linked : ℕ → ℕ → List (Slot × Slot) → List Slot → List Slot
 linked labels label [] neighbours = neighbours
 linked labels label (two ∷ more) neighbours = linked labels label more (slice_set neighbours (two.0.at * labels + label) two.1)
+
+-- the slot of this number
+abbrev pub slot_numbered : ℕ → Slot
+slot_numbered at = record { at = at }
+
+-- the neighbours with those of a line, whose numbers are slots: that of a dart, and then those of its neighbours
+abbrev pub line_written : ℕ → List ℕ → List Slot → List Slot
+line_written labels [] neighbours = neighbours
+line_written labels (own ∷ others) neighbours = written_at (own * labels) (map slot_numbered others) neighbours
+
+-- with those of so many lines
+abbrev pub lines_written : ℕ → ℕ → List ℕ → List Slot → List Slot
+lines_written labels zero lines neighbours = neighbours
+lines_written labels (suc count) lines neighbours = lines_written labels count (drop (labels + 1) lines) (line_written labels (take (labels + 1) lines) neighbours)
 
 abbrev pub dart_in : ℕ → ℕ → Slab Place → List Slot → List Value → ℕ → Dart
 dart_in labels width places neighbours values slot = record {

@@ -1,11 +1,11 @@
-ghost use Rattle.std.specs.Prelude.{◌≡◌, ℕ, ◌+◌, ◌*◌, ◌<◌, ◌≤◌, ◌-◌, ◌++◌, ◌∷◌, [], length, replicate, take, max, map, Some, None, All, MatchOption, IfOk, IsSome, IsTrue, OnOk, OnErr};
+ghost use Rattle.std.specs.Prelude.{◌≡◌, ℕ, ◌+◌, ◌*◌, ◌/◌, ◌<◌, ◌≤◌, ◌-◌, ◌++◌, ◌∷◌, [], length, replicate, take, max, map, Some, None, All, MatchOption, IfOk, IsSome, IsTrue, OnOk, OnErr};
 ghost use Rattle.std.specs.FinMap.{get, keys};
 ghost use Rattle.std.specs.List.{zip};
 ghost use Rattle.slab.specs.Slab.{HasRoomFor, slab_len};
 ghost use Rattle.gm_model.specs.Limits.{most_darts, most_names};
 ghost use Rattle.std.specs.Vec.{vec_capacity};
 ghost use Rattle.slab.specs.Slab as slab;
-ghost use Rattle.gm_arena.specs.Inside.{no_slot, names_in, name_in, linked, IsWritten, HasParts, AreNamesSlots};
+ghost use Rattle.gm_arena.specs.Inside.{no_slot, names_in, name_in, linked, slot_numbered, lines_written, IsWritten, HasParts, AreNamesSlots};
 
 use crate::slot::Slot;
 use crate::steps::Steps;
@@ -83,7 +83,7 @@ impl Arena {
     ghost use Rattle.gm_model.specs.Values.{IsValueOf};
     ghost use Rattle.gm_arena.specs.ArenaAsMap.{value};
     ghost use Rattle.gm_arena.specs.Lawful.{IsLawful, AreGoodValues};
-    ghost use Rattle.gm_arena.specs.Edits.{empty_map, with_dart, with_alpha, with_alphas, with_value, without_dart, IsAlone};
+    ghost use Rattle.gm_arena.specs.Edits.{empty_map, with_dart, with_alpha, with_alphas, with_lines, with_value, without_dart, IsAlone};
 
     /// An arena without darts, whose next name is 0. It takes no memory.
     pub fn new(alloc: Global, schema: Schema) -> Arena
@@ -147,10 +147,11 @@ impl Arena {
     }
 
     /// Whether each slot below the bound has the dart of which it is the name, so that no other name
-    /// is live. Nothing has to be looked up then.
-    fn has_slots_for_names(&self) -> bool
+    /// is live. Nothing has to be looked up then. It counts no step.
+    pub fn has_slots_for_names(&self) -> bool
         ensures at { IsTrue result → (name : ℕ) → name < self.now.bound → IsAt self.now name name }
         ensures none { IsTrue result → (name : ℕ) → self.now.bound ≤ name → get self.now.darts name ≡ None }
+        ensures count { IsTrue result → self.now.bound ≡ self.now.count }
     {
         self.names_are_slots & (self.places.len() == self.bound)
     }
@@ -354,6 +355,21 @@ impl Arena {
         link(neighbours, self.labels, label as usize, from, to);
     }
 
+    /// Gives darts other neighbours, where each name is its dart's slot. A line for each dart has its
+    /// name and then those of its neighbours, by label; what is left behind the last whole line has no
+    /// meaning. Nothing is changed at the neighbours, and where a dart has several lines, the last one
+    /// counts. It counts a step for each dart, and two for each neighbour, as `slot_of` and
+    /// `set_alpha` would.
+    pub fn link_lines<L: Ledger>(&mut self, lines: &[u32], steps: &mut Steps<L>)
+        requires slots { All (λ name. IsAt self.old name name) lines.now }
+        ensures map { self.new ≡ with_lines (self.old.schema.dim + 2) (length lines.now / (self.old.schema.dim + 2)) lines.now self.old }
+        ensures cost { steps.new ≡ steps.old + (2 * self.old.schema.dim + 3) * (length lines.now / (self.old.schema.dim + 2)) }
+    {
+        let count = lines.len() / (self.labels + 1);
+        steps.tick_times((count * (2 * self.labels + 1)) as u64);
+        write_lines(&mut self.neighbours, self.labels, lines);
+    }
+
     /// Sets the value of the dart at a slot, of an embedding by its index in the schema. The other
     /// darts of the embedding's orbit keep theirs.
     pub fn set_value<L: Ledger>(
@@ -408,7 +424,22 @@ fn read_name(places: &Slab<Place>, names_are_slots: bool, slot: Slot) -> u32
 }
 
 /// Makes each neighbour of the slot the slot itself. It takes no memory.
+// As above, the compiler is told the labels of a surface and of a solid.
 fn free(neighbours: &mut Vec<Slot>, labels: usize, own: Slot)
+    requires { own.at * labels + labels ≤ vec_capacity neighbours.old }
+    ensures written { IsWritten labels own.at neighbours.old.items (replicate labels own) neighbours.new.items }
+    ensures reaches { own.at * labels + labels ≤ length neighbours.new.items }
+    ensures capacity { vec_capacity neighbours.old ≤ vec_capacity neighbours.new }
+{
+    match labels {
+        3 => free_labels(neighbours, 3, own),
+        4 => free_labels(neighbours, 4, own),
+        _ => free_labels(neighbours, labels, own),
+    }
+}
+
+#[inline(always)]
+fn free_labels(neighbours: &mut Vec<Slot>, labels: usize, own: Slot)
     requires { own.at * labels + labels ≤ vec_capacity neighbours.old }
     ensures written { IsWritten labels own.at neighbours.old.items (replicate labels own) neighbours.new.items }
     ensures reaches { own.at * labels + labels ≤ length neighbours.new.items }
@@ -482,6 +513,45 @@ fn link(neighbours: &mut [Slot], labels: usize, label: usize, from: &[Slot], to:
 {
     for (at, slot) in from.iter().enumerate() {
         neighbours[slot.at as usize * labels + label] = to[at];
+    }
+}
+
+/// Gives the slots of lines other neighbours. A line has a slot and then its neighbours, as numbers.
+// The compiler is told the labels of a surface and of a solid, and does each line without a loop.
+fn write_lines(neighbours: &mut Vec<Slot>, labels: usize, lines: &[u32])
+    requires labels { labels ≤ 8 }
+    requires within { All (λ at. at * labels + labels ≤ length neighbours.old.items) lines.now }
+    ensures items { neighbours.new.items ≡ lines_written labels (length lines.now / (labels + 1)) lines.now neighbours.old.items }
+    ensures capacity { vec_capacity neighbours.old ≤ vec_capacity neighbours.new }
+{
+    match labels {
+        3 => write_each_line(neighbours, 3, lines),
+        4 => write_each_line(neighbours, 4, lines),
+        _ => write_each_line(neighbours, labels, lines),
+    }
+}
+
+#[inline(always)]
+fn write_each_line(neighbours: &mut Vec<Slot>, labels: usize, lines: &[u32])
+    requires labels { labels ≤ 8 }
+    requires within { All (λ at. at * labels + labels ≤ length neighbours.old.items) lines.now }
+    ensures items { neighbours.new.items ≡ lines_written labels (length lines.now / (labels + 1)) lines.now neighbours.old.items }
+    ensures capacity { vec_capacity neighbours.old ≤ vec_capacity neighbours.new }
+{
+    for line in lines.chunks_exact(labels + 1) {
+        let start = line[0] as usize * labels;
+        write_slots(&mut neighbours[start..start + labels], &line[1..]);
+    }
+}
+
+/// Writes the slots of these numbers over a slice that is as long.
+#[inline(always)]
+fn write_slots(part: &mut [Slot], numbers: &[u32])
+    requires { length part.old ≡ length numbers.now }
+    ensures { part.new ≡ map slot_numbered numbers.now }
+{
+    for (place, at) in numbers.iter().enumerate() {
+        part[place] = Slot { at: *at };
     }
 }
 

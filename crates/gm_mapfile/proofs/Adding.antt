@@ -1,6 +1,6 @@
 -- One dart more: what the arena then has of the rows, and which names are had twice.
 use Rattle.std.proofs.Common.{◌≡◌, ℕ, ◌+◌, ◌<◌, ◌≤◌, min, true, false, List, [], ◌∷◌, ◌++◌, length, Option, Some, None, is_some, ◌⊎◌, inl, inr, refl, sym, ap, subst, ◌∙◌, arith}
-use Rattle.std.specs.Prelude.{MatchOption}
+use Rattle.std.specs.Prelude.{MatchOption, OnSome}
 use Rattle.std.specs.FinMap.{get}
 use Rattle.std.proofs.lemmas.Bool.{cases_eq, cases_lt}
 use Rattle.std.proofs.lemmas.List.{length_push, length-replicate}
@@ -165,3 +165,7 @@ module _ {A : Type 0} (P : Type 0) (Q : A → Type 0) where
   pub answered_some : (o : Option A) → MatchOption o P Q → is_some o ≡ true → (x : A) × Q x
   answered_some None given some = absurd cc
   answered_some (Some x) given some = (x, given)
+
+pub answered_on : {A : Type 0} (P : Type 0) (o : Option A) → OnSome o P → is_some o ≡ true → P
+answered_on P None given some = absurd cc
+answered_on P (Some x) given some = given

@@ -43,6 +43,7 @@ pub mod AddedDarts
 pub mod NextName
 pub mod Linking
 pub mod LinkedLine
+pub mod LinkedLines
 pub mod HeldRows
 pub mod NamesOf
 pub mod Whole

@@ -2,10 +2,12 @@
 //!
 //! The lines are brought into the order of their names where the text has another, so that slots follow
 //! names. Then the darts are added with their values, each free for every label, and then linked to
-//! their neighbours. Each pass looks a name up in the arena.
+//! their neighbours. A name above all that were added is that of no dart, and where the names run from 0
+//! on each is its dart's slot: so names are looked up only where two lines have one, or where some number
+//! is missing among them.
 ghost use Rattle.gm_model.specs.Limits.{most_names};
 ghost use Rattle.gm_model.specs.Maps.{IsSchema};
-ghost use Rattle.std.specs.Prelude.{◌≡◌, ◌+◌, ◌*◌, ◌/◌, ◌<◌, ◌≤◌, length, min, nat_lt, if◌then◌else◌, None, MatchOption, IfOk, IfErr, IfSome, OnOk};
+ghost use Rattle.std.specs.Prelude.{◌≡◌, ◌+◌, ◌*◌, ◌/◌, ◌<◌, ◌≤◌, length, min, nat_lt, if◌then◌else◌, None, All, IsTrue, MatchOption, IfOk, IfErr, IfSome, OnSome, OnOk};
 ghost use Rattle.std.specs.FinMap.{get};
 ghost use Rattle.gm_arena.specs.ArenaMap.{IsAt, IsLiveName};
 ghost use Rattle.gm_arena.specs.Edits.{with_dart};
@@ -142,6 +144,8 @@ fn fill<L: Ledger>(
 
 /// Adds the dart of each line with its values, free for every label. The answer is the least name
 /// that two lines have.
+// By itself, it keeps in registers what it would not among all that reads a map.
+#[inline(never)]
 fn add_darts<L: Ledger>(
     arena: &mut Arena,
     numbers: &[u32],
@@ -181,7 +185,8 @@ fn add_darts<L: Ledger>(
 /// is where they come in ascending order.
 fn slot_there<L: Ledger>(arena: &Arena, name: u32, steps: &mut Steps<L>) -> Option<Slot>
     requires next { IsNextLeast arena.now }
-    ensures slot { MatchOption result (get arena.now.darts name ≡ None) (λ s. IsAt arena.now s.at name × (steps.new ≡ steps.old + 1)) }
+    ensures slot { MatchOption result (get arena.now.darts name ≡ None) (λ s. IsAt arena.now s.at name) }
+    ensures found { OnSome result (steps.new ≡ steps.old + 1) }
     ensures most { steps.new ≤ steps.old + 1 }
     ensures least { steps.old ≤ steps.new }
 {
@@ -265,6 +270,36 @@ fn least_not_below(arena: &Arena, numbers: &[u32], next: u32) -> Option<u32>
 /// Links the dart of each line to its neighbours. The answer is the first dart and label whose
 /// neighbour is no dart.
 fn link_darts<L: Ledger>(
+    arena: &mut Arena,
+    numbers: &[u32],
+    steps: &mut Steps<L>,
+) -> Option<(u32, u8)>
+    requires added { AreAdded arena.old.schema.dim (rows_in arena.old.schema.dim numbers.now) arena.old None }
+    ensures relinked { IsRelinked arena.old.schema.dim arena.old arena.new }
+    ensures linked { AreLinkedUnless arena.old.schema.dim arena.old arena.new (rows_in arena.old.schema.dim numbers.now) result }
+    ensures most { steps.new ≤ steps.old + (2 * arena.old.schema.dim + 3) * length (rows_in arena.old.schema.dim numbers.now) }
+    ensures least { steps.old ≤ steps.new }
+{
+    if arena.has_slots_for_names() && are_below(numbers, arena.count()) {
+        arena.link_lines(numbers, steps);
+        return None;
+    }
+    look_up_neighbours(arena, numbers, steps)
+}
+
+/// Whether each of the numbers is below the end. All are compared, so that many are at once.
+fn are_below(numbers: &[u32], end: u32) -> bool
+    ensures { IsTrue result → All (λ x. x < end) numbers.now }
+{
+    let mut below = true;
+    for number in numbers {
+        below &= *number < end;
+    }
+    below
+}
+
+/// The same, where each name is looked up.
+fn look_up_neighbours<L: Ledger>(
     arena: &mut Arena,
     numbers: &[u32],
     steps: &mut Steps<L>,

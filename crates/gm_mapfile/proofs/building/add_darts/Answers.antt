@@ -10,7 +10,7 @@ use Rattle.gm_mapfile.specs.Packed.{size_of_line, values_in}
 use Rattle.gm_mapfile.specs.Rows.{row_in, valued, darts_in}
 use Rattle.gm_mapfile.specs.Building.{AreAdded, AreValued}
 use Rattle.gm_mapfile.proofs.Chunks.{first_values, name_of_line, none_left, darts_end, rows_of_darts_in, length_darts_in}
-use Rattle.gm_mapfile.proofs.Adding.{answered_none, answered_some}
+use Rattle.gm_mapfile.proofs.Adding.{answered_none, answered_some, answered_on}
 use Rattle.gm_mapfile.proofs.AddedDarts.{HasDarts, has_none, has_more_named, has_again_named, line_split, line_good, line_spare, line_long, line_words, line_below, behind_read, values_read, good_read, own_long, schema_kept}
 use Rattle.gm_mapfile.proofs.Unpacked.{size_read}
 use Rattle.gm_mapfile.proofs.building.add_darts.Goals as goal
@@ -68,7 +68,7 @@ add_packed-requires-clause-room g c =
 
 pub add_packed-requires-clause-new_name : goal.add_packed-requires-clause-new_name
 add_packed-requires-clause-new_name g c =
-    answered_none (get c.loop-line.arena.darts (get_or c.in-Some.line.now 0 0) ≡ None) (λ (s : Slot). IsAt c.loop-line.arena s.at (get_or c.in-Some.line.now 0 0) × (c.slot_there.new.steps ≡ c.loop-line.steps + 1)) c.slot_there.result c.slot_there.ensures.slot (c.is_none.ensures ∙ ap not c.if-is_none.true)
+    answered_none (get c.loop-line.arena.darts (get_or c.in-Some.line.now 0 0) ≡ None) (λ (s : Slot). IsAt c.loop-line.arena s.at (get_or c.in-Some.line.now 0 0)) c.slot_there.result c.slot_there.ensures.slot (c.is_none.ensures ∙ ap not c.if-is_none.true)
 
 pub add_packed-requires-clause-embeds : goal.add_packed-requires-clause-embeds
 add_packed-requires-clause-embeds g c = subst (λ (s : Schema). length s.embeds ≤ 8) (sym c.loop-line.invariant.schema) c.requires.embeds
@@ -98,7 +98,7 @@ loop-line-preserved-then-is_none g c =
     let left = behind_read schema c.line_size-size.result words c.split_at.result.0.now others size c.split_at.ensures.back in
     let own = values_read schema c.line_size-size.result words c.split_at.result.0.now others size c.loop-line.arena.schema before.schema c.split_at.ensures.front in
     let dart = valued (row_in line) (first_values schema words) in
-    let new_name = answered_none (get c.loop-line.arena.darts name ≡ None) (λ (s : Slot). IsAt c.loop-line.arena s.at name × (c.slot_there.new.steps ≡ c.loop-line.steps + 1)) c.slot_there.result c.slot_there.ensures.slot (c.is_none.ensures ∙ ap not c.if-is_none.true) in
+    let new_name = answered_none (get c.loop-line.arena.darts name ≡ None) (λ (s : Slot). IsAt c.loop-line.arena s.at name) c.slot_there.result c.slot_there.ensures.slot (c.is_none.ensures ∙ ap not c.if-is_none.true) in
     let m = c.loop-line.arena in
     let after = c.add_packed.ensures.map in
     let room = line_spare schema _ line _ words others steps.1.0 wide left m.spare before.room in
@@ -133,7 +133,8 @@ loop-line-preserved g c =
     let left = behind_read schema c.line_size-size.result words c.split_at.result.0.now others size c.split_at.ensures.back in
     let dart = valued (row_in line) (first_values schema words) in
     let m = c.loop-line.arena in
-    let there = answered_some (get m.darts name ≡ None) (λ (s : Slot). IsAt m s.at name × (c.slot_there.new.steps ≡ c.loop-line.steps + 1)) c.slot_there.result c.slot_there.ensures.slot c.if-is_none.ensures in
+    let there = answered_some (get m.darts name ≡ None) (λ (s : Slot). IsAt m s.at name) c.slot_there.result c.slot_there.ensures.slot c.if-is_none.ensures in
+    let found = answered_on (c.slot_there.new.steps ≡ c.loop-line.steps + 1) c.slot_there.result c.slot_there.ensures.found c.if-is_none.ensures in
     let room = line_spare schema _ line _ words others steps.1.0 wide left m.spare before.room in
     record {
       front = before.front ++ dart ∷ [];
@@ -144,9 +145,9 @@ loop-line-preserved g c =
       reserved = before.reserved;
       long = line_long schema _ line _ words others steps.1.0 wide left before.long;
       good = (line_good schema _ line _ words others steps.1.0 wide left before.good).1;
-      has = has_again_named n before.front dart m c.loop-line.twice before.has name c.lesser.result named (before.has.added.slots there.0.at name there.1.0) c.lesser.ensures;
-      most = omega (arith, before.most, length_push before.front dart, there.1.1);
-      least = omega (arith, before.least, length_push before.front dart, there.1.1);
+      has = has_again_named n before.front dart m c.loop-line.twice before.has name c.lesser.result named (before.has.added.slots there.0.at name there.1) c.lesser.ensures;
+      most = omega (arith, before.most, length_push before.front dart, found);
+      least = omega (arith, before.least, length_push before.front dart, found);
     }
 
 pub returns-clause-schema : goal.returns-clause-schema

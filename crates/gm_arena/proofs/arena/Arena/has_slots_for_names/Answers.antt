@@ -17,3 +17,8 @@ returns-clause-none c = λ told.
     let both = and_parts c.self.inside.names_are_slots _ told in
     subst (λ (m : ArenaMap). (name : ℕ) → m.bound ≤ name → get m.darts name ≡ None) c.self.view_is
     (none_above _ _ _ _ _ _ _ _ _ _ c.self.invariant.0 (c.self.invariant.2 both.0))
+
+pub returns-clause-count : goal.returns-clause-count
+returns-clause-count c = λ told.
+    let both = and_parts c.self.inside.names_are_slots _ told in
+    subst (λ (m : ArenaMap). m.bound ≡ m.count) c.self.view_is (sym (eqb-true c.len.result c.self.inside.bound both.1) ∙ c.len.ensures)

@@ -1,7 +1,7 @@
 use Rattle.std.proofs.Common.{◌≡◌, ◌-◌, ◌*◌, length, replicate, ap, ◌∙◌, arith}
 use Rattle.std.proofs.lemmas.List.{length-replicate}
 use Rattle.gm_arena.proofs.ValueLemmas.{length-slice, written, written_slice}
-use Rattle.gm_arena.proofs.arena.free.Goals as goal
+use Rattle.gm_arena.proofs.arena.free_labels.Goals as goal
 
 pub returns-clause-written : goal.returns-clause-written
 returns-clause-written c =
