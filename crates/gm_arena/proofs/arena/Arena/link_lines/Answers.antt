@@ -1,8 +1,7 @@
-use Rattle.std.proofs.Common.{◌≡◌, ◌+◌, ◌*◌, ◌/◌, ◌≤◌, length, Some, sym, ap, subst, ◌∙◌, All, arith}
+use Rattle.std.proofs.Common.{◌≡◌, ◌+◌, ◌*◌, ◌/◌, ◌≤◌, length, Some, ap, ◌∙◌, All, arith}
 use Rattle.std.proofs.Math.Nat.{div-mul-le_self}
 use Rattle.std.specs.FinMap as map
 use Rattle.std.proofs.lemmas.List.Elements.{All-weaker}
-use Rattle.gm_arena.specs.ArenaMap.{ArenaMap, IsAt}
 use Rattle.gm_arena.specs.Edits.{with_lines}
 use Rattle.gm_arena.specs.Inside.{slots_in, map_of}
 use Rattle.gm_arena.proofs.InsideLemmas.{is_some_at}
@@ -22,7 +21,7 @@ invariant_of-self g c =
     let s = c.self.inside in
     let lines = c.args.lines.now in
     let own : All (λ name. map.get (slots_in s.places) name ≡ Some name) lines = rw (← c.self.view_is) at c.requires.slots in
-    let linked = lines_linked s.schema s.labels s.width s.places s.values.items s.table.items s.next s.spare s.bound (length lines / (s.labels + 1)) lines s.neighbours.items c.self.invariant.0 (div-mul-le_self (length lines) (s.labels + 1)) own in (
+    let linked = lines_linked s.schema s.labels s.width s.places s.values.items s.table s.next s.spare s.bound (length lines / (s.labels + 1)) lines s.neighbours.items c.self.invariant.0 (div-mul-le_self (length lines) (s.labels + 1)) own in (
       rw c.write_lines.ensures.items linked.0,
       record { linked = omega (arith, c.write_lines.ensures.capacity, c.self.invariant.1.linked); long = c.self.invariant.1.long },
       c.self.invariant.2,
@@ -34,8 +33,8 @@ returns-clause-map g c =
     let lines = c.args.lines.now in
     let own : All (λ name. map.get (slots_in s.places) name ≡ Some name) lines = rw (← c.self.view_is) at c.requires.slots in
     let size : s.labels + 1 ≡ s.schema.dim + 2 = omega (arith, c.self.invariant.0.sized.one_each) in
-    let linked = lines_linked s.schema s.labels s.width s.places s.values.items s.table.items s.next s.spare s.bound (length lines / (s.labels + 1)) lines s.neighbours.items c.self.invariant.0 (div-mul-le_self (length lines) (s.labels + 1)) own in
+    let linked = lines_linked s.schema s.labels s.width s.places s.values.items s.table s.next s.spare s.bound (length lines / (s.labels + 1)) lines s.neighbours.items c.self.invariant.0 (div-mul-le_self (length lines) (s.labels + 1)) own in
     rw (← c.self.view_is)
-    (ap (λ items. map_of s.schema s.labels s.width s.places items s.values.items s.table.items s.next s.spare s.bound) c.write_lines.ensures.items
+    (ap (λ items. map_of s.schema s.labels s.width s.places items s.values.items s.table s.next s.spare s.bound) c.write_lines.ensures.items
     ∙ (linked.1
-    ∙ ap (λ k. with_lines k (length lines / k) lines (map_of s.schema s.labels s.width s.places s.neighbours.items s.values.items s.table.items s.next s.spare s.bound)) size))
+    ∙ ap (λ k. with_lines k (length lines / k) lines (map_of s.schema s.labels s.width s.places s.neighbours.items s.values.items s.table s.next s.spare s.bound)) size))

@@ -1,4 +1,4 @@
-use Rattle.std.proofs.Common.{◌∙◌, arith}
+use Rattle.std.proofs.Common.{◌∙◌}
 use Rattle.gm_arena.proofs.InsideLemmas.{key_at, name_within, name_at_in, name_in-get}
 use Rattle.gm_arena.proofs.SlotNameLemmas.{slots_named_without}
 use Rattle.gm_arena.proofs.RemoveLemmas.{sound_without, map_without}
