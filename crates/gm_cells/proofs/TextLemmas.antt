@@ -1,8 +1,7 @@
 -- A text that is written part by part.
-use Rattle.std.proofs.Common.{◌≡◌, ℕ, zero, suc, ◌+◌, ◌-◌, ◌^◌, ◌<◌, ◌≤◌, List, [], ◌∷◌, ◌++◌, Result, length, take, drop, set, get_or, refl, sym, ap, ◌∙◌, append_assoc, append-nil, arith}
+use Rattle.std.proofs.Common.{◌≡◌, ℕ, zero, suc, ◌+◌, ◌-◌, ◌<◌, ◌≤◌, List, [], ◌∷◌, ◌++◌, Result, length, take, drop, get_or, refl, sym, ap, ◌∙◌, append_assoc, append-nil, arith}
 use Rattle.std.specs.Prelude.{OnOk, codes, decimal}
-use Rattle.std.proofs.lemmas.Fmt.{length-decimal-le}
-use Rattle.std.proofs.lemmas.List.{drop-drop, drop-set, drop_more}
+use Rattle.std.proofs.lemmas.List.{drop-drop, drop_more}
 use Rattle.std.proofs.lemmas.Result.{on_ok_weaker}
 use Rattle.gm_text.proofs.Cuts.{IsSoFar}
 use Rattle.gm_cells.specs.CellsText.{listed}
@@ -42,19 +41,11 @@ listed_part numbers from to h =
     listed_taken (drop from numbers) (to - from) ∙ ap (λ xs. listed (take (to - from) (drop from numbers)) ++ listed xs) (drop-drop (to - from) from numbers ∙ ap (λ k. drop k numbers) end)
 
 -- one number more before those that are written
-pub listed_before : (numbers : List ℕ) (left at start : ℕ) (old put : List ℕ) → 0 < left → left ≤ length numbers → 0 < start → start ≤ length put
-    → drop start put ≡ decimal (get_or numbers (left - 1) 0) ++ drop at old → drop at old ≡ listed (drop left numbers) → drop (start - 1) (set put (start - 1) 32) ≡ listed (drop (left - 1) numbers)
-listed_before numbers left at start old put some few inside within written before =
+pub listed_before : (numbers : List ℕ) (left : ℕ) (old put : List ℕ) → 0 < left → left ≤ length numbers → put ≡ 32 ∷ (decimal (get_or numbers (left - 1) 0) ++ old) → old ≡ listed (drop left numbers) → put ≡ listed (drop (left - 1) numbers)
+listed_before numbers left old put some few written before =
     let again : left - 1 + 1 ≡ left = omega (arith, some) in
-    let behind : start - 1 + 1 ≡ start = omega (arith, inside) in
-    drop-set put (start - 1) 32 (omega (arith, inside, within))
-    ∙ ap (λ k. 32 ∷ drop k put) behind
-    ∙ ap (λ (xs : List ℕ). 32 ∷ xs) (written ∙ ap (λ xs. decimal (get_or numbers (left - 1) 0) ++ xs) before)
+    written ∙ ap (λ xs. 32 ∷ (decimal (get_or numbers (left - 1) 0) ++ xs)) before
     ∙ sym (ap listed (drop_more numbers (left - 1) 0 (omega (arith, some, few)) ∙ ap (λ k. get_or numbers (left - 1) 0 ∷ drop k numbers) again))
-
--- a number has ten digits at most
-pub short_number : (n : ℕ) → n < 2 ^ 32 → length (decimal n) ≤ 10
-short_number n small = length-decimal-le 10 n (omega arith) (omega (arith, small)) (omega (arith, small))
 
 pub written_all : (before : List ℕ) (numbers : List ℕ) (k : ℕ) (after : List ℕ) → length numbers ≤ k → IsSoFar before (listed numbers) after (listed (drop k numbers)) → after ≡ before ++ listed numbers
 written_all before numbers k after end so_far =

@@ -1,6 +1,6 @@
 //! Two colours for the darts of one component, by a search that takes a byte for each slot.
 
-ghost use Rattle.std.specs.Prelude.{◌≡◌, ℕ, ◌+◌, ◌<◌, ◌≤◌, List, length, get_or, IfOk};
+ghost use Rattle.std.specs.Prelude.{◌≡◌, ℕ, ◌+◌, ◌<◌, ◌≤◌, List, length, IfOk};
 ghost use Rattle.gm_arena.specs.ArenaAsMap.{as_map};
 ghost use Rattle.gm_arena.specs.ArenaMap.{IsLiveSlot, name_at};
 ghost use Rattle.gm_arena.specs.Lawful.{IsLawful};

@@ -7,8 +7,7 @@ ghost use Rattle.gm_text.specs.SchemaPrinting.{IsCut};
 use crate::counts::Counts;
 use crate::orientation::Orientation;
 use gm_model::OutOfMemory;
-use gm_text::Text;
-use itoa::write_digits;
+use gm_text::{Text, write_number_behind_blank};
 use std::alloc::Global;
 
 /// No more bytes are a number with a space before it.
@@ -31,7 +30,7 @@ pub fn print_cells(
 ) -> Result<Vec<u8>, OutOfMemory>
     ensures { IfOk result (λ text. text.items ≡ counts_text counts.now ++ orientation_text orientation.now) }
 {
-    let mut text = Text::in_place_of(Vec::new(alloc), room_for(orientation))?;
+    let mut text = Text::with_room(alloc, room_for(orientation))?;
     put_counts(&mut text, counts)?;
     put_orientation(&mut text, orientation)?;
     Ok(text.into_bytes())
@@ -122,7 +121,7 @@ pub fn put_numbers(text: &mut Text, numbers: &[u32]) -> Result<(), OutOfMemory>
     while from < numbers.len() {
         let to = numbers.len().min(from + AT_ONCE);
         let start = write_numbers(&mut part, &numbers[from..to]);
-        put_from(text, &part, start)?;
+        text.put_from(&part, start)?;
         from = to;
     }
     Ok(())
@@ -139,19 +138,9 @@ fn write_numbers(bytes: &mut [u8], numbers: &[u32]) -> usize
     let mut left = numbers.len();
     while left > 0 {
         left -= 1;
-        at = write_digits(u64::from(numbers[left]), bytes, at) - 1;
-        bytes[at] = b' ';
+        at = write_number_behind_blank(bytes, numbers[left], at);
     }
     at
-}
-
-/// Appends the bytes from a place on.
-fn put_from(text: &mut Text, bytes: &[u8], start: usize) -> Result<(), OutOfMemory>
-    requires { start ≤ length bytes.now }
-    ensures ok { OnOk result (text.new ≡ text.old ++ drop start bytes.now) }
-    ensures err { OnErr result (text.new ≡ text.old) }
-{
-    text.put(&bytes[start..])
 }
 
 /// The labels, one space before each.

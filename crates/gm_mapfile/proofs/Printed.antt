@@ -1,5 +1,5 @@
 -- The darts of an arena by place, as they are printed.
-use Rattle.std.proofs.Common.{◌≡◌, ℕ, eqb, ◌+◌, ◌-◌, ◌*◌, ◌^◌, ◌<◌, ◌≤◌, List, [], ◌∷◌, ◌++◌, length, take, drop, set, get_or, map, Option, Some, None, is_some, codes, refl, sym, ap, ap₂, subst, ◌∙◌, arith}
+use Rattle.std.proofs.Common.{◌≡◌, ℕ, eqb, ◌+◌, ◌-◌, ◌*◌, ◌^◌, ◌<◌, ◌≤◌, List, [], ◌∷◌, ◌++◌, length, take, drop, get_or, map, Option, Some, None, is_some, codes, refl, sym, ap, ap₂, subst, ◌∙◌, arith}
 use Rattle.std.specs.Prelude.{decimal}
 use Rattle.std.specs.Option.{option_map, option_map_or}
 use Rattle.std.specs.List.{find, flat_map}
@@ -9,7 +9,7 @@ use Rattle.std.proofs.lemmas.Fmt.{length-decimal-le}
 use Rattle.std.proofs.lemmas.Grind.{flat_map-append}
 use Rattle.std.proofs.lemmas.Bool.{ne_eqb, eq-eqb}
 use Rattle.std.proofs.lemmas.Nat.{mul-le}
-use Rattle.std.proofs.lemmas.List.{drop-set, drop_more, get_or-map, length-map, take_more, append-nil, append_assoc, length-drop, nil_from_length, take-append-drop}
+use Rattle.std.proofs.lemmas.List.{drop_more, get_or-map, length-map, take_more, append-nil, append_assoc, length-drop, nil_from_length, take-append-drop}
 use Rattle.std.proofs.lemmas.List.Kept.{AllPairs-from_increasing}
 use Rattle.std.proofs.lemmas.List.Recursion.{found_at}
 use Rattle.gm_model.specs.declared.schema.Embed.{Embed}
@@ -31,11 +31,7 @@ whole_taken xs k long = sym (append-nil (take k xs)) ∙ (ap (λ ys. take k xs +
 
 -- ---- a dart's line
 
--- a name has ten digits at most
-pub short_name : (n : ℕ) → n < 2 ^ 32 → length (decimal n) ≤ 10
-short_name n small = length-decimal-le 10 n (omega arith) (omega (arith, small)) (omega (arith, small))
-
--- and the size of a whole number nineteen
+-- the size of a whole number has nineteen digits at most
 pub short_size : (n : ℕ) → n ≤ 2 ^ 63 → length (decimal n) ≤ 19
 short_size n small = length-decimal-le 19 n (omega arith) (omega (arith, small)) (omega (arith, small))
 
@@ -48,19 +44,15 @@ item_before each items left d rest some few =
     sym (ap (λ xs. flat_map each xs ++ rest) split ∙ append_assoc (each (get_or items (left - 1) d)) (flat_map each (drop left items)) rest)
 
 -- one name more, with a blank before it
-pub name_before : (m : ArenaMap) (slots : List Slot) (left name at start : ℕ) (d : Slot) (old put rest : List ℕ) → 0 < left → left ≤ length slots → IsAt m (get_or slots (left - 1) d).at name → 0 < start → start ≤ length put
-    → drop start put ≡ decimal name ++ drop at old → drop at old ≡ flat_map (λ a. 32 ∷ decimal a) (drop left (map (λ (s : Slot). name_at m s.at) slots)) ++ rest
-    → drop (start - 1) (set put (start - 1) 32) ≡ flat_map (λ a. 32 ∷ decimal a) (drop (left - 1) (map (λ (s : Slot). name_at m s.at) slots)) ++ rest
-name_before m slots left name at start d old put rest some few there inside within written before =
+pub name_before : (m : ArenaMap) (slots : List Slot) (left name : ℕ) (d : Slot) (old put rest : List ℕ) → 0 < left → left ≤ length slots → IsAt m (get_or slots (left - 1) d).at name
+    → put ≡ 32 ∷ (decimal name ++ old) → old ≡ flat_map (λ a. 32 ∷ decimal a) (drop left (map (λ (s : Slot). name_at m s.at) slots)) ++ rest
+    → put ≡ flat_map (λ a. 32 ∷ decimal a) (drop (left - 1) (map (λ (s : Slot). name_at m s.at) slots)) ++ rest
+name_before m slots left name d old put rest some few there written before =
     let f : Slot → ℕ = λ (s : Slot). name_at m s.at in
     let each : ℕ → List ℕ = λ a. 32 ∷ decimal a in
     let names = map f slots in
     let here : get_or names (left - 1) 0 ≡ name = get_or-map f slots (left - 1) d 0 (omega (arith, some, few)) ∙ name_at-is m (get_or slots (left - 1) d).at name there in
-    let behind : start - 1 + 1 ≡ start = omega (arith, inside) in
-    drop-set put (start - 1) 32 (omega (arith, inside, within))
-    ∙ (ap (λ k. 32 ∷ drop k put) behind
-    ∙ (ap (λ (xs : List ℕ). 32 ∷ xs) (written ∙ ap₂ (λ (x : ℕ) (xs : List ℕ). decimal x ++ xs) (sym here) before)
-    ∙ item_before each names left 0 rest some (omega (arith, few, length-map slots f))))
+    written ∙ ap₂ (λ (x : ℕ) (xs : List ℕ). 32 ∷ (decimal x ++ xs)) (sym here) before ∙ item_before each names left 0 rest some (omega (arith, few, length-map slots f))
 
 -- a dart has a neighbour for each label
 pub slots_long : (m : ArenaMap) (name : ℕ) (slots : List Slot) (values : List Value) → IsLawful m → get m.darts name ≡ Some (record { alphas = map (λ (s : Slot). name_at m s.at) slots; values = values }) → length slots ≡ m.schema.dim + 1

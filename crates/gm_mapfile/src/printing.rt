@@ -17,7 +17,7 @@ ghost use Rattle.gm_mapfile.specs.Rows.{darts_of, listed_of};
 use crate::version::MapVersion;
 use gm_arena::{Arena, Row, Slot, Steps};
 use gm_model::{OutOfMemory, Value};
-use gm_text::{Text, print_schema};
+use gm_text::{Text, print_schema, write_number, write_number_behind_blank, write_word};
 use itoa::write_digits;
 use std::alloc::Global;
 use std::sync::ledger::Ledger;
@@ -49,7 +49,7 @@ pub fn print_map<L: Ledger>(
     ensures most { steps.new ≤ steps.old + 8 * ((arena.now.schema.dim + 1) * (arena.now.schema.dim + 1)) * (arena.now.count + 1) }
     ensures least { IfOk result (λ _. steps.old + arena.now.count ≤ steps.new) }
 {
-    let mut text = Text::in_place_of(Vec::new(alloc), room_for(arena))?;
+    let mut text = Text::with_room(alloc, room_for(arena))?;
     print_text(&mut text, arena, version, steps)?;
     Ok(text.into_bytes())
 }
@@ -87,18 +87,10 @@ fn print_lines<L: Ledger>(
     while let Some(slot) = arena.slot_from(from, steps) {
         let row = arena.row(slot, steps);
         let start = write_line(&mut line, arena, row, steps);
-        put_from(text, &line, start)?;
+        text.put_from(&line, start)?;
         from = row.name + 1;
     }
     Ok(())
-}
-
-/// Appends the bytes from a place on.
-fn put_from(text: &mut Text, bytes: &[u8], start: usize) -> Result<(), OutOfMemory>
-    requires { start ≤ length bytes.now }
-    ensures { OnOk result (text.new ≡ text.old ++ drop start bytes.now) }
-{
-    text.put(&bytes[start..])
 }
 
 /// As many bytes as the text has without values, or more: each name stands once for its dart and
@@ -193,7 +185,7 @@ fn write_line<L: Ledger>(
     }) }
     ensures cost { steps.new ≡ steps.old + length row.entry.alphas.now }
 {
-    let feed = write_byte(line, b'\n', LINE);
+    let feed = write_word(line, b"\n", LINE);
     let first = write_values(line, row.values, feed);
     write_names(line, arena, row.name, row.alphas, first, steps)
 }
@@ -220,10 +212,9 @@ fn write_names<L: Ledger>(
     while left > 0 {
         left -= 1;
         let neighbour = arena.name_of(neighbours[left], steps);
-        at = write_digits(u64::from(neighbour), line, at) - 1;
-        line[at] = b' ';
+        at = write_number_behind_blank(line, neighbour, at);
     }
-    write_digits(u64::from(name), line, at)
+    write_number(line, name, at)
 }
 
 /// Writes each value behind a blank, so that they end at `end`. The answer is where they begin.
@@ -239,7 +230,7 @@ fn write_values(line: &mut [u8], values: &[Value], end: usize) -> usize
     while left > 0 {
         left -= 1;
         let first = write_value(line, values[left], at);
-        at = write_byte(line, b' ', first);
+        at = write_word(line, b" ", first);
     }
     at
 }
@@ -288,10 +279,10 @@ fn write_pair(bytes: &mut [u8], x: i64, y: i64, end: usize) -> usize
     ensures before { result ≤ end }
     ensures written { drop result bytes.new ≡ 40 ∷ (signed_decimal x ++ (32 ∷ (signed_decimal y ++ (41 ∷ drop end bytes.old)))) }
 {
-    let last = write_byte(bytes, b')', end);
+    let last = write_word(bytes, b")", end);
     let second = write_signed(bytes, y, last);
     let first = write_behind(bytes, x, second);
-    write_byte(bytes, b'(', first)
+    write_word(bytes, b"(", first)
 }
 
 /// Writes three numbers in brackets, so that they end at `end`. The answer is where they begin.
@@ -302,11 +293,11 @@ fn write_triple(bytes: &mut [u8], x: i64, y: i64, z: i64, end: usize) -> usize
     ensures before { result ≤ end }
     ensures written { drop result bytes.new ≡ 40 ∷ (signed_decimal x ++ (32 ∷ (signed_decimal y ++ (32 ∷ (signed_decimal z ++ (41 ∷ drop end bytes.old)))))) }
 {
-    let last = write_byte(bytes, b')', end);
+    let last = write_word(bytes, b")", end);
     let third = write_signed(bytes, z, last);
     let second = write_behind(bytes, y, third);
     let first = write_behind(bytes, x, second);
-    write_byte(bytes, b'(', first)
+    write_word(bytes, b"(", first)
 }
 
 /// Writes a number and a blank, so that they end at `end`. The answer is where they begin.
@@ -319,7 +310,7 @@ fn write_behind(bytes: &mut [u8], x: i64, end: usize) -> usize
     ensures before { result ≤ end }
     ensures written { drop result bytes.new ≡ signed_decimal x ++ (32 ∷ drop end bytes.old) }
 {
-    let blank = write_byte(bytes, b' ', end);
+    let blank = write_word(bytes, b" ", end);
     write_signed(bytes, x, blank)
 }
 
@@ -335,28 +326,5 @@ fn write_signed(bytes: &mut [u8], x: i64, end: usize) -> usize
     if x >= 0 {
         return start;
     }
-    write_byte(bytes, b'-', start)
-}
-
-/// Writes a byte, so that it ends at `end`. The answer is where it stands.
-fn write_byte(bytes: &mut [u8], byte: u8, end: usize) -> usize
-    requires room { 0 < end }
-    requires within { end ≤ length bytes.old }
-    ensures before { result + 1 ≡ end }
-    ensures written { drop result bytes.new ≡ byte ∷ drop end bytes.old }
-{
-    bytes[end - 1] = byte;
-    end - 1
-}
-
-/// Writes the bytes of a word, so that they end at `end`. The answer is where they begin.
-fn write_word(bytes: &mut [u8], word: &[u8], end: usize) -> usize
-    requires room { length word.now ≤ end }
-    requires within { end ≤ length bytes.old }
-    ensures before { result + length word.now ≡ end }
-    ensures written { drop result bytes.new ≡ word.now ++ drop end bytes.old }
-{
-    let start = end - word.len();
-    bytes[start..end].copy_from_slice(word);
-    start
+    write_word(bytes, b"-", start)
 }

@@ -33,7 +33,7 @@ pub fn print_report(
     let outcomes = report.lines.as_slice();
     // Room at once, so that a long report isn't copied as it grows.
     let room = (outcomes.len() + 1).saturating_mul(LINE_BYTES);
-    let mut text = Text::in_place_of(Vec::new(alloc), room)?;
+    let mut text = Text::with_room(alloc, room)?;
     put_lines(&mut text, book, script.stats.as_slice(), outcomes)?;
     put_counts(&mut text, outcomes, report.darts, report.next)?;
     Ok(text.into_bytes())

@@ -1,5 +1,6 @@
 -- How a script's text is read, one symbol after another: what can stand next and in which role, and what is held of what was read.
-use Rattle.std.specs.Prelude.{◌≡◌, ℕ, ◌+◌, ◌^◌, ◌-◌, ◌<◌, ◌≤◌, min, Bool, true, false, nat_lt, nat_le, if◌then◌else◌, ℤ, pos, neg_ℤ, List, [], ◌∷◌, ◌++◌, length, take, drop, Option, Some, None, Result, Ok, Err, codes}
+use Rattle.std.specs.Prelude.{◌≡◌, ℕ, ◌+◌, ◌^◌, ◌-◌, ◌<◌, ◌≤◌, min, Bool, true, false, nat_lt, nat_le, if◌then◌else◌, ℤ, pos, neg_ℤ, List, [], ◌∷◌, ◌++◌, length, map, take, drop, Option, Some, None, Result, Ok, Err, codes}
+use Rattle.std.specs.List.{list_any}
 use Rattle.std.specs.Option.{option_map}
 use Rattle.std.specs.Str.{bytes_eq}
 use Rattle.gm_model.specs.declared.limit.LimitKind.TheVariants as limits
@@ -57,6 +58,14 @@ sight_of_word bytes =
     if bytes_eq bytes (codes "apply") then sights.Begins heads.Apply
     else (if bytes_eq bytes (codes "with") then sights.With
     else sight_of_rarer_word bytes)
+
+-- the words in which more is seen than a name
+abbrev pub known_words : List (List ℕ)
+known_words = codes "apply" ∷ codes "each" ∷ codes "undo" ∷ codes "redo" ∷ codes "group" ∷ codes "end" ∷ reserved
+
+-- one of them begins with both bytes
+abbrev pub is_known_beginning : ℕ → ℕ → Bool
+is_known_beginning first second = list_any (bytes_eq (first ∷ second ∷ [])) (map (take 2) known_words)
 
 abbrev pub sight_of_sign : List ℕ → Sight
 sight_of_sign bytes =

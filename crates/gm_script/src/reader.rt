@@ -21,7 +21,8 @@ use std::marker::Model;
 
 const MOST_NAME_BYTES: usize = 32;
 
-/// What the first value of a statement makes room for. Few rules have more parameters.
+/// What the first value of a statement makes room for, since few rules have more parameters. A vector
+/// that grows by itself begins with four, which are 10 MB more for a script of as many lines as can be.
 const FIRST_VALUES: usize = 1;
 
 pub(crate) const MOST_LINES: usize = 100_000;

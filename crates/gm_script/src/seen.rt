@@ -7,7 +7,7 @@ ghost use Rattle.gm_script.specs.Reading as reading;
 ghost use Rattle.gm_script.specs.Reading.{IsLead, IsNext, IsSeenNext, IsStray};
 
 use crate::reader::TextFault;
-use crate::sight::{Head, Sight, sight_of};
+use crate::sight::{Head, Sight, sight_of, sight_of_word};
 use crate::spot::Spot;
 use gm_text::{Lexer, Token, TokenKind};
 
@@ -19,7 +19,7 @@ pub(crate) struct Seen {
 }
 
 /// What stands next, behind this spot.
-// A part of a value that is read as any other token takes some 150 instructions more.
+// A name or a part of a value that is read as any other token takes some 100 to 150 instructions more.
 pub(crate) fn next_seen<'a>(
     bytes: &'a [u8],
     lexer: &mut Lexer<'a>,
@@ -35,12 +35,32 @@ pub(crate) fn next_seen<'a>(
     if let Some(seen) = frequent_word(bytes, lexer, spot) {
         return Ok(Some(seen));
     }
-    if spot.is_in_values() {
-        if let Some(seen) = small_part(lexer, spot) {
-            return Ok(Some(seen));
-        }
+    if let Some(seen) = near_token(lexer, spot) {
+        return Ok(Some(seen));
     }
     next_token_seen(lexer)
+}
+
+/// What most often stands behind the spot, with one blank before it at most: a rule's name, or a part
+/// of a value. `None` says nothing of what stands next, and the lexer is then as before.
+fn near_token(lexer: &mut Lexer<'_>, spot: Spot) -> Option<Seen>
+    ensures seen { IfSome result (λ seen. IsSeenNext lexer.old seen.sight seen.token lexer.new) }
+    ensures none { IfNone result (lexer.new ≡ lexer.old) }
+{
+    match spot {
+        Spot::Apply | Spot::Over => near_name(lexer),
+        Spot::Start | Spot::Bare | Spot::Rule | Spot::Each | Spot::Orbit | Spot::Named => None,
+        _ => small_part(lexer, spot),
+    }
+}
+
+fn near_name(lexer: &mut Lexer<'_>) -> Option<Seen>
+    ensures seen { IfSome result (λ seen. IsSeenNext lexer.old seen.sight seen.token lexer.new) }
+    ensures none { IfNone result (lexer.new ≡ lexer.old) }
+{
+    let token = lexer.small_name()?;
+    let sight = sight_of_word(lexer.text(&token));
+    Some(Seen { sight, token })
 }
 
 /// The word `apply` at the beginning of a line, or `with`, where it can stand behind the spot.

@@ -1,4 +1,4 @@
-ghost use Rattle.std.specs.Prelude.{◌≡◌, ◌≤◌, length};
+ghost use Rattle.std.specs.Prelude.{◌≡◌, ◌≤◌, length, false};
 ghost use Rattle.gm_model.specs.Tokens.{bytes_of, IsLexeme};
 ghost use Rattle.gm_model.specs.Symbols.{symbol_of_kind};
 ghost use Rattle.gm_script.specs.Reading as reading;
@@ -51,7 +51,45 @@ pub(crate) fn sight_of(lexer: &Lexer<'_>, token: &Token) -> Sight
     }
 }
 
-fn sight_of_word(bytes: &[u8]) -> Sight
+/// What is seen in a word.
+// Most words are names of rules, and two bytes tell of most names that they are nothing else.
+pub(crate) fn sight_of_word(bytes: &[u8]) -> Sight
+    ensures { result ≡ reading.sight_of_word bytes.now }
+{
+    if begins_as_known_word(bytes) {
+        sight_of_known_word(bytes)
+    } else {
+        Sight::Name
+    }
+}
+
+/// Whether a word in which more is seen than a name begins with the same two bytes.
+fn begins_as_known_word(bytes: &[u8]) -> bool
+    ensures { result ≡ false → reading.sight_of_word bytes.now ≡ Sight.Name }
+{
+    bytes.len() >= 2 && is_known_beginning(bytes[0], bytes[1])
+}
+
+fn is_known_beginning(first: u8, second: u8) -> bool
+    ensures { result ≡ reading.is_known_beginning first second }
+{
+    match second {
+        b'a' => matches!(first, b'e' | b'f' | b'm' | b's'),
+        b'e' => matches!(first, b'l' | b'r'),
+        b'f' => first == b'i',
+        b'h' => first == b't',
+        b'i' => matches!(first, b'm' | b'r' | b'w'),
+        b'l' => first == b'e',
+        b'n' => matches!(first, b'a' | b'e' | b'u'),
+        b'o' => matches!(first, b'c' | b'h' | b'n'),
+        b'p' => first == b'a',
+        b'r' => matches!(first, b'g' | b'o' | b'p' | b't'),
+        b'u' => matches!(first, b'r' | b's'),
+        _ => false,
+    }
+}
+
+fn sight_of_known_word(bytes: &[u8]) -> Sight
     ensures { result ≡ reading.sight_of_word bytes.now }
 {
     if bytes == b"apply".as_slice() {

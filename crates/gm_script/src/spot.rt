@@ -110,23 +110,6 @@ impl Spot {
         matches!(self, Spot::Apply | Spot::Over)
     }
 
-    /// Whether a part of a value can stand next.
-    pub(crate) fn is_in_values(self) -> bool {
-        matches!(
-            self,
-            Spot::With
-                | Spot::Value
-                | Spot::Minus
-                | Spot::Open
-                | Spot::OpenMinus
-                | Spot::First
-                | Spot::FirstMinus
-                | Spot::Second
-                | Spot::SecondMinus
-                | Spot::Third
-        )
-    }
-
     /// Whether a minus stands last.
     pub(crate) fn is_minus(self) -> bool
         ensures { result ≡ reading.is_minus self }

@@ -4,6 +4,7 @@ pub mod Items
 pub mod Gaps
 pub mod Lexemes
 pub mod Values
+pub mod Decimals
 pub mod SmallTokens
 pub mod Marks
 pub mod Machine

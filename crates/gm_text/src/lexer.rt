@@ -1,6 +1,6 @@
 ghost use Rattle.std.specs.Prelude.{◌≡◌, ℕ, ◌<◌, ◌≤◌, ◌-◌, ◌^◌, false, length, min, IsTrue, IfSome, IfNone, IfOk, IfErr, OnErr, MatchOption};
 ghost use Rattle.std.specs.List.{list_all};
-ghost use Rattle.gm_model.specs.declared.token.TokenKind.TheVariants.{Number};
+ghost use Rattle.gm_model.specs.declared.token.TokenKind.TheVariants.{Name, Number};
 ghost use Rattle.gm_model.specs.Tokens.{bytes_of, IsLexeme};
 ghost use Rattle.gm_model.specs.Tokens as tokens;
 ghost use Rattle.gm_model.specs.Symbols.{value_of};
@@ -9,7 +9,9 @@ ghost use Rattle.gm_text.specs.SchemaAnswers.{IsToken, IsNext, IsNoneNext};
 
 use crate::bytes::is_digit;
 use crate::fault::LexFault;
-use crate::scan::{Small, behind_blank, gap_end, number_near, past_blank, small_at, token_at};
+use crate::scan::{
+    Small, behind_blank, gap_end, name_near, number_near, past_blank, small_at, token_at,
+};
 use gm_model::Token;
 use std::marker::Model;
 
@@ -145,6 +147,20 @@ impl<'a> Lexer<'a> {
         let Small { value, end } = small_at(self.source, place)?;
         self.at = end;
         Some(SmallNumber { value, place })
+    }
+
+    /// The name that stands next, which the lexer goes past, where nothing stands before it but one
+    /// blank at most. `None` says nothing of what stands next, and the lexer is then as before.
+    // Inlined, as `small_at` is.
+    #[inline(always)]
+    pub fn small_name(&mut self) -> Option<Token>
+        ensures next { IfSome result (λ token. IsNext self.old token self.new) }
+        ensures kind { IfSome result (λ token. token.kind ≡ Name) }
+        ensures none { IfNone result (self.new ≡ self.old) }
+    {
+        let token = name_near(self.source, self.at)?;
+        self.at = token.end;
+        Some(token)
     }
 
     /// Whether this sign of one byte stands next, and nothing before it but one blank at most. The

@@ -18,6 +18,7 @@ mod schema_reading;
 mod schema_words;
 mod signed;
 mod text;
+mod writing;
 
 pub use at_least::a_schema_is_read_or_has_a_first_fault;
 pub use fault::LexFault;
@@ -33,3 +34,4 @@ pub use schema_reading::{read_schema, skip_schema};
 pub use schema_words::{embed_index, is_reserved, next_token, with_label};
 pub use signed::signed_value;
 pub use text::Text;
+pub use writing::{write_number, write_number_behind_blank, write_word};

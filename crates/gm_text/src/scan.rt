@@ -1,5 +1,6 @@
 ghost use Rattle.std.specs.Prelude.{◌≡◌, ◌+◌, ◌<◌, ◌≤◌, ◌||◌, true, false, not, length, drop, slice_index, IsTrue, IfSome, MatchOption};
 ghost use Rattle.std.specs.List.{take_while};
+ghost use Rattle.gm_model.specs.declared.token.TokenKind.TheVariants.{Name};
 ghost use Rattle.gm_model.specs.Symbols.{value_of};
 ghost use Rattle.gm_model.specs.Tokens as tokens;
 ghost use Rattle.gm_text.specs.Lexing.{IsGap, IsTokenAt, front_at};
@@ -46,6 +47,27 @@ pub fn number_near(text: &[u8], from: usize) -> Option<Token>
             kind: TokenKind::Number,
             start,
             end: number_end(text, start + 1),
+        });
+    }
+    None
+}
+
+/// The name that begins at `from`, or behind one blank there.
+// Inlined, as `small_at` is.
+#[inline(always)]
+pub fn name_near(text: &[u8], from: usize) -> Option<Token>
+    requires { from ≤ length text.now }
+    ensures kind { IfSome result (λ token. token.kind ≡ Name) }
+    ensures behind { IfSome result (λ token. from ≤ token.start) }
+    ensures same { IfSome result (λ token. tokens.items_at text.now from ≡ tokens.items_at text.now token.start) }
+    ensures token { IfSome result (λ token. IsTokenAt text.now token.start token) }
+{
+    let start = behind_blank(text, from);
+    if start < text.len() && is_letter(text[start]) {
+        return Some(Token {
+            kind: TokenKind::Name,
+            start,
+            end: name_end(text, start + 1),
         });
     }
     None

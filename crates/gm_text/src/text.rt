@@ -1,4 +1,4 @@
-ghost use Rattle.std.specs.Prelude.{◌≡◌, ◌++◌, ◌↔◌, [], length, IsTrue, IfOk, OnOk, OnErr, decimal};
+ghost use Rattle.std.specs.Prelude.{◌≡◌, ◌++◌, ◌≤◌, ◌↔◌, [], length, drop, IsTrue, IfOk, OnOk, OnErr, decimal};
 ghost use Rattle.std.specs.Fmt.{signed_decimal};
 
 use gm_model::OutOfMemory;
@@ -30,14 +30,13 @@ impl Text {
         }
     }
 
-    /// No bytes, in the room of these and with room for so many, so that they are written without
-    /// taking more memory. Memory that was written once takes less time to write than new memory.
-    pub fn in_place_of(mut bytes: Vec<u8>, room: usize) -> Result<Text, OutOfMemory>
+    /// No bytes, with room for so many, so that they are put without taking more memory.
+    pub fn with_room(alloc: Global, room: usize) -> Result<Text, OutOfMemory>
         ensures { IfOk result (λ text. text ≡ []) }
     {
-        bytes.clear();
-        bytes.reserve_exact(room)?;
-        Ok(Text { bytes })
+        Ok(Text {
+            bytes: Vec::with_capacity(alloc, room)?,
+        })
     }
 
     /// How many bytes there are.
@@ -61,6 +60,15 @@ impl Text {
     {
         self.bytes.extend_from_slice(bytes)?;
         Ok(())
+    }
+
+    /// Appends the bytes from a place on.
+    pub fn put_from(&mut self, bytes: &[u8], start: usize) -> Result<(), OutOfMemory>
+        requires { start ≤ length bytes.now }
+        ensures ok { OnOk result (self.new ≡ self.old ++ drop start bytes.now) }
+        ensures err { OnErr result (self.new ≡ self.old) }
+    {
+        self.put(&bytes[start..])
     }
 
     /// Appends the number in decimal digits, without leading zeros.

@@ -18,6 +18,6 @@ loop-from-preserved c =
     record {
       within = omega (arith, c.min-to.ensures);
       long = c.write_numbers-start.ensures.long ∙ l.invariant.long;
-      so_far = so_far_more before text l.text _ rest c.put_from.new.text (subst (IsSoFar before text l.text) here l.invariant.so_far)
+      so_far = so_far_more before text l.text _ rest c.put_from.new.self (subst (IsSoFar before text l.text) here l.invariant.so_far)
           (c.in_ok-put_from.ensures.ok ∙ ap (λ xs. l.text ++ xs) c.write_numbers-start.ensures.written);
     }

@@ -38,7 +38,7 @@ loop-slot-preserved g c =
     let m = c.args.arena.now in
     let long = slots_long m c.row-row.result.name c.row-row.result.alphas.now c.row-row.result.values.now c.requires c.row-row.ensures.dart in
     one_more m c.requires c.loop-slot.from c.args.text.now c.loop-slot.text c.args.steps.now c.loop-slot.steps c.loop-slot.invariant c.in-Some.slot.at c.row-row.result.name c.in-Some.ensures.slot c.row-row.ensures.name
-    _ c.put_from.new.text c.write_line-start.new.steps c.row-row.ensures.dart (c.in_ok-put_from.ensures ∙ ap (λ xs. c.loop-slot.text ++ xs) c.write_line-start.ensures.line) (omega (arith, long, c.in-Some.ensures.cost, c.row-row.ensures.cost, c.write_line-start.ensures.cost)) (omega (arith, c.in-Some.ensures.cost, c.row-row.ensures.cost, c.write_line-start.ensures.cost))
+    _ c.put_from.new.self c.write_line-start.new.steps c.row-row.ensures.dart (c.in_ok-put_from.ensures.ok ∙ ap (λ xs. c.loop-slot.text ++ xs) c.write_line-start.ensures.line) (omega (arith, long, c.in-Some.ensures.cost, c.row-row.ensures.cost, c.write_line-start.ensures.cost)) (omega (arith, c.in-Some.ensures.cost, c.row-row.ensures.cost, c.write_line-start.ensures.cost))
 
 pub returns-clause-lines : goal.returns-clause-lines
 returns-clause-lines g c =

@@ -12,4 +12,4 @@ returns-clause-line g c =
     let names = flat_map (λ a. 32 ∷ decimal a) (map (λ (s : Slot). name_at c.args.arena.now s.at) c.args.row.alphas.now) in
     let values = flat_map (λ v. 32 ∷ value_text v) c.args.row.values.now in
     let nothing = nil_from_length _ (omega (arith, length-drop 620 c.args.line.now, c.fits-line)) in
-    c.write_names.ensures.written ∙ ap (λ (xs : List ℕ). decimal c.args.row.name ++ (names ++ xs)) (c.write_values-first.ensures.written ∙ ap (λ (xs : List ℕ). values ++ xs) (c.write_byte-feed.ensures.written ∙ ap (λ (xs : List ℕ). 10 ∷ xs) nothing))
+    c.write_names.ensures.written ∙ ap (λ (xs : List ℕ). decimal c.args.row.name ++ (names ++ xs)) (c.write_values-first.ensures.written ∙ ap (λ (xs : List ℕ). values ++ xs) (c.write_word-feed.ensures.written ∙ ap (λ (xs : List ℕ). 10 ∷ xs) nothing))

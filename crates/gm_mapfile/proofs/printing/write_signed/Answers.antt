@@ -12,12 +12,12 @@ returns-then-x-ge0-clause-few c =
     let short = short_size c.unsigned_abs.result c.unsigned_abs.ensures.bound in
     omega (arith, short, c.write_digits-start.ensures.start)
 
-pub write_byte-requires-clause-room : goal.write_byte-requires-clause-room
-write_byte-requires-clause-room c =
+pub write_word-requires-clause-room : goal.write_word-requires-clause-room
+write_word-requires-clause-room c =
     let short = short_size c.unsigned_abs.result c.unsigned_abs.ensures.bound in
     omega (arith, short, c.requires.room, c.write_digits-start.ensures.start)
 
 pub returns-clause-few : goal.returns-clause-few
 returns-clause-few c =
     let short = short_size c.unsigned_abs.result c.unsigned_abs.ensures.bound in
-    omega (arith, short, c.write_digits-start.ensures.start, c.write_byte.ensures.before)
+    omega (arith, short, c.write_digits-start.ensures.start, c.write_word.ensures.before)
