@@ -89,9 +89,9 @@ module _ (app : PendingOf) (prepared : IsPrepared app) where
     IsAssignedAt x p = IsAssigned (rule_in app) e x × (p < app.placed.positions)
 
     -- no more darts than there are
-    pub few_reached : (reached : List Mark) (result : Unfolded) (count : ℕ) → AreResultDarts app reached → HasDistinctKeys reached → AreSomeReached app e embed reached → IsUnfoldedIn app result → HasCount (IsReachedIn app result e embed) count → length reached ≤ count
-    few_reached reached result count darts distinct some unfolded (all, listed, long) =
-        omega (arith, long, length-map reached (λ (r : Mark). name_of app r.at), few_among (names reached) all (distinct_names reached (distinct_darts reached darts distinct)) there)
+    pub few_reached : (reached : List Mark) (result : Unfolded) (count : ℕ) → HaveDistinctNames app reached → AreSomeReached app e embed reached → IsUnfoldedIn app result → HasCount (IsReachedIn app result e embed) count → length reached ≤ count
+    few_reached reached result count distinct some unfolded (all, listed, long) =
+        omega (arith, long, length-map reached (λ (r : Mark). name_of app r.at), few_among (names reached) all (distinct_names reached distinct) there)
       where
         there : (z : ℕ) → IsIn z (names reached) → IsIn z all
         there z i =
@@ -130,7 +130,7 @@ module _ (app : PendingOf) (prepared : IsPrepared app) where
     -- a walk that counts one step for each label of each dart that it reaches
     pub within_reach : (reached : List Mark) (old new : ℕ) → AreResultDarts app reached → HasDistinctKeys reached → AreSomeReached app e embed reached → new ≤ old + (app.map.schema.dim + 1) * length reached → IsWithinReach app e embed old new
     within_reach reached old new darts distinct some h result count unfolded counted =
-        let few : length reached ≤ count = few_reached reached result count darts distinct some unfolded counted in
+        let few : length reached ≤ count = few_reached reached result count (distinct_darts reached darts distinct) some unfolded counted in
         omega (arith, h, few_steps app.map.schema.dim (length reached) count few)
 
     -- ---- from instance to instance

@@ -21,7 +21,6 @@ use Rattle.gm_pending.specs.declared.changes.ValueAt.{ValueAt}
 use Rattle.gm_pending.specs.declared.marks.Mark.{Mark}
 use Rattle.gm_pending.specs.EditLists.{AreNewValues, IsNewValue, IsReachedSumIn, IsValueOfDart}
 use Rattle.gm_pending.specs.Gathered.{AreAllReached, AreGathered, AreGatheredBelow, AreGatheredFrom, HasReached}
-use Rattle.gm_pending.specs.Marks.{HasDistinctKeys}
 use Rattle.gm_pending.specs.Reached.{AreReached}
 use Rattle.gm_pending.specs.Results.{PendingOf, IsPrepared, IsReachedIn, IsResultDart, IsUnfoldedIn, IsValueIn, name_of, rule_in, place_in}
 use Rattle.gm_pending.specs.declared.deciding_instance.DecidingInstance.{DecidingInstance}
@@ -35,16 +34,16 @@ value_at slot e v = record { slot = slot; embed = e; value = v }
 
 -- ---- what was answered
 
-pub all_reached : (app : PendingOf) → IsPrepared app → (e : ℕ) (instances : List DecidingInstance) (reached : List Mark) → e < length app.map.schema.embeds → HasDistinctKeys reached →
+pub all_reached : (app : PendingOf) → IsPrepared app → (e : ℕ) (instances : List DecidingInstance) (reached : List Mark) → e < length app.map.schema.embeds →
     ((embed : Embed) → IsEmbedAt app.map.schema e embed → AreReached app e embed instances reached) → AreAllReached app e reached
-all_reached app prepared e instances reached low distinct are = record {
+all_reached app prepared e instances reached low are = record {
   dart = elim ((slice_get_cases app.map.schema.embeds e).1) [
     | inl (embed, below, at, is) ↦ (are embed at).darts
     | inr (past, none) ↦ absurd (omega arith)
   ];
   in_orbit = in_orbit;
   all = λ embed at. (are embed at).all;
-  few = λ count (result, embed, unfolds, at, counted). few_reached app prepared e embed at reached result count (are embed at).darts distinct (in_orbit embed at) unfolds counted;
+  few = λ count (result, embed, unfolds, at, counted). few_reached app prepared e embed at reached result count (are embed at).distinct (in_orbit embed at) unfolds counted;
 }
   where
     in_orbit : (embed : Embed) → IsEmbedAt app.map.schema e embed → (result : Unfolded) → IsUnfoldedIn app result → (entry : Mark) → Contains reached entry → IsReachedIn app result e embed (name_of app entry.at)

@@ -40,3 +40,4 @@ pub mod Told
 pub mod KeptArcs
 pub mod MadeLabels
 pub mod Taken
+pub mod ToldValues

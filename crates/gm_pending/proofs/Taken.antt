@@ -1,5 +1,5 @@
 -- Slots that are taken in one after another.
-use Rattle.std.proofs.Common.{◌≡◌, ◌≢◌, ℕ, ◌+◌, ◌*◌, ◌<◌, ◌≤◌, ◌⊎◌, List, [], ◌∷◌, ◌++◌, length, refl, sym, ap, ◌∙◌, subst, inl, inr, arith}
+use Rattle.std.proofs.Common.{◌≡◌, ◌≢◌, ℕ, ◌+◌, ◌*◌, ◌<◌, ◌≤◌, ◌⊎◌, List, [], ◌∷◌, ◌++◌, length, sym, ap, ◌∙◌, subst, inl, inr, arith}
 use Rattle.std.specs.List.{Contains}
 use Rattle.std.proofs.lemmas.List.{length_push}
 use Rattle.std.proofs.lemmas.List.Elements.{Contains-append_left, Contains-push, Contains-push_cases}
@@ -12,7 +12,7 @@ use Rattle.gm_pending.specs.declared.changes.ValueAt.{ValueAt}
 use Rattle.gm_pending.specs.EditLists.{EditLists, AreDistinct, AreEditsHere, AreEditsOf, IsReachedSumIn, IsTouchedBy, Matched, Valued}
 use Rattle.gm_pending.specs.OwnEdits.{AreTouched}
 use Rattle.gm_pending.specs.Results.{PendingOf, rule_in}
-use Rattle.gm_pending.specs.Touched.{AreTaken, IsSetAmong, touched_of}
+use Rattle.gm_pending.specs.Touched.{AreTaken, IsSetAmong}
 use Rattle.gm_pending.proofs.Whole.{contains_first, contains_later, contains_none}
 
 pub none_taken : AreTaken [] [] []
@@ -25,19 +25,15 @@ none_taken = record {
 }
 
 -- where no value is set, the slots are taken in as they stand
-pub none_valued : (values : List ValueAt) (slots others : List Slot) → length values ≡ 0 → AreDistinct slots → AreTaken slots values (touched_of values slots others)
-none_valued [] slots others none distinct = record {
+pub none_valued : (values : List ValueAt) (slots : List Slot) → length values ≡ 0 → AreDistinct slots → AreTaken slots values slots
+none_valued [] slots none distinct = record {
   from = λ slot among. inl among;
   all = λ slot among. among;
   set = λ slot set. absurd (contains_none set.0 set.1);
   distinct = distinct;
   few = omega arith;
 }
-none_valued (at ∷ values) slots others none distinct = absurd (omega (arith, none))
-
-pub others_touched : (values : List ValueAt) (slots others : List Slot) → (length values ≡ 0 → ⊥) → touched_of values slots others ≡ others
-others_touched [] slots others some = absurd (some refl)
-others_touched (at ∷ values) slots others some = refl
+none_valued (at ∷ values) slots none distinct = absurd (omega (arith, none))
 
 distinct_push : (slots : List Slot) (slot : Slot) → AreDistinct slots → (Contains slots slot → ⊥) → AreDistinct (slots ++ slot ∷ [])
 distinct_push [] slot distinct new = (λ other among. absurd (contains_none other among), tt)

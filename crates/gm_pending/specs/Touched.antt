@@ -1,5 +1,5 @@
 -- How the slots that edits touch are taken in, each once. No public clause cites this module.
-use Rattle.std.specs.Prelude.{◌≡◌, ◌+◌, ◌≤◌, ◌⊎◌, List, [], ◌∷◌, length}
+use Rattle.std.specs.Prelude.{◌≡◌, ◌+◌, ◌≤◌, ◌⊎◌, List, length, Option, None, Some}
 use Rattle.std.specs.List.{Contains}
 use Rattle.gm_arena.specs.declared.slot.Slot.{Slot}
 use Rattle.gm_pending.specs.declared.changes.ValueAt.{ValueAt}
@@ -17,7 +17,7 @@ pub record AreTaken (slots : List Slot) (values : List ValueAt) (taken : List Sl
   pub distinct : AreDistinct taken
   pub few : length taken ≤ length slots + length values
 
--- those of the matched darts, where no value is set, and else the others that are given
-abbrev pub touched_of : List ValueAt → List Slot → List Slot → List Slot
-touched_of [] matched others = matched
-touched_of (at ∷ values) matched others = others
+-- the slots that were taken in, or the matched ones where none were
+abbrev pub touched_or : List Slot → Option (List Slot) → List Slot
+touched_or matched None = matched
+touched_or matched (Some taken) = taken

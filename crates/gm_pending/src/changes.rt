@@ -4,6 +4,7 @@ ghost use Rattle.gm_pending.specs.Collected.{AreAlike, has_bit, told_by, rewrite
 ghost use Rattle.gm_pending.specs.EditLists.{AllGiven, AreEditsOf, IsReachedSumIn};
 ghost use Rattle.gm_pending.specs.Results.{rule_in};
 
+use crate::decided_orbits::OrbitsByEmbed;
 use crate::pending::Pending;
 use crate::rewrite::Rewrite;
 use gm_arena::{Slot, Steps};
@@ -29,8 +30,8 @@ pub struct Changes<'a> {
     /// The values of the new darts: those of one dart after those of another, by their number, one
     /// for each embedding.
     pub(crate) added_values: Vec<Value>,
-    /// The values that darts of the old map get.
-    pub(crate) values: Vec<ValueAt>,
+    /// What decides the values that darts of the old map get.
+    pub(crate) orbits: OrbitsByEmbed,
     /// The slots of the left nodes, by node and then by position, and room for those of the new
     /// darts behind them.
     pub(crate) slots: Vec<Slot>,
@@ -41,13 +42,13 @@ impl<'a> Model for Changes<'a> {
     ghost use Rattle.std.specs.Vec.{vec_capacity};
     ghost use Rattle.gm_pending.specs.Collected.{told_by, left_slots};
     ghost use Rattle.gm_pending.specs.EditLists.{EditLists, AreDistinct};
-    ghost use Rattle.gm_pending.specs.ToldEdits.{lists_told};
+    ghost use Rattle.gm_pending.specs.ToldEdits.{lists_told, values_told};
 
     ghost Value = { EditLists };
 
-    ghost view = { λ c. lists_told (told_by c.rewrite) c.added c.added_values.items c.values.items };
+    ghost view = { λ c. lists_told (told_by c.rewrite) c.added c.added_values.items (values_told c.orbits.items) };
 
-    ghost invariant = { λ c. (c.slots.items ≡ left_slots (told_by c.rewrite)) × (length c.slots.items + c.added ≤ vec_capacity c.slots) × AreDistinct c.slots.items };
+    ghost invariant = { λ c. (c.slots.items ≡ left_slots (told_by c.rewrite)) × (length c.slots.items + c.added ≤ vec_capacity c.slots) × AreDistinct c.slots.items × (length c.orbits.items ≤ 255) };
 }
 
 impl<'a> Pending<'a, '_> {
@@ -56,7 +57,7 @@ impl<'a> Pending<'a, '_> {
     /// back.
     pub fn into_changes<L: Ledger>(
         self,
-        slots: Vec<Slot>,
+        mut slots: Vec<Slot>,
         steps: &mut Steps<L>,
     ) -> Result<Changes<'a>, OutOfMemory>
         requires given { AllGiven self }
@@ -64,32 +65,25 @@ impl<'a> Pending<'a, '_> {
         ensures cost { (reached : ℕ) → IsReachedSumIn self.entry reached → steps.new ≤ steps.old + 6 * (self.entry.map.schema.dim + 1) * (length (rule_in self.entry).nodes * self.entry.placed.positions + reached + 1) }
         ensures least { steps.old ≤ steps.new }
     {
-        let changes = self.changes(slots, steps);
-        drop(self);
-        changes
-    }
-
-    fn changes<L: Ledger>(
-        &self,
-        mut slots: Vec<Slot>,
-        steps: &mut Steps<L>,
-    ) -> Result<Changes<'a>, OutOfMemory>
-        requires given { AllGiven self.now }
-        ensures edits { IfOk result (λ edits. AreEditsOf self.now edits) }
-        ensures cost { (reached : ℕ) → IsReachedSumIn self.now reached → steps.new ≤ steps.old + 6 * (self.now.map.schema.dim + 1) * (length (rule_in self.now).nodes * self.now.placed.positions + reached + 1) }
-        ensures least { steps.old ≤ steps.new }
-    {
         let new_nodes = self.plan.added();
         let added = new_nodes as usize * self.found.positions() as usize;
         let rewrite = self.rewrite();
         rewrite.left_slots(self.left_nodes(), new_nodes, &mut slots)?;
         let added_values = self.added_values(added, steps)?;
-        let values = self.new_values()?;
+        let Pending {
+            plan: _,
+            arena: _,
+            found: _,
+            alloc: _,
+            lookup,
+            orbits,
+        } = self;
+        drop(lookup);
         Ok(Changes {
             rewrite,
             added,
             added_values,
-            values,
+            orbits,
             slots,
         })
     }

@@ -15,10 +15,16 @@ ghost use Rattle.gm_pending.specs.declared.rewrite.Arcs.TheVariants.{Freed, Made
 ghost use Rattle.gm_pending.specs.Collected.{told_by, written_step, arc_between, arcs_to, arcs_at, arcs_in, all_arcs, removed_in, all_removed, left_slots, made_in, AreSlots};
 ghost use Rattle.gm_pending.specs.EditLists.{AreEditsHere, AreEditsOf, HasSameRows, IsReachedSumIn, IsResultOf, IsUntouched, cost_of};
 ghost use Rattle.gm_pending.specs.Results.{PendingOf, rule_in};
+ghost use Rattle.gm_pending.specs.ToldEdits.{told_of, values_told};
 ghost use Rattle.gm_pending.specs.Written.{IsWritable, IsSettable, CanRemove, IsExtended, end_at, with_arcs, with_values, without_darts};
 
-use crate::changes::{Changes, ValueAt};
+use crate::at::At;
+use crate::changes::Changes;
+use crate::decided_orbits::DecidedOrbits;
+use crate::deciding_instance::DecidingInstance;
+use crate::marks::Mark;
 use crate::rewrite::{Arcs, Rewrite};
+use crate::values::given;
 use gm_arena::{Arena, Slot, Steps};
 use gm_model::{Step, Value};
 use std::sync::ledger::Ledger;
@@ -50,13 +56,13 @@ impl Changes<'_> {
             rewrite,
             added,
             added_values,
-            values,
+            orbits,
             mut slots,
         } = self;
         rewrite.clear(&slots, arena, steps);
         add_darts(arena, added, &added_values, &mut slots, steps);
         rewrite.write(Arcs::Made, &slots, arena, steps);
-        set_values(&values, arena, steps);
+        set_values(&orbits, arena, steps);
         slots
     }
 }
@@ -235,13 +241,47 @@ fn add_darts<L: Ledger>(
     }
 }
 
-/// Sets the values one after another.
-fn set_values<L: Ledger>(values: &[ValueAt], arena: &mut Arena, steps: &mut Steps<L>)
-    requires { (at : ValueAt) → Contains values.now at → IsSettable arena.old at }
-    ensures map { arena.new ≡ with_values arena.old values.now }
-    ensures cost { steps.new ≡ steps.old + length values.now }
+/// Sets the values that old darts get, embedding by embedding.
+fn set_values<L: Ledger>(
+    by_embed: &[Option<DecidedOrbits>],
+    arena: &mut Arena,
+    steps: &mut Steps<L>,
+)
+    requires few { length by_embed.now ≤ 255 }
+    requires settable { (at : ValueAt) → Contains (values_told by_embed.now) at → IsSettable arena.old at }
+    ensures map { arena.new ≡ with_values arena.old (values_told by_embed.now) }
+    ensures cost { steps.new ≡ steps.old + length (values_told by_embed.now) }
 {
-    for entry in values {
-        arena.set_value(entry.slot, entry.embed, entry.value, steps);
+    for embed in 0..by_embed.len() as u8 {
+        if let Some(orbits) = &by_embed[embed as usize] {
+            set_values_of(
+                embed,
+                &orbits.instances,
+                orbits.marks.as_slice(),
+                arena,
+                steps,
+            );
+        }
+    }
+}
+
+/// Sets the values of the embedding that old darts get.
+fn set_values_of<L: Ledger>(
+    embed: u8,
+    instances: &[DecidingInstance],
+    marks: &[Mark],
+    arena: &mut Arena,
+    steps: &mut Steps<L>,
+)
+    requires { (at : ValueAt) → Contains (told_of embed instances.now marks.now) at → IsSettable arena.old at }
+    ensures map { arena.new ≡ with_values arena.old (told_of embed instances.now marks.now) }
+    ensures cost { steps.new ≡ steps.old + length (told_of embed instances.now marks.now) }
+{
+    for mark in marks {
+        if let At::Old(slot) = mark.at {
+            if let Some(value) = given(instances, mark.instance) {
+                arena.set_value(slot, embed, value, steps);
+            }
+        }
     }
 }

@@ -1,6 +1,7 @@
 ghost use Rattle.std.specs.Prelude.{◌≡◌, ◌≢◌, ℕ, ◌+◌, ◌-◌, ◌*◌, ◌<◌, ◌≤◌, List, [], length, IfOk};
 ghost use Rattle.std.specs.FinMap.{get};
 ghost use Rattle.std.specs.List.{Contains};
+ghost use Rattle.std.specs.Option.{option_map};
 ghost use Rattle.gm_model.specs.Maps.{IsGeneralised};
 ghost use Rattle.gm_arena.specs.ArenaAsMap.{as_map};
 ghost use Rattle.gm_arena.specs.ArenaMap.{IsLiveSlot};
@@ -9,10 +10,12 @@ ghost use Rattle.gm_pending.specs.declared.changes.ValueAt.{ValueAt};
 ghost use Rattle.gm_pending.specs.EditLists.{AreDistinct, AreEditsHere, AreEditsOf, HasSameRows, IsReachedSumIn, IsResultOf, IsUntouched, cost_of};
 ghost use Rattle.gm_pending.specs.OwnEdits.{AreTouched};
 ghost use Rattle.gm_pending.specs.Results.{PendingOf, rule_in};
-ghost use Rattle.gm_pending.specs.Touched.{AreTaken, touched_of};
+ghost use Rattle.gm_pending.specs.Touched.{AreTaken, touched_or};
 
 use crate::applied::Applied;
 use crate::changes::{Changes, ValueAt};
+use crate::decided_orbits::OrbitsByEmbed;
+use crate::gathering::new_values;
 use crate::rewrite::Rewrite;
 use gm_arena::{Arena, Slot, Steps};
 use gm_model::{MOST_DARTS, MOST_LABELS, OutOfMemory, Step, Value};
@@ -35,30 +38,32 @@ pub struct Edits {
     found: Instances,
     added: usize,
     added_values: Vec<Value>,
-    values: Vec<ValueAt>,
+    orbits: OrbitsByEmbed,
     slots: Vec<Slot>,
     /// The slots of the darts that are touched; where no value is set, they are those of the left
-    /// nodes, and none stands here.
-    touched: Vec<Slot>,
+    /// nodes.
+    touched: Option<Vec<Slot>>,
 }
 
 impl Model for Edits {
     ghost use Rattle.std.specs.Prelude.{◌≡◌, ◌+◌, ◌≤◌, length};
+    ghost use Rattle.std.specs.Option.{option_map};
     ghost use Rattle.std.specs.Vec.{vec_capacity};
     ghost use Rattle.gm_pending.specs.Collected.{IsFitted, rows_at, told_by, left_slots, all_removed};
     ghost use Rattle.gm_pending.specs.OwnEdits.{OwnEdits, own_edits};
     ghost use Rattle.gm_pending.specs.EditLists.{AreDistinct};
-    ghost use Rattle.gm_pending.specs.ToldEdits.{lists_told};
-    ghost use Rattle.gm_pending.specs.Touched.{touched_of};
+    ghost use Rattle.gm_pending.specs.ToldEdits.{lists_told, values_told};
+    ghost use Rattle.gm_pending.specs.Touched.{touched_or};
 
     ghost Value = { OwnEdits };
 
-    ghost view = { λ e. own_edits (lists_told (told_by (rows_at e.dim e.removes e.goes e.freed.items e.made.items e.found)) e.added e.added_values.items e.values.items) (touched_of e.values.items e.slots.items e.touched.items) };
+    ghost view = { λ e. own_edits (lists_told (told_by (rows_at e.dim e.removes e.goes e.freed.items e.made.items e.found)) e.added e.added_values.items (values_told e.orbits.items)) (touched_or e.slots.items (option_map (λ t. t.items) e.touched)) };
 
     ghost invariant = { λ e. IsFitted (rows_at e.dim e.removes e.goes e.freed.items e.made.items e.found)
         × (e.slots.items ≡ left_slots (told_by (rows_at e.dim e.removes e.goes e.freed.items e.made.items e.found)))
         × (length e.slots.items + e.added ≤ vec_capacity e.slots)
         × AreDistinct e.slots.items
+        × (length e.orbits.items ≤ 255)
         × (e.applied.added ≡ e.added)
         × (e.applied.removed ≡ length (all_removed (told_by (rows_at e.dim e.removes e.goes e.freed.items e.made.items e.found)))) };
 }
@@ -81,12 +86,13 @@ impl Changes<'_> {
         ensures few { (app : PendingOf) (reached : ℕ) → AreEditsOf app self.entry → IsReachedSumIn app reached → IfOk result (λ edits. length edits.touched ≤ length (rule_in app).nodes * app.placed.positions + reached) }
         ensures room { scratch.old.bound ≤ scratch.new.bound }
     {
-        let touched = touched_slots(alloc, &self.slots, &self.values, arena, scratch)?;
+        let values = new_values(alloc, &self.orbits)?;
+        let touched = touched_slots(alloc, &self.slots, &values, arena, scratch)?;
         let Changes {
             rewrite,
             added,
             added_values,
-            values,
+            orbits,
             slots,
         } = self;
         Ok(Edits {
@@ -99,7 +105,7 @@ impl Changes<'_> {
             found: rewrite.found.copy(alloc)?,
             added,
             added_values,
-            values,
+            orbits,
             slots,
             touched,
         })
@@ -107,22 +113,22 @@ impl Changes<'_> {
 }
 
 /// The slots and those of the values, each once. Where there is no value, they are the slots as they
-/// stand, and none is answered.
+/// stand, and none are answered.
 fn touched_slots(
     alloc: Global,
     slots: &[Slot],
     values: &[ValueAt],
     arena: &Arena,
     scratch: &mut Scratch,
-) -> Result<Vec<Slot>, OutOfMemory>
+) -> Result<Option<Vec<Slot>>, OutOfMemory>
     requires matched { (slot : Slot) → Contains slots.now slot → IsLiveSlot arena.now slot.at }
     requires distinct { AreDistinct slots.now }
     requires valued { (at : ValueAt) → Contains values.now at → IsLiveSlot arena.now at.slot.at }
-    ensures taken { IfOk result (λ touched. AreTaken slots.now values.now (touched_of values.now slots.now touched.items)) }
+    ensures taken { IfOk result (λ touched. AreTaken slots.now values.now (touched_or slots.now (option_map (λ t. t.items) touched))) }
     ensures room { scratch.old.bound ≤ scratch.new.bound }
 {
     if values.is_empty() {
-        return Ok(Vec::new(alloc));
+        return Ok(None);
     }
     scratch.fit(arena)?;
     // The arena tells here that its live slots lie below its bound.
@@ -133,7 +139,7 @@ fn touched_slots(
     }
     take_values(values, scratch);
     let touched = Vec::from_slice(alloc, scratch.walked())?;
-    Ok(touched)
+    Ok(Some(touched))
 }
 
 /// Takes the slots in that get values and aren't among those that were taken in.
@@ -152,10 +158,9 @@ impl Edits {
     pub fn touched(&self) -> &[Slot]
         ensures { result.now ≡ self.now.touched }
     {
-        if self.values.is_empty() {
-            &self.slots
-        } else {
-            &self.touched
+        match &self.touched {
+            Some(touched) => touched,
+            None => &self.slots,
         }
     }
 
@@ -191,7 +196,7 @@ impl Edits {
             found,
             added,
             added_values,
-            values,
+            orbits,
             slots,
             touched: _,
         } = self;
@@ -206,7 +211,7 @@ impl Edits {
             },
             added,
             added_values,
-            values,
+            orbits,
             slots,
         };
         changes.commit(arena, steps);

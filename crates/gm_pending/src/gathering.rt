@@ -1,19 +1,23 @@
 //! The values that the darts of a result get, gathered before anything is written.
-ghost use Rattle.std.specs.Prelude.{◌≡◌, ℕ, ◌+◌, ◌*◌, ◌<◌, ◌≤◌, length, IfOk, OnOk, IsTrue};
+ghost use Rattle.std.specs.Prelude.{◌≡◌, ℕ, ◌+◌, ◌*◌, ◌<◌, ◌≤◌, ◌++◌, length, IfOk, OnOk, IsTrue};
 ghost use Rattle.gm_model.specs.Rules.{is_added};
 ghost use Rattle.gm_model.specs.Unfolding.{added_nodes};
-ghost use Rattle.gm_pending.specs.EditLists.{AllGiven, AreAddedValues, AreNewValues};
-ghost use Rattle.gm_pending.specs.Gathered.{AreDecidedBelow, AreGathered, AreKeptValues, new_number};
+ghost use Rattle.gm_pending.specs.EditLists.{AllGiven, AreAddedValues};
+ghost use Rattle.gm_pending.specs.Gathered.{AreDecidedBelow, AreKeptValues, new_number};
 ghost use Rattle.gm_pending.specs.Results.{IsPrepared, rule_in};
 ghost use Rattle.gm_pending.specs.Sources.{AreKeepers};
+ghost use Rattle.gm_pending.specs.ToldEdits.{told_of, values_told};
 
 use crate::at::At;
 use crate::changes::ValueAt;
-use crate::marks::push;
+use crate::decided_orbits::DecidedOrbits;
+use crate::deciding_instance::DecidingInstance;
+use crate::marks::{Mark, push};
 use crate::pending::Pending;
 use crate::values::given;
 use gm_arena::Steps;
 use gm_model::{MOST_EMBEDS, OutOfMemory, Value};
+use std::alloc::Global;
 use std::sync::ledger::Ledger;
 
 impl Pending<'_, '_> {
@@ -125,8 +129,10 @@ impl Pending<'_, '_> {
         let width = self.embeds() as usize;
         for entry in orbits.marks.as_slice() {
             if let At::New { node, position } = entry.at {
-                let number = self.new_number(node, position);
-                values[number * width + embed as usize] = given(&orbits.instances, entry.instance);
+                if let Some(value) = given(&orbits.instances, entry.instance) {
+                    let number = self.new_number(node, position);
+                    values[number * width + embed as usize] = value;
+                }
             }
         }
     }
@@ -153,32 +159,45 @@ impl Pending<'_, '_> {
         }
         keepers
     }
+}
 
-    /// The values that old darts get.
-    pub(crate) fn new_values(&self) -> Result<Vec<ValueAt>, OutOfMemory>
-        requires given { AllGiven self.now }
-        ensures values { IfOk result (λ values. AreNewValues self.now values.items) }
-    {
-        let mut values = Vec::new(self.alloc);
-        for embed in 0..self.embeds() {
-            self.put_new_values(embed, &mut values)?;
+/// The values that old darts get, embedding by embedding.
+pub(crate) fn new_values(
+    alloc: Global,
+    by_embed: &[Option<DecidedOrbits>],
+) -> Result<Vec<ValueAt>, OutOfMemory>
+    requires { length by_embed.now ≤ 255 }
+    ensures { IfOk result (λ values. values.items ≡ values_told by_embed.now) }
+{
+    let mut values = Vec::new(alloc);
+    for embed in 0..by_embed.len() as u8 {
+        if let Some(orbits) = &by_embed[embed as usize] {
+            put_new_values(
+                embed,
+                &orbits.instances,
+                orbits.marks.as_slice(),
+                &mut values,
+            )?;
         }
-        Ok(values)
     }
+    Ok(values)
+}
 
-    /// Puts the values of the embedding that old darts get behind those of the earlier ones.
-    fn put_new_values(&self, embed: u8, values: &mut Vec<ValueAt>) -> Result<(), OutOfMemory>
-        requires embed { embed < length self.now.map.schema.embeds }
-        requires given { AllGiven self.now }
-        ensures values { OnOk result (AreGathered self.now embed values.old.items values.new.items) }
-    {
-        let orbits = self.orbits(embed);
-        for entry in orbits.marks.as_slice() {
-            if let At::Old(slot) = entry.at {
-                let value = given(&orbits.instances, entry.instance);
-                push(values, ValueAt { slot, embed, value }, orbits.marks.len())?;
+/// Puts the values of the embedding that old darts get behind those of the earlier ones.
+fn put_new_values(
+    embed: u8,
+    instances: &[DecidingInstance],
+    marks: &[Mark],
+    values: &mut Vec<ValueAt>,
+) -> Result<(), OutOfMemory>
+    ensures { OnOk result (values.new.items ≡ values.old.items ++ told_of embed instances.now marks.now) }
+{
+    for mark in marks {
+        if let At::Old(slot) = mark.at {
+            if let Some(value) = given(instances, mark.instance) {
+                push(values, ValueAt { slot, embed, value }, marks.len())?;
             }
         }
-        Ok(())
     }
+    Ok(())
 }

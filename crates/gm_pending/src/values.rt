@@ -89,7 +89,7 @@ impl Pending<'_, '_> {
     {
         let orbits = self.orbits(embed);
         let index = orbits.marks.decided_by(at)?;
-        Some(given(&orbits.instances, index))
+        given(&orbits.instances, index)
     }
 
     /// The old dart whose value a dart has in an orbit without a deciding instance.
@@ -144,13 +144,9 @@ impl Pending<'_, '_> {
     }
 }
 
-/// The value that was given to a deciding instance.
-pub(crate) fn given(instances: &[DecidingInstance], index: u32) -> Value
-    requires { IsSome (given_of instances.now index) }
-    ensures { given_of instances.now index ≡ Some result }
+/// The value that was given to a deciding instance, if one was.
+pub(crate) fn given(instances: &[DecidingInstance], index: u32) -> Option<Value>
+    ensures { result ≡ given_of instances.now index }
 {
-    match instances[index as usize].given {
-        Some(value) => value,
-        None => unreachable!(),
-    }
+    instances.get(index as usize)?.given
 }

@@ -9,6 +9,10 @@ use std::alloc::Global;
 use std::marker::Model;
 use std::mem;
 
+/// So many marks are made ahead, so that a map that grows by a few darts at a time is seldom met
+/// here again.
+const MARKS_AHEAD: usize = 1_024;
+
 /// The room in which walks are made, one after another. Contracts see for how many slots it has
 /// room, and the slots of the last walk.
 #[derive(Drop)]
@@ -124,7 +128,8 @@ impl Scratch {
         let room = bound.max(MOST_DARTS as usize);
         self.queue.reserve_exact(room - self.queue.len())?;
         self.marks.reserve_exact(room - self.marks.len())?;
-        self.marks.resize(bound, 0)?;
+        let made = room.min(bound + MARKS_AHEAD);
+        self.marks.resize(made, 0)?;
         Ok(())
     }
 

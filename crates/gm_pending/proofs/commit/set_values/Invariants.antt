@@ -1,11 +1,12 @@
-use Rattle.std.proofs.Common.{◌≡◌, ◌+◌, drop}
+use Rattle.std.proofs.Common.{◌≡◌, ◌+◌, drop, length}
+use Rattle.gm_pending.specs.ToldEdits.{told_from, values_told}
 use Rattle.gm_pending.specs.Written.{with_values}
 use Rattle.gm_pending.proofs.commit.set_values.Given as goal
 
-abbrev pub invariant-loop-entry : goal.invariant-loop-entry
-invariant-loop-entry g l = record {
+abbrev pub invariant-loop-embed : goal.invariant-loop-embed
+invariant-loop-embed g l = record {
   slots : l.arena.slots ≡ l.fn.arena.slots;
   schema : l.arena.schema ≡ l.fn.arena.schema;
-  rest : with_values l.arena (drop l.entry-index l.values) ≡ with_values l.fn.arena l.values;
-  cost : l.steps ≡ l.fn.steps + l.entry-index;
+  rest : with_values l.arena (told_from l.embed (drop l.embed l.by_embed)) ≡ with_values l.fn.arena (values_told l.by_embed);
+  cost : l.steps + length (told_from l.embed (drop l.embed l.by_embed)) ≡ l.fn.steps + length (values_told l.by_embed);
 }

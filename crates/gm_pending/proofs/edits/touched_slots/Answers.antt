@@ -1,15 +1,15 @@
 use Rattle.std.proofs.Common.{◌≡◌, List, [], length, ap, subst, sym, take, ◌∙◌, arith}
-use Rattle.std.proofs.lemmas.Bool.{eqb-true, eqb-false}
+use Rattle.std.proofs.lemmas.Bool.{eqb-true}
 use Rattle.std.proofs.lemmas.List.{take_more, take_all}
 use Rattle.gm_arena.specs.declared.slot.Slot.{Slot}
 use Rattle.gm_walk.specs.Room.{Room}
 use Rattle.gm_pending.specs.Touched.{AreTaken}
-use Rattle.gm_pending.proofs.Taken.{none_taken, none_valued, others_touched, same_bound, take_slot, within}
+use Rattle.gm_pending.proofs.Taken.{none_taken, none_valued, same_bound, take_slot, within}
 use Rattle.gm_pending.proofs.Whole.{contains_at}
 use Rattle.gm_pending.proofs.edits.touched_slots.Goals as goal
 
 pub returns-then-is_empty-clause-taken : goal.returns-then-is_empty-clause-taken
-returns-then-is_empty-clause-taken c = none_valued c.args.values.now c.args.slots.now _ (eqb-true (length c.args.values.now) 0 (sym c.is_empty.ensures ∙ c.if-is_empty.true)) c.requires.distinct
+returns-then-is_empty-clause-taken c = none_valued c.args.values.now c.args.slots.now (eqb-true (length c.args.values.now) 0 (sym c.is_empty.ensures ∙ c.if-is_empty.true)) c.requires.distinct
 
 pub loop-slot-init : goal.loop-slot-init
 loop-slot-init c = record {
@@ -39,4 +39,4 @@ returns-clause-taken c =
     let whole : take c.loop-slot.slot-index c.args.slots.now ≡ c.args.slots.now = take_all c.loop-slot.slot-index c.args.slots.now c.loop-slot-test.false in
     let taken = c.take_values.ensures.taken c.args.slots.now (subst (λ (slots : List Slot). AreTaken slots [] c.loop-slot.scratch.walked) whole c.loop-slot.invariant.taken) in
     let walked = c.in_ok-touched.ensures.items ∙ c.walked.ensures.value in
-    rw (others_touched c.args.values.now c.args.slots.now c.in_ok-touched.touched.items (eqb-false (length c.args.values.now) 0 (sym c.is_empty.ensures ∙ c.if-is_empty.false)), walked) taken
+    rw walked taken

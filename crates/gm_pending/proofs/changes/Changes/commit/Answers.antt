@@ -2,6 +2,7 @@ use Rattle.std.proofs.Common.{◌≡◌, ℕ, ◌+◌, ◌*◌, ◌≤◌, [], l
 use Rattle.gm_pending.specs.Collected.{told_by, made_in}
 use Rattle.gm_pending.specs.EditLists.{EditLists, AreEditsOf, HasSameRows}
 use Rattle.gm_pending.specs.Results.{PendingOf, rule_in}
+use Rattle.gm_pending.specs.ToldEdits.{values_told}
 use Rattle.gm_pending.specs.Written.{IsExtended, end_at, with_arcs, with_values}
 use Rattle.gm_pending.proofs.Stages.{freeing, removing, adding_long, adding_values, adding_names, adding_room, linking, setting, committed, IsCommitted}
 use Rattle.gm_pending.proofs.Table.{with_made}
@@ -68,8 +69,11 @@ write-requires-clause-arcs g c =
     let is_more : IsExtended c.clear.new.arena c.args.self.added_values (drop (length c.self.inside.slots.items) c.add_darts.new.slots.items) more = subst (λ values. IsExtended c.clear.new.arena values (drop (length c.self.inside.slots.items) c.add_darts.new.slots.items) more) (c.deref-2.ensures.value ∙ ap (λ (e : EditLists). e.added_values) c.self.view_is) c.add_darts.ensures.map in
     rw (ap (λ (e : EditLists). e.arcs) c.self.view_is, (with_made (told_by c.self.inside.rewrite) c.self.inside.slots.items c.add_darts.new.slots.items c.deref-3.result.now c.self.invariant.0 c.add_darts.ensures.slots c.deref-3.ensures.value).0) (linking edits.0 c.args.self c.args.arena.now edits.1 edits.2 freed refl c.clear.new.arena is_fewer (drop (length c.self.inside.slots.items) c.add_darts.new.slots.items) more is_more long)
 
-pub set_values-requires : goal.set_values-requires
-set_values-requires g c =
+pub set_values-requires-clause-few : goal.set_values-requires-clause-few
+set_values-requires-clause-few g c = rw c.deref-4.ensures.value c.self.invariant.3
+
+pub set_values-requires-clause-settable : goal.set_values-requires-clause-settable
+set_values-requires-clause-settable g c =
     let edits = c.requires.edits in
     let freed = with_arcs (end_at c.args.arena.now []) c.args.arena.now c.args.self.freed in
     let is_fewer = rw (ap (λ (e : EditLists). e.freed) c.self.view_is, ap (λ (e : EditLists). e.removed) c.self.view_is) at c.clear.ensures.map in
@@ -92,7 +96,7 @@ done g c app same ok =
     let is_linked : c.write.new.arena ≡ with_arcs (end_at more (drop (length c.self.inside.slots.items) c.add_darts.new.slots.items)) more c.args.self.arcs = c.write.ensures.map
     ∙ ap (λ arcs. with_arcs (end_at more (made_in (told_by c.self.inside.rewrite) c.deref-3.result.now)) more arcs) (ap (λ (e : EditLists). e.arcs) c.self.view_is)
     ∙ ap (λ made. with_arcs (end_at more made) more c.args.self.arcs) (with_made (told_by c.self.inside.rewrite) c.self.inside.slots.items c.add_darts.new.slots.items c.deref-3.result.now c.self.invariant.0 c.add_darts.ensures.slots c.deref-3.ensures.value).0 in
-    let is_valued : c.set_values.new.arena ≡ with_values c.write.new.arena c.args.self.values = c.set_values.ensures.map ∙ ap (with_values c.write.new.arena) (c.deref-4.ensures.value ∙ ap (λ (e : EditLists). e.values) c.self.view_is) in
+    let is_valued : c.set_values.new.arena ≡ with_values c.write.new.arena c.args.self.values = c.set_values.ensures.map ∙ ap (with_values c.write.new.arena) (ap values_told c.deref-4.ensures.value ∙ ap (λ (e : EditLists). e.values) c.self.view_is) in
     committed app c.args.self c.args.arena.now same ok freed refl c.clear.new.arena is_fewer (drop (length c.self.inside.slots.items) c.add_darts.new.slots.items) more is_more long c.write.new.arena is_linked c.set_values.new.arena is_valued
 
 pub returns-clause-unfolded : goal.returns-clause-unfolded
@@ -128,7 +132,7 @@ total g c = omega (
   ap (λ (e : EditLists). length e.removed) c.self.view_is,
   ap (λ (e : EditLists). e.added) c.self.view_is,
   ap (λ (e : EditLists). length e.arcs) c.self.view_is,
-  ap length (c.deref-4.ensures.value ∙ ap (λ (e : EditLists). e.values) c.self.view_is),
+  ap length (ap values_told c.deref-4.ensures.value ∙ ap (λ (e : EditLists). e.values) c.self.view_is),
 )
 
 pub returns-clause-cost : goal.returns-clause-cost

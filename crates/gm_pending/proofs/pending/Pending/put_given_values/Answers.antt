@@ -1,4 +1,5 @@
-use Rattle.std.proofs.Common.{◌≡◌, ◌*◌, length, get_or, IsSome, None, Some, sym, ◌∙◌, subst, arith, mul_comm}
+use Rattle.std.proofs.Common.{◌≡◌, ◌*◌, length, get_or, IsSome, None, Some, sym, ap, ◌∙◌, subst, arith, mul_comm}
+use Rattle.std.proofs.lemmas.Bool.{false≢true}
 use Rattle.std.proofs.lemmas.Nat.{mul-add-lt}
 use Rattle.std.proofs.lemmas.Option.{slice_get-get_or}
 use Rattle.gm_model.specs.Unfolding.{added_nodes}
@@ -9,7 +10,7 @@ use Rattle.gm_pending.specs.Sources.{given_of}
 use Rattle.gm_pending.proofs.AddedDarts.{new_dart_below}
 use Rattle.gm_pending.proofs.GivenValues.{none_put_over, old_passed_over, given_put_over, entry_dart, entry_given, entry_value, decided_more}
 use Rattle.gm_pending.proofs.pending.Pending.put_given_values.Goals as goal
-use Rattle.gm_pending.proofs.pending.Pending.put_given_values.Goals.{in-New, in_default}
+use Rattle.gm_pending.proofs.pending.Pending.put_given_values.Goals.{in-New+in-Some, in-New+in_default-given, in_default}
 
 pub loop-entry-init : goal.loop-entry-init
 loop-entry-init c = record {
@@ -26,13 +27,6 @@ pub new_number-number-requires-clause-position : goal.new_number-number-requires
 new_number-number-requires-clause-position c =
     let here = slice_get-get_or c.as_slice-entry-items.result.now c.loop-entry.entry-index (record { at = Old (record { at = 0 }); instance = 0; over = None; key = 0 }) c.loop-entry-test.true in
     (subst (IsResultDart c.args.self.now) c.in-New.is (entry_dart c.args.self.now c.orbits-orbits.ensures.prepared c.args.embed c.as_slice-entry-items.result.now c.requires.embed c.loop-entry.invariant.reached c.loop-entry.entry-index _ here)).1
-
-pub given-requires : goal.given-requires
-given-requires c =
-    let here = slice_get-get_or c.as_slice-entry-items.result.now c.loop-entry.entry-index (record { at = Old (record { at = 0 }); instance = 0; over = None; key = 0 }) c.loop-entry-test.true in
-    let entry = get_or c.as_slice-entry-items.result.now c.loop-entry.entry-index (record { at = Old (record { at = 0 }); instance = 0; over = None; key = 0 }) in
-    let there = entry_given c.args.self.now c.orbits-orbits.ensures.prepared c.args.embed c.as_slice-entry-items.result.now c.requires.embed c.loop-entry.invariant.reached c.loop-entry.entry-index _ here (c.requires.given c.args.embed c.requires.embed) in
-    subst (λ ds. IsSome (given_of ds entry.instance)) (sym (c.deref.ensures.value ∙ c.orbits-orbits.ensures.deciders)) there
 
 pub bounds-values-number : goal.bounds-values-number
 bounds-values-number c =
@@ -54,17 +48,21 @@ loop-entry-preserved c =
     let entry = get_or items c.loop-entry.entry-index (record { at = Old (record { at = 0 }); instance = 0; over = None; key = 0 }) in
     let dart = entry_dart app c.orbits-orbits.ensures.prepared c.args.embed items c.requires.embed now.reached c.loop-entry.entry-index _ here in
     elim c.match-entry.branch [
-      | in-New w ↦
+      | in-New+in-Some w ↦
           let new = subst (IsResultDart app) w.in-New.is dart in
-          let given = subst (λ ds. given_of ds entry.instance ≡ Some w.given.result) (w.deref.ensures.value ∙ c.orbits-orbits.ensures.deciders) w.given.ensures in
-          let value = entry_value app c.orbits-orbits.ensures.prepared c.args.embed items c.requires.embed now.reached c.loop-entry.entry-index _ here w.given.result given in
+          let given : given_of (instances_of app c.args.embed) entry.instance ≡ Some w.in-Some.value = sym (ap (λ ds. given_of ds entry.instance) (w.deref.ensures.value ∙ c.orbits-orbits.ensures.deciders)) ∙ sym w.given.ensures ∙ w.in-Some.is in
+          let value = entry_value app c.orbits-orbits.ensures.prepared c.args.embed items c.requires.embed now.reached c.loop-entry.entry-index _ here w.in-Some.value given in
           record {
             reached = now.reached;
             so_far = rw (w.values-is, w.new_number-number.ensures.number, c.embeds-width.ensures.embeds)
-                (given_put_over app c.orbits-orbits.ensures.prepared c.args.embed items c.requires.embed c.loop-entry.entry-index c.args.values.now c.loop-entry.values now.so_far _ here w.in-New.node w.in-New.position w.given.result w.in-New.is new
+                (given_put_over app c.orbits-orbits.ensures.prepared c.args.embed items c.requires.embed c.loop-entry.entry-index c.args.values.now c.loop-entry.values now.so_far _ here w.in-New.node w.in-New.position w.in-Some.value w.in-New.is new
                 (new_dart_below app c.orbits-orbits.ensures.prepared w.in-New.node w.in-New.position new.0 new.1) (now.so_far.long ∙ c.requires.earlier.long)
-                (λ embed at. subst (λ a. IsValueIn app c.args.embed embed (name_of app a) w.given.result) w.in-New.is (value embed at)));
+                (λ embed at. subst (λ a. IsValueIn app c.args.embed embed (name_of app a) w.in-Some.value) w.in-New.is (value embed at)));
           }
+      | in-New+in_default-given w ↦
+          let none : given_of (instances_of app c.args.embed) entry.instance ≡ None = sym (ap (λ ds. given_of ds entry.instance) (w.deref.ensures.value ∙ c.orbits-orbits.ensures.deciders)) ∙ sym w.given.ensures ∙ w.in_default-given.is in
+          let there = entry_given app c.orbits-orbits.ensures.prepared c.args.embed items c.requires.embed now.reached c.loop-entry.entry-index _ here (c.requires.given c.args.embed c.requires.embed) in
+          absurd (false≢true (subst IsSome none there))
       | in_default w ↦ record {
         reached = now.reached;
         so_far = rw w.values-is (old_passed_over app c.orbits-orbits.ensures.prepared c.args.embed items c.requires.embed c.loop-entry.entry-index c.args.values.now c.loop-entry.values now.so_far _ here
@@ -80,8 +78,8 @@ returns c =
 pub orbits-orbits-requires : goal.orbits-orbits-requires
 orbits-orbits-requires c = (c.requires.given c.args.embed c.requires.embed).0
 
-pub overflow_mul-number : goal.overflow_mul-number
-overflow_mul-number c =
+pub overflow_mul-value : goal.overflow_mul-value
+overflow_mul-value c =
     let app = c.args.self.now in
     rw c.embeds-width.ensures.embeds (omega (
       arith,
@@ -91,8 +89,8 @@ overflow_mul-number c =
       mul_comm (length app.map.schema.embeds) (app.placed.positions * added_nodes (rule_in app)),
     ))
 
-pub overflow_add-number : goal.overflow_add-number
-overflow_add-number c =
+pub overflow_add-value : goal.overflow_add-value
+overflow_add-value c =
     let app = c.args.self.now in
     rw c.embeds-width.ensures.embeds (omega (
       arith,

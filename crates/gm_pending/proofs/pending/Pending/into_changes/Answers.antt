@@ -1,14 +1,18 @@
 use Rattle.std.proofs.Common.{◌≡◌, ℕ, ◌+◌, ◌*◌, ◌<◌, ◌≤◌, length, subst, sym, ap, ap₂, ◌∙◌, arith, mul_comm}
+use Rattle.std.proofs.lemmas.List.{length-map}
 use Rattle.std.proofs.lemmas.Nat.{mul-le}
 use Rattle.gm_model.specs.Unfolding.{added_nodes}
 use Rattle.gm_pending.specs.declared.rewrite.Arcs.TheVariants.{Freed, Made}
 use Rattle.gm_pending.specs.Results.{PendingOf, IsPrepared, rule_in}
 use Rattle.gm_plan.specs.Placed.{Placed}
-use Rattle.gm_pending.specs.EditLists.{AreDistinct}
+use Rattle.gm_pending.specs.Answered.{instances_in}
+use Rattle.gm_pending.specs.EditLists.{AllGiven, AreDistinct, AreNewValues}
+use Rattle.gm_pending.specs.ToldEdits.{values_told}
 use Rattle.gm_pending.proofs.Collected.{are_edits, few_added, left_distinct}
+use Rattle.gm_pending.proofs.ToldValues.{told_new}
 use Rattle.gm_pending.proofs.Told.{same_arcs, same_left, same_removed}
 use Rattle.gm_model.proofs.Exits.{unless_ok}
-use Rattle.gm_pending.proofs.pending.Pending.changes.Goals as goal
+use Rattle.gm_pending.proofs.pending.Pending.into_changes.Goals as goal
 
 -- where there are 8 embeddings at most and 2 labels at least, the values of added darts take few steps
 few_reads : (start after dim width adds count k added reached : ℕ) → 0 < dim → width ≤ 8 → adds ≤ count → added ≡ k * adds → after ≤ start + added * width + reached → after ≤ start + 6 * (dim + 1) * (count * k + reached + 1)
@@ -20,18 +24,7 @@ few_reads start after dim width adds count k added reached some few fewer is cos
 
 pub returns-in_err-added_values-clause-cost : goal.returns-in_err-added_values-clause-cost
 returns-in_err-added_values-clause-cost g c =
-    let app = c.args.self.now in
-    let prepared : IsPrepared app = subst IsPrepared c.self.view_is c.self.invariant.0 in
-    let added : c.added-new_nodes.result * c.positions.result ≡ app.placed.positions * added_nodes (rule_in app) =
-    ap₂ (λ a b. a * b) (c.added-new_nodes.ensures ∙ ap (λ (a : PendingOf). added_nodes (rule_in a)) c.self.view_is) (c.positions.ensures.value ∙ ap (λ (a : PendingOf). a.placed.positions) c.self.view_is)
-    ∙ mul_comm (added_nodes (rule_in app)) app.placed.positions in
-    λ reached sum.
-    few_reads c.args.steps.now c.added_values.new.steps app.map.schema.dim (length app.map.schema.embeds) (added_nodes (rule_in app)) (length (rule_in app).nodes) app.placed.positions (c.added-new_nodes.result * c.positions.result) reached
-    prepared.lawful.dim.0 prepared.lawful.schema.count (few_added app prepared (length (rule_in app).nodes)) added (omega (arith, c.added_values.ensures.cost))
-
-pub returns-in_err-values-clause-cost : goal.returns-in_err-values-clause-cost
-returns-in_err-values-clause-cost g c =
-    let app = c.args.self.now in
+    let app = c.args.self in
     let prepared : IsPrepared app = subst IsPrepared c.self.view_is c.self.invariant.0 in
     let added : c.added-new_nodes.result * c.positions.result ≡ app.placed.positions * added_nodes (rule_in app) =
     ap₂ (λ a b. a * b) (c.added-new_nodes.ensures ∙ ap (λ (a : PendingOf). added_nodes (rule_in a)) c.self.view_is) (c.positions.ensures.value ∙ ap (λ (a : PendingOf). a.placed.positions) c.self.view_is)
@@ -42,7 +35,7 @@ returns-in_err-values-clause-cost g c =
 
 pub returns-clause-cost : goal.returns-clause-cost
 returns-clause-cost g c =
-    let app = c.args.self.now in
+    let app = c.args.self in
     let prepared : IsPrepared app = subst IsPrepared c.self.view_is c.self.invariant.0 in
     let added : c.added-new_nodes.result * c.positions.result ≡ app.placed.positions * added_nodes (rule_in app) =
     ap₂ (λ a b. a * b) (c.added-new_nodes.ensures ∙ ap (λ (a : PendingOf). added_nodes (rule_in a)) c.self.view_is) (c.positions.ensures.value ∙ ap (λ (a : PendingOf). a.placed.positions) c.self.view_is)
@@ -53,13 +46,16 @@ returns-clause-cost g c =
 
 pub returns-clause-edits : goal.returns-clause-edits
 returns-clause-edits g c =
-    let app = c.args.self.now in
+    let app = c.args.self in
     let prepared : IsPrepared app = subst IsPrepared c.self.view_is c.self.invariant.0 in
     let added : c.added-new_nodes.result * c.positions.result ≡ app.placed.positions * added_nodes (rule_in app) =
     ap₂ (λ a b. a * b) (c.added-new_nodes.ensures ∙ ap (λ (a : PendingOf). added_nodes (rule_in a)) c.self.view_is) (c.positions.ensures.value ∙ ap (λ (a : PendingOf). a.placed.positions) c.self.view_is)
     ∙ mul_comm (added_nodes (rule_in app)) app.placed.positions in
     let alike = c.rewrite-rewrite.ensures in
-    are_edits app prepared _ c.in_ok-added_values.ensures.values c.in_ok-values.ensures.values (same_left _ _ alike) (same_arcs _ _ alike Freed) (same_removed _ _ alike) (same_arcs _ _ alike Made) added
+    let s = c.self.inside in
+    let values : AreNewValues app (values_told s.orbits.items) = subst (λ a. AreNewValues a (values_told s.orbits.items)) c.self.view_is
+    (told_new s.arena.now s.plan.now.table s.found.now s.orbits.items c.self.invariant.0 c.self.invariant.2 (subst AllGiven (sym c.self.view_is) c.requires.given) (omega (arith, length-map s.orbits.items instances_in, c.self.invariant.0.each))) in
+    are_edits app prepared _ c.in_ok-added_values.ensures.values values (same_left _ _ alike) (same_arcs _ _ alike Freed) (same_removed _ _ alike) (same_arcs _ _ alike Made) added
 
 pub returns-in_err-left_slots-clause-edits : goal.returns-in_err-left_slots-clause-edits
 returns-in_err-left_slots-clause-edits g c = unless_ok _ c.from_residual.result c.from_residual.ensures.0
@@ -72,7 +68,7 @@ returns-in_err-left_slots-clause-least g c = omega arith
 
 pub added_values-requires-clause-added : goal.added_values-requires-clause-added
 added_values-requires-clause-added g c =
-    let app = c.args.self.now in
+    let app = c.args.self in
     ap₂ (λ a b. a * b) (c.added-new_nodes.ensures ∙ ap (λ (a : PendingOf). added_nodes (rule_in a)) c.self.view_is) (c.positions.ensures.value ∙ ap (λ (a : PendingOf). a.placed.positions) c.self.view_is)
     ∙ mul_comm (added_nodes (rule_in app)) app.placed.positions
 
@@ -84,15 +80,6 @@ returns-in_err-added_values-clause-edits g c = unless_ok _ c.from_residual-in_er
 
 pub returns-in_err-added_values-clause-least : goal.returns-in_err-added_values-clause-least
 returns-in_err-added_values-clause-least g c = c.added_values.ensures.least
-
-pub new_values-requires : goal.new_values-requires
-new_values-requires g c = record { given = c.requires.given }
-
-pub returns-in_err-values-clause-edits : goal.returns-in_err-values-clause-edits
-returns-in_err-values-clause-edits g c = unless_ok _ c.from_residual-in_err-values.result c.from_residual-in_err-values.ensures.0
-
-pub returns-in_err-values-clause-least : goal.returns-in_err-values-clause-least
-returns-in_err-values-clause-least g c = c.added_values.ensures.least
 
 pub returns-clause-least : goal.returns-clause-least
 returns-clause-least g c = c.added_values.ensures.least
@@ -106,7 +93,7 @@ left_slots-requires g c = c.left_nodes.ensures.left ∙ sym (ap (λ (p : Placed)
 pub invariant_of-result : goal.invariant_of-result
 invariant_of-result g c =
     let positions : c.positions.result ≡ c.rewrite-rewrite.result.placed.positions = c.positions.ensures.value ∙ ap (λ (a : PendingOf). a.placed.positions) c.self.view_is ∙ sym (ap (λ (p : Placed). p.positions) c.rewrite-rewrite.ensures.placed) in
-    let app = c.args.self.now in
+    let app = c.args.self in
     let prepared : IsPrepared app = subst IsPrepared c.self.view_is c.self.invariant.0 in
     let left = c.in_ok-left_slots.ensures.slots ∙ same_left _ _ c.rewrite-rewrite.ensures in
-    (c.in_ok-left_slots.ensures.slots, rw positions c.in_ok-left_slots.ensures.room, subst AreDistinct (sym left) (left_distinct app prepared))
+    (c.in_ok-left_slots.ensures.slots, rw positions c.in_ok-left_slots.ensures.room, subst AreDistinct (sym left) (left_distinct app prepared), omega (arith, length-map c.self.inside.orbits.items instances_in, c.self.invariant.0.each, c.self.invariant.0.lawful.schema.count))
