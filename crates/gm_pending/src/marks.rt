@@ -1,5 +1,5 @@
 //! The darts of a result that are reached from deciding instances.
-ghost use Rattle.std.specs.Prelude.{◌≡◌, List, ◌∷◌, ◌++◌, ◌<◌, [], length, slice_get, Some, MatchOption, IfOk, IfSome, OnOk, OnErr};
+ghost use Rattle.std.specs.Prelude.{◌≡◌, List, ◌∷◌, ◌++◌, ◌<◌, [], length, slice_get, Some, MatchOption, ◌↔◌, IsTrue, IfOk, IfSome, OnOk, OnErr};
 ghost use Rattle.gm_pending.specs.declared.marks.Mark.{Mark};
 ghost use Rattle.gm_pending.specs.Marks.{key_of, reached_by, HasKey, AreKeyed, IsIndex, IsMarkedBy, IsMarkedMore, HasDistinctKeys};
 
@@ -101,25 +101,28 @@ impl Marks {
         }
     }
 
-    /// Marks a dart, unless it is marked. Where memory was wanting, nothing is marked.
+    /// Marks a dart, unless it is marked, and answers whether it wasn't. Where memory was wanting,
+    /// nothing is marked.
     #[inline]
     pub(crate) fn mark(
         &mut self,
         at: At,
         instance: u32,
         over: Option<u8>,
-    ) -> Result<(), OutOfMemory>
+    ) -> Result<bool, OutOfMemory>
         ensures ok { OnOk result (IsMarkedMore self.old self.new at instance over) }
+        ensures new { IfOk result (λ new. IsTrue new ↔ (HasKey self.old (key_of at) → ⊥)) }
         ensures err { OnErr result (self.new ≡ self.old) }
         ensures distinct { HasDistinctKeys self.old }
     {
         if self.decided_by(at).is_some() {
-            return Ok(());
+            return Ok(false);
         }
         if self.by_key.is_none() && self.reached.len() >= FEW {
             self.index_all()?;
         }
-        self.mark_new(at, instance, over, FEW)
+        self.mark_new(at, instance, over, FEW)?;
+        Ok(true)
     }
 
     /// Marks a dart that isn't marked. Where memory was wanting, nothing is marked. It makes no index,
