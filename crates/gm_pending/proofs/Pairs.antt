@@ -1,5 +1,5 @@
 -- How an orbit of two labels is followed from one of its darts, along one label and then along the other.
-use Rattle.std.proofs.Common.{◌≡◌, ◌≢◌, ℕ, ◌+◌, ◌*◌, ◌<◌, ◌≤◌, ◌⊎◌, false, List, [], ◌∷◌, ◌++◌, length, Option, None, Some, slice_get, IsTrue, refl, sym, ◌∙◌, ap, subst, inl, inr, arith, length-append}
+use Rattle.std.proofs.Common.{◌≡◌, ◌≢◌, ℕ, ◌+◌, ◌*◌, ◌<◌, ◌≤◌, ◌⊎◌, false, List, [], ◌∷◌, length, Option, None, Some, slice_get, IsTrue, refl, sym, ◌∙◌, ap, subst, inl, inr, arith, length-append}
 use Rattle.std.proofs.lemmas.Bool.{cases_lt, false≢true}
 use Rattle.std.proofs.lemmas.Option.{slice_get_within}
 use Rattle.gm_model.specs.declared.schema.Embed.{Embed}
@@ -14,7 +14,7 @@ use Rattle.gm_pending.specs.declared.at.At.{At}
 use Rattle.gm_pending.specs.declared.marks.Mark.{Mark}
 use Rattle.gm_pending.specs.Marks.{key_of, reached_by, HasKey, IsMarkedMore, HasDistinctKeys}
 use Rattle.gm_pending.specs.Pairs.{IsPair}
-use Rattle.gm_pending.specs.Reached.{AreResultDarts, HasMark, IsAdded, IsClosed, IsGrown, IsSpreadTo, IsFollowedBut}
+use Rattle.gm_pending.specs.Reached.{AreResultDarts, HasMark, IsAdded, IsClosed, IsSpreadTo, IsFollowedBut}
 use Rattle.gm_pending.specs.Results.{PendingOf, IsPrepared, IsResultDart, IsUnfoldedIn, name_of, scene_in}
 use Rattle.gm_pending.proofs.Reached.{last_at, last_among}
 use Rattle.gm_pending.proofs.Spread.{mark_kept, marked_kept, marked_or_last, after_map, dart_after, label_within, orbit_step, nothing_grown, grown_more, marked_now}

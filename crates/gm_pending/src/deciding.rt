@@ -143,24 +143,16 @@ impl Pending<'_, '_> {
         ensures cost { steps.new + (self.now.map.schema.dim + 1) * length orbits.old.marks ≤ steps.old + (self.now.map.schema.dim + 1) * length orbits.new.marks }
         ensures least { steps.old ≤ steps.new }
     {
-        if self.is_one_orbit(embed, node) {
+        // Where each letter of the node is a label of the type, its instances are joined as the
+        // positions are; and where each label of the type is a letter of it, no other dart is joined
+        // to them: they are one orbit, whatever is matched.
+        if self.plan.is_exact(embed, node) {
             return self.decide_orbit(embed, declared, node, orbits);
         }
         for position in 0..self.positions() {
             self.decide_instance(embed, declared, node, position, orbits, steps)?;
         }
         Ok(())
-    }
-
-    /// Whether the instances of a node are one orbit of the embedding's type, whatever is matched.
-    /// Where each letter of the node is a label of the type, they are joined as the positions are;
-    /// and where each label of the type is a letter of it, no other dart is joined to them.
-    pub(crate) fn is_one_orbit(&self, embed: u8, node: u8) -> bool
-        requires embed { embed < length self.now.map.schema.embeds }
-        requires node { node < length (rule_in self.now).nodes }
-        ensures { IsTrue result → (kept : Embed) → IsEmbedAt self.now.map.schema embed kept → IsAlwaysOneOrbit self.now kept node }
-    {
-        self.plan.is_exact(embed, node)
     }
 
     /// Looks at the instances of a node that are one orbit: the first decides it, unless an earlier
@@ -267,7 +259,7 @@ impl Pending<'_, '_> {
             return self.follow(at, index, other, one, made, embed, declared, marks, steps);
         }
         while next < marks.len() {
-            let from = marks.get(next);
+            let from = marks.as_slice()[next];
             self.spread(from, made, embed, declared, marks, steps)?;
             next += 1;
         }

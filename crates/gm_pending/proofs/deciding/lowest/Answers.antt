@@ -1,4 +1,4 @@
-use Rattle.std.proofs.Common.{◌≡◌, ◌<◌, ◌==◌, w8, ap, arith}
+use Rattle.std.proofs.Common.{◌<◌, ◌==◌, w8, ap, arith}
 use Rattle.std.proofs.lemmas.Bool.{eq-eqb}
 use Rattle.std.proofs.lemmas.Nat.Bits.{bit_at-trailing_zeros}
 use Rattle.gm_pending.proofs.deciding.lowest.Goals as goal

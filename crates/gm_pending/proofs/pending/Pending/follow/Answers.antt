@@ -1,4 +1,4 @@
-use Rattle.std.proofs.Common.{◌≡◌, ◌+◌, ◌≤◌, None, length, sym, ◌∙◌, arith}
+use Rattle.std.proofs.Common.{◌≡◌, ◌+◌, None, length, sym, ◌∙◌, arith}
 use Rattle.std.proofs.lemmas.Bool.{false≢true}
 use Rattle.gm_pending.specs.Marks.{key_of, HasKey}
 use Rattle.gm_pending.proofs.Pairs.{follow_ends, follow_goes_on, one_longer, pair_turned}

@@ -1,5 +1,7 @@
 use Rattle.std.proofs.Common.{◌≡◌, ◌+◌, ◌<◌, length, None, sym, subst, arith, ◌*◌, ◌≤◌}
-use Rattle.std.proofs.lemmas.Option.{slice_get_within}
+use Rattle.std.proofs.lemmas.Option.{slice_get-get_or}
+use Rattle.gm_pending.specs.declared.at.At.TheVariants.{Old}
+use Rattle.gm_pending.specs.Marks.{reached_by}
 use Rattle.gm_pending.specs.Reached.{IsSpreadTo}
 use Rattle.gm_pending.specs.Results.{name_of}
 use Rattle.gm_pending.proofs.Following.{stays_longer, walked_cost, walked_on, walked_some}
@@ -36,23 +38,23 @@ pub returns-in_err-spread-clause-grown : goal.returns-in_err-spread-clause-grown
 returns-in_err-spread-clause-grown g c =
     let l = c.loop-next in
     λ result unfolded closed. walked_some c.args.self.now c.labels.ensures.prepared c.args.embed c.args.declared.now c.requires.embed c.args.marks.now l.marks c.spread.new.marks c.args.index (name_of c.args.self.now c.args.at) l.next
-    c.get-from.result l.invariant.late c.get-from.ensures result unfolded (l.invariant.spread result unfolded closed) c.spread.ensures.grown
+    _ l.invariant.late (rw c.as_slice.ensures.reached (slice_get-get_or l.marks l.next (reached_by (Old (record { at = 0 })) 0 None) (omega (arith, c.loop-next-test.true, c.len.ensures.len)))) result unfolded (l.invariant.spread result unfolded closed) c.spread.ensures.grown
 
 pub returns-in_err-spread-clause-cost : goal.returns-in_err-spread-clause-cost
 returns-in_err-spread-clause-cost g c =
-    let within : c.loop-next.next < length c.loop-next.marks = slice_get_within c.loop-next.marks c.loop-next.next c.get-from.result c.get-from.ensures in
+    let within : c.loop-next.next < length c.loop-next.marks = omega (arith, c.loop-next-test.true, c.len.ensures.len) in
     walked_cost c.args.self.now.map.schema.dim c.loop-next.next (length c.spread.new.marks) (length c.args.marks.now) c.args.steps.now c.loop-next.steps c.spread.new.steps (omega (arith, within, c.spread.ensures.longer)) c.loop-next.invariant.cost c.spread.ensures.cost
 
 pub loop-next-preserved : goal.loop-next-preserved
 loop-next-preserved g c =
     let l = c.loop-next in
-    let within : l.next < length l.marks = slice_get_within l.marks l.next c.get-from.result c.get-from.ensures in
+    let within : l.next < length l.marks = omega (arith, c.loop-next-test.true, c.len.ensures.len) in
     record {
       darts = c.spread.ensures.darts;
       late = omega (arith, l.invariant.late);
       within = omega (arith, within, c.spread.ensures.longer);
       spread = λ result unfolded closed. walked_on c.args.self.now c.labels.ensures.prepared c.args.embed c.args.declared.now c.requires.embed c.args.marks.now l.marks c.spread.new.marks c.args.index (name_of c.args.self.now c.args.at) l.next
-          c.get-from.result l.invariant.late c.get-from.ensures result unfolded (l.invariant.spread result unfolded closed) c.in_ok-spread.ensures.followed;
+          _ l.invariant.late (rw c.as_slice.ensures.reached (slice_get-get_or l.marks l.next (reached_by (Old (record { at = 0 })) 0 None) (omega (arith, c.loop-next-test.true, c.len.ensures.len)))) result unfolded (l.invariant.spread result unfolded closed) c.in_ok-spread.ensures.followed;
       cost = walked_cost c.args.self.now.map.schema.dim l.next (l.next + 1) (length c.args.marks.now) c.args.steps.now l.steps c.spread.new.steps (omega arith) l.invariant.cost c.spread.ensures.cost;
       least = omega (arith, l.invariant.least, c.spread.ensures.least);
     }
@@ -63,9 +65,6 @@ returns-clause-spread g c =
     let end : l.next ≡ length l.marks = omega (arith, l.invariant.within, c.loop-next-test.false, c.len.ensures.len) in
     λ result unfolded closed. subst (λ n. IsSpreadTo c.args.self.now c.args.declared.now result c.args.marks.now l.marks c.args.index (name_of c.args.self.now c.args.at) n 0) end (l.invariant.spread result unfolded closed)
 
-pub get-from-requires : goal.get-from-requires
-get-from-requires g c = omega (arith, c.loop-next-test.true, c.len.ensures.len)
-
 pub spread-requires-clause-embed : goal.spread-requires-clause-embed
 spread-requires-clause-embed g c = c.requires.embed
 
@@ -73,7 +72,7 @@ pub spread-requires-clause-darts : goal.spread-requires-clause-darts
 spread-requires-clause-darts g c = c.loop-next.invariant.darts
 
 pub spread-requires-clause-from : goal.spread-requires-clause-from
-spread-requires-clause-from g c = get_contained c.loop-next.marks c.loop-next.next c.get-from.result c.get-from.ensures
+spread-requires-clause-from g c = rw c.as_slice.ensures.reached (get_contained c.loop-next.marks c.loop-next.next _ (slice_get-get_or c.loop-next.marks c.loop-next.next (reached_by (Old (record { at = 0 })) 0 None) (omega (arith, c.loop-next-test.true, c.len.ensures.len))))
 
 pub returns-in_err-mark-clause-cost : goal.returns-in_err-mark-clause-cost
 returns-in_err-mark-clause-cost g c = rw c.in_err-mark.ensures.err (omega arith)
