@@ -20,7 +20,7 @@ use Rattle.gm_pending.specs.declared.at.At.{At}
 use Rattle.gm_pending.specs.declared.at.At.TheVariants.{Old, New}
 use Rattle.gm_pending.specs.declared.marks.Mark.{Mark}
 use Rattle.gm_pending.specs.Marks.{key_of, reached_by, HasKey, IsMarkedMore, HasDistinctKeys}
-use Rattle.gm_pending.specs.Reached.{AreResultDarts, HasMark, IsClosed, IsGrown, IsSpreadTo}
+use Rattle.gm_pending.specs.Reached.{AreResultDarts, HasMark, IsAdded, IsClosed, IsGrown, IsSpreadTo}
 use Rattle.gm_pending.specs.Results.{PendingOf, IsPrepared, IsResultDart, IsUnfoldedIn, rule_in, scene_in, name_of}
 use Rattle.gm_pending.proofs.Darts.{same_slot, live_dart, result_dart}
 use Rattle.gm_pending.proofs.Law.{law}
@@ -88,7 +88,7 @@ module _ (app : PendingOf) (prepared : IsPrepared app) where
     pub label_within : (i : ℕ) → IsTrue (type_of embed i) → i ≤ app.map.schema.dim
     label_within i t = prepared.lawful.schema.labels e i embed at_embed t
 
-    after_map : IsGMap app.map.schema.dim (IsDartOf result) result.alpha
+    pub after_map : IsGMap app.map.schema.dim (IsDartOf result) result.alpha
     after_map = unfolding_generalised (scene_in app) _ _ _ (law app prepared) (IsDartOf result) result.alpha result.next unfolded
 
     pub dart_after : (a : At) → IsResultDart app a → IsDartOf result (name_of app a)
@@ -160,6 +160,32 @@ module _ (app : PendingOf) (prepared : IsPrepared app) where
         none j l h (inl b) = omega arith
         none j l h (inr b) = omega (arith, b.1)
 
+    module _ (before after : List Mark) (k d : ℕ) (grown : IsGrown app embed result before after k d) (closed : IsClosed app embed result before) (darts : AreResultDarts app after) (distinct : HasDistinctKeys after) where
+      -- the dart of an added entry was not marked before
+      not_before : (x j : ℕ) → IsAdded app before after x → HasMark app before x j → ⊥
+      not_before x j (n, from, late, there, name) (entry, among, e, f) =
+          let here : slice_get after among.0 ≡ Some entry = grown.kept among.0 entry (contained_at before entry among) in
+          let within : among.0 < n = omega (arith, late, slice_get_within before among.0 entry (contained_at before entry among)) in
+          distinct among.0 n entry from within here there (same_key entry.at from.at (darts entry (get_contained after among.0 entry here)) (darts from (get_contained after n from there)) (e ∙ sym name))
+
+      -- so where its neighbour has a mark, it is one of this walk
+      pub marked_now : (x i : ℕ) (to : At) → IsAdded app before after x → IsTrue (type_of embed i) → IsResultDart app to → result.alpha i (name_of app to) ≡ x → HasKey after (key_of to) → HasMark app after (name_of app to) k
+      marked_now x i to added t dart returns (entry, among, key) = go (cases_lt among.0 (length before))
+        where
+          at_m : slice_get after among.0 ≡ Some entry
+          at_m = contained_at after entry among
+
+          name : name_of app entry.at ≡ name_of app to
+          name = same_name entry.at to (darts entry among) dart key
+
+          go : (among.0 < length before) ⊎ (length before ≤ among.0) → HasMark app after (name_of app to) k
+          go (inr h) = (entry, among, name, (grown.more among.0 entry h at_m).0)
+          go (inl h) =
+              let old = get_within before among.0 h in
+              let same : old.0 ≡ entry = some_same old.0 entry (sym (grown.kept among.0 old.0 old.1) ∙ at_m) in
+              let mark : HasMark app before (name_of app to) entry.instance = (entry, get_contained before among.0 entry (subst (λ r. slice_get before among.0 ≡ Some r) same old.1), name, refl) in
+              absurd (not_before x entry.instance added (subst (λ b. HasMark app before b entry.instance) returns (closed (name_of app to) entry.instance i mark t)))
+
     module _ (before after : List Mark) (k d n i : ℕ) (from : Mark) (spread : IsSpreadTo app embed result before after k d n i) (late : length before ≤ n) (there : slice_get after n ≡ Some from) where
       -- a label that isn't of the type is passed over
       pub spread_passes : type_of embed i ≡ false → IsSpreadTo app embed result before after k d n (i + 1)
@@ -209,30 +235,9 @@ module _ (app : PendingOf) (prepared : IsPrepared app) where
         returns : result.alpha i (result.alpha i (name_of app from.at)) ≡ name_of app from.at
         returns = after_map.back (name_of app from.at) i from_live (label_within i t)
 
-        -- the dart that is walked from was not marked before
-        not_before : (j : ℕ) → HasMark app before (name_of app from.at) j → ⊥
-        not_before j (entry, among, e, f) =
-            let here : slice_get after among.0 ≡ Some entry = spread.grown.kept among.0 entry (contained_at before entry among) in
-            let within : among.0 < n = omega (arith, slice_get_within before among.0 entry (contained_at before entry among)) in
-            distinct among.0 n entry from within here there (same_key entry.at from.at (darts entry (get_contained after among.0 entry here)) (darts from (get_contained after n from there)) e)
-
-        -- so where its neighbour has a mark, it is one of this walk
-        marked_now : (entry : Mark) (m : ℕ) → slice_get after m ≡ Some entry → key_of entry.at ≡ key_of to → HasMark app after (result.alpha i (name_of app from.at)) k
-        marked_now entry m at_m key = go (cases_lt m (length before))
-          where
-            name : name_of app entry.at ≡ result.alpha i (name_of app from.at)
-            name = same_name entry.at to (darts entry (get_contained after m entry at_m)) to_dart key ∙ leads
-
-            go : (m < length before) ⊎ (length before ≤ m) → HasMark app after (result.alpha i (name_of app from.at)) k
-            go (inr h) = (entry, get_contained after m entry at_m, name, (spread.grown.more m entry h at_m).0)
-            go (inl h) =
-                let old = get_within before m h in
-                let same : old.0 ≡ entry = some_same old.0 entry (sym (spread.grown.kept m old.0 old.1) ∙ at_m) in
-                let mark : HasMark app before (result.alpha i (name_of app from.at)) entry.instance = (entry, get_contained before m entry (subst (λ r. slice_get before m ≡ Some r) same old.1), name, refl) in
-                absurd (not_before entry.instance (subst (λ b. HasMark app before b entry.instance) returns (spread.closed (result.alpha i (name_of app from.at)) entry.instance i mark t)))
-
         reached_now : IsMarkedMore after after' to k (Some i) → HasMark app after' (result.alpha i (name_of app from.at)) k
-        reached_now (inl ((entry, among, key), same)) = mark_kept after after' (result.alpha i (name_of app from.at)) k kept (marked_now entry among.0 (contained_at after entry among) key)
+        reached_now (inl (key, same)) = mark_kept after after' (result.alpha i (name_of app from.at)) k kept
+            (subst (λ b. HasMark app after b k) leads (marked_now before after k d spread.grown spread.closed darts distinct (name_of app from.at) i to (n, from, late, there, refl) t to_dart (ap (result.alpha i) leads ∙ returns) key))
         reached_now (inr (absent, same)) = (reached_by to k (Some i), rw same (last_among after (reached_by to k (Some i))), leads, refl)
 
         -- and from there the arc leads back

@@ -6,6 +6,7 @@ pub mod Gathered
 pub mod Lookup
 pub mod MadeLabels
 pub mod Marks
+pub mod Pairs
 pub mod Reached
 pub mod Results
 pub mod Sources

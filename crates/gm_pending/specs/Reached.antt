@@ -1,5 +1,5 @@
 -- Which darts of the result are reached from deciding instances, and how a walk finds them. No public clause cites this module.
-use Rattle.std.specs.Prelude.{◌≡◌, ◌≢◌, ℕ, ◌<◌, ◌≤◌, List, length, Some, None, slice_get, IsTrue}
+use Rattle.std.specs.Prelude.{◌≡◌, ◌≢◌, ℕ, ◌<◌, ◌≤◌, ◌⊎◌, List, length, Some, None, slice_get, IsTrue}
 use Rattle.std.specs.List.{Contains}
 use Rattle.gm_model.specs.declared.schema.Embed.{Embed}
 use Rattle.gm_model.specs.Components.{IsAssigned}
@@ -25,6 +25,10 @@ module _ (app : PendingOf) where
   -- the dart has an entry, with the index of this decider
   abbrev pub HasMark : List Mark → ℕ → ℕ → Type 0
   HasMark reached d k = (entry : Mark) × Contains reached entry × (name_of app entry.at ≡ d) × (entry.instance ≡ k)
+
+  -- x is the dart of an added entry
+  abbrev pub IsAdded : List Mark → List Mark → ℕ → Type 0
+  IsAdded before after x = (j : ℕ) × (entry : Mark) × (length before ≤ j) × (slice_get after j ≡ Some entry) × (name_of app entry.at ≡ x)
 
   -- ---- all of them
 
@@ -67,6 +71,25 @@ module _ (app : PendingOf) where
   -- and some of them
   abbrev pub IsFollowed : Embed → Mark → List Mark → List Mark → Type 0
   IsFollowed embed from old new = (result : Unfolded) (before : List Mark) (d n : ℕ) → IsUnfoldedIn app result → slice_get old n ≡ Some from → length before ≤ n → IsSpreadTo embed result before old from.instance d n 0 → IsGrown embed result before new from.instance d
+
+  -- ---- the walk along two labels
+
+  module _ (embed : Embed) (result : Unfolded) where
+    -- each arc of the type leads from an added entry to a marked dart, unless it is that of dart x along l or that of dart d along m
+    pub record IsFollowedBut (before after : List Mark) (k d x l m : ℕ) : Type 0 where
+      pub grown : IsGrown embed result before after k d
+      pub closed : IsClosed embed result before
+      pub here : IsAdded before after d
+      pub end : IsAdded before after x
+      pub followed : (j i : ℕ) (entry : Mark) → length before ≤ j → slice_get after j ≡ Some entry → IsTrue (type_of embed i) → HasMark after (result.alpha i (name_of app entry.at)) k ⊎ ((name_of app entry.at ≡ x) × (i ≡ l)) ⊎ ((name_of app entry.at ≡ d) × (i ≡ m))
+
+  -- In each unfolding, and whatever was reached before the walk from dart d: its arc along label i was followed, and on from there as far as darts were unmarked.
+  abbrev pub IsFollowedAlong : Embed → ℕ → ℕ → ℕ → List Mark → List Mark → Type 0
+  IsFollowedAlong embed k d i old new = (result : Unfolded) (before : List Mark) (m : ℕ) → IsUnfoldedIn app result → IsFollowedBut embed result before old k d d i m → IsFollowedBut embed result before new k d d m m
+
+  -- and some way
+  abbrev pub IsGrownAlong : Embed → ℕ → ℕ → ℕ → List Mark → List Mark → Type 0
+  IsGrownAlong embed k d i old new = (result : Unfolded) (before : List Mark) (m : ℕ) → IsUnfoldedIn app result → IsFollowedBut embed result before old k d d i m → IsGrown embed result before new k d
 
   -- ---- a node whose instances are one orbit
 

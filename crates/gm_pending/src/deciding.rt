@@ -1,5 +1,5 @@
 //! Which instances decide the values of a result, and which of its darts they reach.
-ghost use Rattle.std.specs.Prelude.{◌≡◌, ℕ, ◌+◌, ◌*◌, ◌<◌, ◌≤◌, ◌⊎◌, [], ◌∷◌, ◌++◌, length, false, Some, None, IfOk, IsTrue, OnOk, OnErr};
+ghost use Rattle.std.specs.Prelude.{◌≡◌, ℕ, ◌+◌, ◌*◌, ◌<◌, ◌≤◌, ◌⊎◌, [], ◌∷◌, ◌++◌, length, false, Some, None, IfOk, IfSome, MatchOption, IsTrue, OnOk, OnErr};
 ghost use Rattle.std.specs.List.{Contains};
 ghost use Rattle.gm_model.specs.declared.schema.Embed.{Embed};
 ghost use Rattle.gm_model.specs.declared.rule.Side.TheVariants.{Right};
@@ -12,7 +12,8 @@ ghost use Rattle.gm_pending.specs.declared.deciding_instance.DecidingInstance.{D
 ghost use Rattle.gm_pending.specs.declared.marks.Mark.{Mark};
 ghost use Rattle.gm_pending.specs.MadeLabels.{AreMadeLabels};
 ghost use Rattle.gm_pending.specs.Marks.{key_of, HasKey};
-ghost use Rattle.gm_pending.specs.Reached.{AreReached, AreResultDarts, AreSomeReached, IsClosed, IsGrown, IsSpreadTo, IsFollowedTo, IsFollowed, IsDecidedUpTo, IsAlwaysOneOrbit, IsUnmarked, AreMarkedTo, ungiven};
+ghost use Rattle.gm_pending.specs.Pairs.{IsPair};
+ghost use Rattle.gm_pending.specs.Reached.{AreReached, AreResultDarts, AreSomeReached, IsClosed, IsGrown, IsSpreadTo, IsFollowedTo, IsFollowed, IsFollowedAlong, IsGrownAlong, IsDecidedUpTo, IsAlwaysOneOrbit, IsUnmarked, AreMarkedTo, ungiven};
 ghost use Rattle.gm_pending.specs.Results.{IsPrepared, AreDecidingInstances, IsAsked, IsResultDart, IsUnfoldedIn, IsWithinReach, instances_of, with_instances, name_of, rule_in};
 
 use crate::at::At;
@@ -142,24 +143,16 @@ impl Pending<'_, '_> {
         ensures cost { steps.new + (self.now.map.schema.dim + 1) * length orbits.old.marks ≤ steps.old + (self.now.map.schema.dim + 1) * length orbits.new.marks }
         ensures least { steps.old ≤ steps.new }
     {
-        if self.is_one_orbit(embed, node) {
+        // Where each letter of the node is a label of the type, its instances are joined as the
+        // positions are; and where each label of the type is a letter of it, no other dart is joined
+        // to them: they are one orbit, whatever is matched.
+        if self.plan.is_exact(embed, node) {
             return self.decide_orbit(embed, declared, node, orbits);
         }
         for position in 0..self.positions() {
             self.decide_instance(embed, declared, node, position, orbits, steps)?;
         }
         Ok(())
-    }
-
-    /// Whether the instances of a node are one orbit of the embedding's type, whatever is matched.
-    /// Where each letter of the node is a label of the type, they are joined as the positions are;
-    /// and where each label of the type is a letter of it, no other dart is joined to them.
-    pub(crate) fn is_one_orbit(&self, embed: u8, node: u8) -> bool
-        requires embed { embed < length self.now.map.schema.embeds }
-        requires node { node < length (rule_in self.now).nodes }
-        ensures { IsTrue result → (kept : Embed) → IsEmbedAt self.now.map.schema embed kept → IsAlwaysOneOrbit self.now kept node }
-    {
-        self.plan.is_exact(embed, node)
     }
 
     /// Looks at the instances of a node that are one orbit: the first decides it, unless an earlier
@@ -260,12 +253,60 @@ impl Pending<'_, '_> {
         let made = self.made_labels(declared.mask);
         let mut next = marks.len();
         marks.mark(at, index, None)?;
+        // An orbit over two labels is a path or a ring, of which the dart is one place.
+        if let Some((one, other)) = pair_of(declared.mask) {
+            self.follow(at, index, one, other, made, embed, declared, marks, steps)?;
+            return self.follow(at, index, other, one, made, embed, declared, marks, steps);
+        }
         while next < marks.len() {
-            let from = marks.get(next);
+            let from = marks.as_slice()[next];
             self.spread(from, made, embed, declared, marks, steps)?;
             next += 1;
         }
         Ok(())
+    }
+
+    /// Marks the darts to which two labels lead in turns from a dart where a walk began, the first of
+    /// them first, up to one that is marked already.
+    fn follow<L: Ledger>(
+        &self,
+        from: At,
+        index: u32,
+        first: u8,
+        second: u8,
+        made: Mask,
+        embed: u8,
+        declared: &Embed,
+        marks: &mut Marks,
+        steps: &mut Steps<L>,
+    ) -> Result<(), OutOfMemory>
+        requires embed { IsEmbedAt self.now.map.schema embed declared.now }
+        requires pair { IsPair declared.now.mask first second }
+        requires from { IsResultDart self.now from }
+        requires darts { AreResultDarts self.now marks.old }
+        requires made { AreMadeLabels self.now declared.now.mask made }
+        ensures darts { AreResultDarts self.now marks.new }
+        ensures followed { OnOk result (IsFollowedAlong self.now declared.now index (name_of self.now from) first marks.old marks.new) }
+        ensures grown { IsGrownAlong self.now declared.now index (name_of self.now from) first marks.old marks.new }
+        ensures cost { steps.new + length marks.old ≤ steps.old + 1 + length marks.new }
+        ensures longer { length marks.old ≤ length marks.new }
+        ensures least { steps.old ≤ steps.new }
+    {
+        // The application tells here what its type keeps.
+        prove!(self.labels() <= 8);
+        let (mut at, mut label, mut other) = (from, first, second);
+        loop {
+            let to = self.neighbour(at, label, made.has(label), steps);
+            let is_new = marks.mark(to, index, None)?;
+            // The marks tell here that they have an end.
+            prove!(marks.len() <= usize::MAX);
+            if !is_new {
+                return Ok(());
+            }
+            // Where one label led to, only the other leads on.
+            at = to;
+            (label, other) = (other, label);
+        }
     }
 
     /// Marks the neighbours of a reached dart. That from which it was reached is marked.
@@ -300,10 +341,36 @@ impl Pending<'_, '_> {
     }
 }
 
+/// The two labels of a set that has two and no more.
+fn pair_of(labels: Mask) -> Option<(u8, u8)>
+    ensures { IfSome result (λ pair. IsPair labels pair.0 pair.1) }
+{
+    let one = lowest(labels)?;
+    let rest = without(labels, Some(one));
+    let other = lowest(rest)?;
+    match lowest(without(rest, Some(other))) {
+        Some(_) => None,
+        None => Some((one, other)),
+    }
+}
+
+/// The lowest label of a set.
+fn lowest(labels: Mask) -> Option<u8>
+    ensures { MatchOption result
+        ((i : ℕ) → i < 8 → has labels i ≡ false)
+        (λ label. (label < 8) × IsTrue (has labels label) × ((i : ℕ) → i < label → has labels i ≡ false)) }
+{
+    if labels.bits == 0 {
+        return None;
+    }
+    Some(labels.bits.trailing_zeros() as u8)
+}
+
 /// The labels of a set but one, where there is one.
 fn without(labels: Mask, one: Option<u8>) -> Mask
     ensures among { (i : ℕ) → i < 8 → IsTrue (has result i) → IsTrue (has labels i) }
     ensures others { (i : ℕ) → i < 8 → has result i ≡ false → (one ≡ Some i) ⊎ (has labels i ≡ false) }
+    ensures gone { (i : ℕ) → i < 8 → one ≡ Some i → has result i ≡ false }
 {
     match one {
         Some(label) if label < 8 => Mask {

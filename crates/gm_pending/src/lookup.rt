@@ -66,24 +66,13 @@ pub(crate) fn instance_at(found: &Instances, nodes: u8, slot: Slot) -> Option<(u
         ((x p : ℕ) → IsWithin found.now x p → slot_number found.now x p ≢ slot.at)
         (λ i. IsAtSlot found.now slot.at i.0 i.1) }
 {
-    for node in 0..nodes {
-        if let Some(position) = position_at(found, node, slot) {
-            return Some((node, position));
-        }
-    }
-    None
-}
-
-/// The position at which the node lies at the slot.
-fn position_at(found: &Instances, node: u8, slot: Slot) -> Option<u32>
-    requires { node < found.now.nodes }
-    ensures { MatchOption result
-        ((p : ℕ) → p < found.now.positions → slot_number found.now node p ≢ slot.at)
-        (λ p. IsAtSlot found.now slot.at node p) }
-{
-    for position in 0..found.positions() {
-        if found.slot(node, position).at == slot.at {
-            return Some(position);
+    // The instances tell here that their positions have numbers.
+    prove!(found.positions() >= 1);
+    let slots = found.slots();
+    for place in 0..slots.len() {
+        if slots[place].at == slot.at {
+            let nodes = nodes as usize;
+            return Some(((place % nodes) as u8, (place / nodes) as u32));
         }
     }
     None

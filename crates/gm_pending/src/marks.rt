@@ -1,7 +1,7 @@
 //! The darts of a result that are reached from deciding instances.
-ghost use Rattle.std.specs.Prelude.{◌≡◌, List, ◌∷◌, ◌++◌, ◌<◌, [], length, slice_get, Some, MatchOption, IfOk, IfSome, OnOk, OnErr};
+ghost use Rattle.std.specs.Prelude.{◌≡◌, List, ◌∷◌, ◌++◌, ◌<◌, [], length, slice_get, Some, MatchOption, ◌↔◌, IsTrue, IfOk, IfSome, OnOk, OnErr};
 ghost use Rattle.gm_pending.specs.declared.marks.Mark.{Mark};
-ghost use Rattle.gm_pending.specs.Marks.{key_of, reached_by, HasKey, AreKeyed, IsIndex, IsMarkedBy, IsMarkedMore, HasDistinctKeys};
+ghost use Rattle.gm_pending.specs.Marks.{key_of, bit_of, reached_by, HasKey, AreKeyed, IsIndex, IsMarkedBy, IsMarkedMore, HasDistinctKeys};
 
 use crate::at::At;
 use gm_model::OutOfMemory;
@@ -16,7 +16,7 @@ pub(crate) struct Mark {
     pub(crate) instance: u32,
     /// The label of the arc over which the dart was reached, if it was. Back over it lies a marked dart.
     pub(crate) over: Option<u8>,
-    /// The number of the dart. It is kept, so that a search only compares numbers.
+    /// The key of the dart. It is kept, so that a search only compares numbers.
     key: u64,
 }
 
@@ -78,21 +78,14 @@ impl Marks {
         self.reached.len()
     }
 
-    /// The dart that was found at this place.
-    pub(crate) fn get(&self, place: usize) -> Mark
-        requires { place < length self.now }
-        ensures { slice_get self.now place ≡ Some result }
-    {
-        self.reached[place]
-    }
-
     /// The index of the instance that decides the dart's orbit; none where it isn't reached.
+    #[inline]
     pub(crate) fn decided_by(&self, at: At) -> Option<u32>
         ensures instance { MatchOption result (HasKey self.now (key_of at) → ⊥) (IsMarkedBy self.now (key_of at)) }
         ensures distinct { HasDistinctKeys self.now }
     {
         let wanted = key(at);
-        if (self.bits >> (wanted / 2 % 64)) & 1 == 0 {
+        if (self.bits >> bit(wanted)) & 1 == 0 {
             return None;
         }
         match &self.by_key {
@@ -101,25 +94,28 @@ impl Marks {
         }
     }
 
-    /// Marks a dart, unless it is marked. Where memory was wanting, nothing is marked.
+    /// Marks a dart, unless it is marked, and answers whether it wasn't. Where memory was wanting,
+    /// nothing is marked.
     #[inline]
     pub(crate) fn mark(
         &mut self,
         at: At,
         instance: u32,
         over: Option<u8>,
-    ) -> Result<(), OutOfMemory>
+    ) -> Result<bool, OutOfMemory>
         ensures ok { OnOk result (IsMarkedMore self.old self.new at instance over) }
+        ensures new { IfOk result (λ new. IsTrue new ↔ (HasKey self.old (key_of at) → ⊥)) }
         ensures err { OnErr result (self.new ≡ self.old) }
         ensures distinct { HasDistinctKeys self.old }
     {
         if self.decided_by(at).is_some() {
-            return Ok(());
+            return Ok(false);
         }
         if self.by_key.is_none() && self.reached.len() >= FEW {
-            self.index_all()?;
+            self.by_key = Some(index(self.alloc, &self.reached)?);
         }
-        self.mark_new(at, instance, over, FEW)
+        self.mark_new(at, instance, over, FEW)?;
+        Ok(true)
     }
 
     /// Marks a dart that isn't marked. Where memory was wanting, nothing is marked. It makes no index,
@@ -144,7 +140,7 @@ impl Marks {
             key: key(at),
         };
         if self.by_key.is_none() {
-            self.bits |= 1 << (mark.key / 2 % 64);
+            self.bits |= 1 << bit(mark.key);
             push(&mut self.reached, mark, room)
         } else {
             self.add_to_index(mark)
@@ -162,17 +158,8 @@ impl Marks {
     {
         self.reached.reserve(1)?;
         self.by_key = put(self.by_key.take(), mark)?;
-        self.bits |= 1 << (mark.key / 2 % 64);
+        self.bits |= 1 << bit(mark.key);
         self.reached.push_reserved(mark);
-        Ok(())
-    }
-
-    /// Makes the index.
-    #[cold]
-    fn index_all(&mut self) -> Result<(), OutOfMemory>
-        ensures { self.new ≡ self.old }
-    {
-        self.by_key = Some(index(self.alloc, &self.reached)?);
         Ok(())
     }
 }
@@ -190,6 +177,7 @@ pub(crate) fn push<T: Copy>(entries: &mut Vec<T>, entry: T, room: usize) -> Resu
 }
 
 /// The index of the deciding instance of each dart, by its key.
+#[cold]
 fn index(alloc: Global, reached: &[Mark]) -> Result<Box<HashMap<u64, u32>>, OutOfMemory>
     requires keyed { AreKeyed reached.now }
     requires distinct { HasDistinctKeys reached.now }
@@ -241,4 +229,11 @@ fn key(at: At) -> u64
         At::Old(slot) => u64::from(slot.at) * 2,
         At::New { node, position } => u64::from(position) * 64 + u64::from(node) * 2 + 1,
     }
+}
+
+/// The bit, of 64, that stands for the dart of a key. Each dart has one, and may share it.
+fn bit(key: u64) -> u64
+    ensures { result ≡ bit_of key }
+{
+    key / 2 % 64
 }

@@ -242,7 +242,7 @@ impl<'a, 'm> Pending<'a, 'm> {
         requires { embed < length self.now.map.schema.embeds }
     {
         for node in 0..self.nodes() {
-            if self.assigns(embed, node) && !self.is_one_orbit(embed, node) {
+            if self.assigns(embed, node) && !self.plan.is_exact(embed, node) {
                 return true;
             }
         }

@@ -63,6 +63,14 @@ impl Instances {
         self.positions
     }
 
+    /// The slots of position 0 by node, then those of position 1, and so on.
+    pub fn slots(&self) -> &[Slot]
+        ensures slots { result.now ≡ self.now.slots }
+        ensures long { self.now.positions * self.now.nodes ≡ length self.now.slots }
+    {
+        &self.slots
+    }
+
     /// The slot of the node at the position.
     pub fn slot(&self, node: u8, position: u32) -> Slot
         requires node { node < self.now.nodes }

@@ -1,6 +1,5 @@
-use Rattle.std.proofs.Common.{◌≢◌, ℕ, ◌<◌}
-use Rattle.gm_plan.specs.InArena.{slot_number}
+use Rattle.std.proofs.Common.{◌≢◌, ℕ, ◌<◌, slice_index_or}
 use Rattle.gm_pending.proofs.lookup.instance_at.Given as goal
 
-abbrev pub invariant-loop-node : goal.invariant-loop-node
-invariant-loop-node l = (x p : ℕ) → x < l.node → p < l.found.positions → slot_number l.found x p ≢ l.slot.at
+abbrev pub invariant-loop-place : goal.invariant-loop-place
+invariant-loop-place l = (k : ℕ) → k < l.place → (slice_index_or l.found.slots k (record { at = 0 })).at ≢ l.slot.at

@@ -8,4 +8,4 @@ invariant_of-self c =
     let reached = c.self.inside.reached.items in
     let absent : HasKey reached (key_of c.args.at) → ⊥ = rw c.self.view_is c.requires.absent in
     let mark : Mark = record { at = c.args.at; instance = c.args.instance; over = c.args.over; key = c.key.result } in
-    marked_few (λ b. b.value) reached c.push.new.entries.items c.self.inside.by_key c.self.inside.bits mark c.push.result c.if-is_none.ensures c.self.invariant c.key.ensures absent c.push.ensures.ok c.push.ensures.err
+    rw c.bit.ensures (marked_few (λ b. b.value) reached c.push.new.entries.items c.self.inside.by_key c.self.inside.bits mark c.push.result c.if-is_none.ensures c.self.invariant c.key.ensures absent c.push.ensures.ok c.push.ensures.err)

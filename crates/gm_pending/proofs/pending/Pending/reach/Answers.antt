@@ -1,8 +1,12 @@
 use Rattle.std.proofs.Common.{◌≡◌, ◌+◌, ◌<◌, length, None, sym, subst, arith, ◌*◌, ◌≤◌}
-use Rattle.std.proofs.lemmas.Option.{slice_get_within}
+use Rattle.std.proofs.lemmas.Option.{slice_get-get_or}
+use Rattle.gm_pending.specs.declared.at.At.TheVariants.{Old}
+use Rattle.gm_pending.specs.Marks.{reached_by}
 use Rattle.gm_pending.specs.Reached.{IsSpreadTo}
 use Rattle.gm_pending.specs.Results.{name_of}
 use Rattle.gm_pending.proofs.Following.{stays_longer, walked_cost, walked_on, walked_some}
+use Rattle.gm_pending.proofs.Decided.{on_ok}
+use Rattle.gm_pending.proofs.Pairs.{follow_other, follow_spreads, follow_starts, one_longer, pair_cost, pair_wide}
 use Rattle.gm_pending.proofs.Spread.{marked_kept, marked_darts, nothing_grown, spread_starts}
 use Rattle.gm_theory.proofs.Lists.{get_contained}
 use Rattle.gm_pending.proofs.pending.Pending.reach.Goals as goal
@@ -34,23 +38,23 @@ pub returns-in_err-spread-clause-grown : goal.returns-in_err-spread-clause-grown
 returns-in_err-spread-clause-grown g c =
     let l = c.loop-next in
     λ result unfolded closed. walked_some c.args.self.now c.labels.ensures.prepared c.args.embed c.args.declared.now c.requires.embed c.args.marks.now l.marks c.spread.new.marks c.args.index (name_of c.args.self.now c.args.at) l.next
-    c.get-from.result l.invariant.late c.get-from.ensures result unfolded (l.invariant.spread result unfolded closed) c.spread.ensures.grown
+    _ l.invariant.late (rw c.as_slice.ensures.reached (slice_get-get_or l.marks l.next (reached_by (Old (record { at = 0 })) 0 None) (omega (arith, c.loop-next-test.true, c.len.ensures.len)))) result unfolded (l.invariant.spread result unfolded closed) c.spread.ensures.grown
 
 pub returns-in_err-spread-clause-cost : goal.returns-in_err-spread-clause-cost
 returns-in_err-spread-clause-cost g c =
-    let within : c.loop-next.next < length c.loop-next.marks = slice_get_within c.loop-next.marks c.loop-next.next c.get-from.result c.get-from.ensures in
+    let within : c.loop-next.next < length c.loop-next.marks = omega (arith, c.loop-next-test.true, c.len.ensures.len) in
     walked_cost c.args.self.now.map.schema.dim c.loop-next.next (length c.spread.new.marks) (length c.args.marks.now) c.args.steps.now c.loop-next.steps c.spread.new.steps (omega (arith, within, c.spread.ensures.longer)) c.loop-next.invariant.cost c.spread.ensures.cost
 
 pub loop-next-preserved : goal.loop-next-preserved
 loop-next-preserved g c =
     let l = c.loop-next in
-    let within : l.next < length l.marks = slice_get_within l.marks l.next c.get-from.result c.get-from.ensures in
+    let within : l.next < length l.marks = omega (arith, c.loop-next-test.true, c.len.ensures.len) in
     record {
       darts = c.spread.ensures.darts;
       late = omega (arith, l.invariant.late);
       within = omega (arith, within, c.spread.ensures.longer);
       spread = λ result unfolded closed. walked_on c.args.self.now c.labels.ensures.prepared c.args.embed c.args.declared.now c.requires.embed c.args.marks.now l.marks c.spread.new.marks c.args.index (name_of c.args.self.now c.args.at) l.next
-          c.get-from.result l.invariant.late c.get-from.ensures result unfolded (l.invariant.spread result unfolded closed) c.in_ok-spread.ensures.followed;
+          _ l.invariant.late (rw c.as_slice.ensures.reached (slice_get-get_or l.marks l.next (reached_by (Old (record { at = 0 })) 0 None) (omega (arith, c.loop-next-test.true, c.len.ensures.len)))) result unfolded (l.invariant.spread result unfolded closed) c.in_ok-spread.ensures.followed;
       cost = walked_cost c.args.self.now.map.schema.dim l.next (l.next + 1) (length c.args.marks.now) c.args.steps.now l.steps c.spread.new.steps (omega arith) l.invariant.cost c.spread.ensures.cost;
       least = omega (arith, l.invariant.least, c.spread.ensures.least);
     }
@@ -61,9 +65,6 @@ returns-clause-spread g c =
     let end : l.next ≡ length l.marks = omega (arith, l.invariant.within, c.loop-next-test.false, c.len.ensures.len) in
     λ result unfolded closed. subst (λ n. IsSpreadTo c.args.self.now c.args.declared.now result c.args.marks.now l.marks c.args.index (name_of c.args.self.now c.args.at) n 0) end (l.invariant.spread result unfolded closed)
 
-pub get-from-requires : goal.get-from-requires
-get-from-requires g c = omega (arith, c.loop-next-test.true, c.len.ensures.len)
-
 pub spread-requires-clause-embed : goal.spread-requires-clause-embed
 spread-requires-clause-embed g c = c.requires.embed
 
@@ -71,7 +72,7 @@ pub spread-requires-clause-darts : goal.spread-requires-clause-darts
 spread-requires-clause-darts g c = c.loop-next.invariant.darts
 
 pub spread-requires-clause-from : goal.spread-requires-clause-from
-spread-requires-clause-from g c = get_contained c.loop-next.marks c.loop-next.next c.get-from.result c.get-from.ensures
+spread-requires-clause-from g c = rw c.as_slice.ensures.reached (get_contained c.loop-next.marks c.loop-next.next _ (slice_get-get_or c.loop-next.marks c.loop-next.next (reached_by (Old (record { at = 0 })) 0 None) (omega (arith, c.loop-next-test.true, c.len.ensures.len))))
 
 pub returns-in_err-mark-clause-cost : goal.returns-in_err-mark-clause-cost
 returns-in_err-mark-clause-cost g c = rw c.in_err-mark.ensures.err (omega arith)
@@ -105,3 +106,42 @@ returns-clause-cost g c =
 
 pub returns-clause-least : goal.returns-clause-least
 returns-clause-least g c = c.loop-next.invariant.least
+
+pub follow-requires-clause-darts : goal.follow-requires-clause-darts
+follow-requires-clause-darts g c = marked_darts c.args.self.now c.labels.ensures.prepared c.args.marks.now c.mark.new.self c.args.at c.args.index None c.in_ok-mark.ensures.ok c.requires.dart c.requires.darts
+
+pub returns-in_err-follow-clause-grown : goal.returns-in_err-follow-clause-grown
+returns-in_err-follow-clause-grown g c = λ result unfolded closed. c.follow.ensures.grown result c.args.marks.now c.in-Some.other unfolded
+    (follow_starts c.args.self.now c.labels.ensures.prepared c.args.embed c.args.declared.now c.requires.embed result unfolded c.args.marks.now c.mark.new.self c.args.at c.args.index c.in-Some.one c.in-Some.other c.in-Some.ensures closed c.requires.absent c.in_ok-mark.ensures.ok)
+
+pub returns-in-Some-clause-spread : goal.returns-in-Some-clause-spread
+returns-in-Some-clause-spread g c =
+    let app = c.args.self.now in
+    let prepared = c.labels.ensures.prepared in
+    let dim = app.map.schema.dim in
+    let d = name_of app c.args.at in
+    let one = c.in-Some.one in
+    let other = c.in-Some.other in
+    on_ok c.follow-in-Some.result c.follow-in-Some.ensures.followed (λ followed result unfolded closed.
+    let first = c.in_ok-follow.ensures.followed result c.args.marks.now other unfolded (follow_starts app prepared c.args.embed c.args.declared.now c.requires.embed result unfolded c.args.marks.now c.mark.new.self c.args.at c.args.index one other c.in-Some.ensures closed c.requires.absent c.in_ok-mark.ensures.ok) in
+    let second = followed result c.args.marks.now (dim + 1) unfolded (follow_other app prepared c.args.embed c.args.declared.now c.requires.embed result unfolded c.args.marks.now c.follow.new.marks c.args.index d other (dim + 1) first) in
+    follow_spreads app prepared c.args.embed c.args.declared.now c.requires.embed result unfolded c.args.marks.now c.follow-in-Some.new.marks c.args.index d second)
+
+pub returns-in-Some-clause-grown : goal.returns-in-Some-clause-grown
+returns-in-Some-clause-grown g c = λ result unfolded closed.
+    let app = c.args.self.now in
+    let prepared = c.labels.ensures.prepared in
+    let dim = app.map.schema.dim in
+    let other = c.in-Some.other in
+    let first = c.in_ok-follow.ensures.followed result c.args.marks.now other unfolded (follow_starts app prepared c.args.embed c.args.declared.now c.requires.embed result unfolded c.args.marks.now c.mark.new.self c.args.at c.args.index c.in-Some.one other c.in-Some.ensures closed c.requires.absent c.in_ok-mark.ensures.ok) in
+    c.follow-in-Some.ensures.grown result c.args.marks.now (dim + 1) unfolded (follow_other app prepared c.args.embed c.args.declared.now c.requires.embed result unfolded c.args.marks.now c.follow.new.marks c.args.index (name_of app c.args.at) other (dim + 1) first)
+
+pub returns-in-Some-clause-cost : goal.returns-in-Some-clause-cost
+returns-in-Some-clause-cost g c =
+    let app = c.args.self.now in
+    let labels = c.labels.ensures.prepared.lawful.schema.labels in
+    let pair = c.in-Some.ensures in
+    let wide : 1 ≤ app.map.schema.dim = pair_wide app.map.schema.dim c.in-Some.one c.in-Some.other pair.apart (labels c.args.embed c.in-Some.one c.args.declared.now c.requires.embed pair.has_one) (labels c.args.embed c.in-Some.other c.args.declared.now c.requires.embed pair.has_other) in
+    let long : length c.mark.new.self ≡ length c.args.marks.now + 1 = one_longer c.args.marks.now c.mark.new.self c.args.at c.args.index None c.in_ok-mark.ensures.ok c.requires.absent in
+    pair_cost app.map.schema.dim (length c.args.marks.now) (length c.follow-in-Some.new.marks) c.args.steps.now c.follow-in-Some.new.steps wide
+    (omega (arith, long, c.follow.ensures.longer, c.follow-in-Some.ensures.longer)) (omega (arith, long, c.follow.ensures.cost, c.follow-in-Some.ensures.cost))
