@@ -1,6 +1,7 @@
 -- What a number of 64 bits, or one computed from such, is after its casts: itself.
-use Rattle.std.proofs.Common.{◌≡◌, ◌≢◌, ◌≤◌, ◌^◌, unsigned_abs, ℤ, pos, negsuc, ◌*ℤ◌, ◌-ℤ◌, ◌<ℤ◌, ◌≤ℤ◌, neg_ℤ, int_lt, true, false, FitsSigned, sym, ap, ap₂, ◌∙◌, arith, w64, to_z, of_z}
+use Rattle.std.proofs.Common.{◌≡◌, ◌≢◌, ◌≤◌, ◌^◌, unsigned_abs, ℤ, pos, negsuc, ◌*ℤ◌, ◌-ℤ◌, ◌<ℤ◌, ◌≤ℤ◌, neg_ℤ, int_lt, true, false, FitsSigned, Option, sym, subst, ap, ap₂, ◌∙◌, arith, w64, to_z, of_z}
 use Rattle.std.specs.Int.{w128}
+use Rattle.gm_eval.specs.Made.{IsExact}
 use Rattle.std.proofs.lemmas.Int.{fits_signed_mul, ints, to_z-of_z}
 
 -- as the code passes a number of 64 bits to a function, as it widens one, and as it negates that
@@ -23,12 +24,16 @@ opposite_is x fits = omega (arith, ints)
 pub exact : (op : ℤ → ℤ → ℤ) (a b r : ℤ) → FitsSigned w64 a → FitsSigned w64 b → FitsSigned w128 r → r ≡ op (passed a) (passed b) → kept r ≡ op a b
 exact op a b r fits_a fits_b fits e = to_z-of_z w128 r fits ∙ e ∙ ap₂ op (to_z-of_z w64 a fits_a) (to_z-of_z w64 b fits_b)
 
--- the sign of a divisor
-pub above : (y : ℤ) → FitsSigned w64 y → int_lt (pos 0) (wide y) ≡ true → pos 0 <ℤ y
-above y fits h = let same : int_lt (pos 0) y ≡ true = ap (int_lt (pos 0)) (sym (wide_is y fits)) ∙ h in grind (arith, ints)
+-- where it is in range
+pub exactly : (op : ℤ → ℤ → ℤ) (a b : ℤ) (r : Option ℤ) → FitsSigned w64 a → FitsSigned w64 b → IsExact r (op (passed a) (passed b)) → IsExact r (op a b)
+exactly op a b r fits_a fits_b h = subst (IsExact r) (ap₂ op (to_z-of_z w64 a fits_a) (to_z-of_z w64 b fits_b)) h
 
-pub below : (y : ℤ) → FitsSigned w64 y → y ≢ pos 0 → int_lt (pos 0) (wide y) ≡ false → y <ℤ pos 0
-below y fits nonzero h = let same : int_lt (pos 0) y ≡ false = ap (int_lt (pos 0)) (sym (wide_is y fits)) ∙ h in grind (arith, ints)
+-- the sign of a divisor
+pub above : (y : ℤ) → FitsSigned w64 y → int_lt (pos 0) (passed y) ≡ true → pos 0 <ℤ y
+above y fits h = let same : int_lt (pos 0) y ≡ true = ap (int_lt (pos 0)) (sym (to_z-of_z w64 y fits)) ∙ h in grind (arith, ints)
+
+pub below : (y : ℤ) → FitsSigned w64 y → y ≢ pos 0 → int_lt (pos 0) (passed y) ≡ false → y <ℤ pos 0
+below y fits nonzero h = let same : int_lt (pos 0) y ≡ false = ap (int_lt (pos 0)) (sym (to_z-of_z w64 y fits)) ∙ h in grind (arith, ints)
 
 -- the remainder of Euclid's quotient, negated
 pub negated : (r : ℤ) → FitsSigned w128 r → pos 0 ≤ℤ r → kept (pos 0 -ℤ kept r) ≡ neg_ℤ r

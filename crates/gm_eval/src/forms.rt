@@ -23,7 +23,10 @@ use std::sync::ledger::Ledger;
 
 impl Reader<'_> {
     /// The value of the expression; none where it has none.
+    // It is inlined where a part is read, and the forms that have parts aren't: so a number, a parameter
+    // or a field takes no call and no frame.
     #[cycle(value)]
+    #[inline(always)]
     pub(crate) fn value<L: Ledger>(
         &self,
         expr: &Expr,
@@ -76,6 +79,7 @@ impl Reader<'_> {
 
     /// The value of an operator of one part.
     #[cycle(value)]
+    #[inline(never)]
     fn unary<L: Ledger>(
         &self,
         op: UnOp,
@@ -102,6 +106,7 @@ impl Reader<'_> {
 
     /// The value of an operator of two parts. Both are read.
     #[cycle(value)]
+    #[inline(never)]
     fn binary<L: Ledger>(
         &self,
         op: BinOp,
@@ -164,6 +169,7 @@ impl Reader<'_> {
 
     /// The value of the part that the condition chooses. The other is not read.
     #[cycle(value)]
+    #[inline(never)]
     fn choice<L: Ledger>(
         &self,
         condition: &Expr,
@@ -194,6 +200,7 @@ impl Reader<'_> {
 
     /// The vector of two numbers.
     #[cycle(value)]
+    #[inline(never)]
     fn pair<L: Ledger>(
         &self,
         x: &Expr,
@@ -221,6 +228,7 @@ impl Reader<'_> {
 
     /// The numbers that three expressions are; none where one of them is none.
     #[cycle(value)]
+    #[inline(never)]
     fn numbers<L: Ledger>(
         &self,
         x: &Expr,

@@ -1,25 +1,31 @@
 //! Whole numbers: the exact quotient, rounded down, and values that are made of exact numbers.
 
-ghost use Rattle.std.specs.Prelude.{◌≡◌, ◌≢◌, neg_ℤ, ◌+ℤ◌, ◌-ℤ◌, ◌*ℤ◌, pos, [], ◌∷◌, MatchOption};
+ghost use Rattle.std.specs.Prelude.{◌≡◌, ◌≢◌, ℤ, neg_ℤ, ◌+ℤ◌, ◌-ℤ◌, ◌*ℤ◌, pos, [], ◌∷◌, MatchOption};
 ghost use Rattle.gm_model.specs.Expressions.{IsMade, floor};
 ghost use Rattle.gm_model.specs.declared.value.Kind.TheVariants.{Int, Vec2, Vec3, Rgb};
-ghost use Rattle.gm_eval.specs.Made.{IsNone};
+ghost use Rattle.gm_eval.specs.Made.{IsExact, IsNone};
 
 use gm_model::Value;
 
-/// The greatest whole number not above the quotient.
-pub(crate) fn quotient(number: i64, divisor: i64) -> i128
+/// The greatest whole number not above the quotient, where it is in the range of 64 bits.
+pub(crate) fn quotient(number: i64, divisor: i64) -> Option<i64>
     requires divisor { divisor ≢ pos 0 }
-    ensures { result ≡ floor number divisor }
+    ensures { IsExact result (floor number divisor) }
 {
-    let number = number as i128;
-    let divisor = divisor as i128;
-    // By a positive divisor the remainder of Euclid's quotient has the divisor's sign.
+    // By a positive divisor the remainder of Euclid's quotient has the divisor's sign, and the quotient
+    // is in the range of what is divided.
     if divisor > 0 {
-        number.div_euclid(divisor)
+        Some(number.div_euclid(divisor))
     } else {
-        (-number).div_euclid(-divisor)
+        narrowed((-(number as i128)).div_euclid(-(divisor as i128)))
     }
+}
+
+/// The number, where it is in the range of 64 bits.
+fn narrowed(x: i128) -> Option<i64>
+    ensures { IsExact result x }
+{
+    i64::try_from(x).ok()
 }
 
 /// What the quotient leaves.
@@ -27,12 +33,10 @@ pub(crate) fn remainder(number: i64, divisor: i64) -> i128
     requires divisor { divisor ≢ pos 0 }
     ensures { result ≡ number -ℤ (divisor *ℤ floor number divisor) }
 {
-    let number = number as i128;
-    let divisor = divisor as i128;
     if divisor > 0 {
-        number.rem_euclid(divisor)
+        number.rem_euclid(divisor) as i128
     } else {
-        -(-number).rem_euclid(-divisor)
+        -(-(number as i128)).rem_euclid(-(divisor as i128))
     }
 }
 
@@ -43,18 +47,18 @@ pub(crate) fn opposite(number: i64) -> i128
     -(number as i128)
 }
 
-/// The exact sum.
-pub(crate) fn sum(left: i64, right: i64) -> i128
-    ensures { result ≡ left +ℤ right }
+/// The sum, where it is in the range of 64 bits.
+pub(crate) fn sum(left: i64, right: i64) -> Option<i64>
+    ensures { IsExact result (left +ℤ right) }
 {
-    left as i128 + right as i128
+    left.checked_add(right)
 }
 
-/// The exact difference.
-pub(crate) fn difference(left: i64, right: i64) -> i128
-    ensures { result ≡ left -ℤ right }
+/// The difference, where it is in the range of 64 bits.
+pub(crate) fn difference(left: i64, right: i64) -> Option<i64>
+    ensures { IsExact result (left -ℤ right) }
 {
-    left as i128 - right as i128
+    left.checked_sub(right)
 }
 
 /// The exact product.
@@ -64,29 +68,46 @@ pub(crate) fn product(left: i64, right: i64) -> i128
     left as i128 * right as i128
 }
 
+/// A number, where there is one.
+pub(crate) fn int_of(x: Option<i64>) -> Option<Value>
+    ensures { (a : ℤ) → IsExact x a → MatchOption result (IsNone (IsMade Int (a ∷ []))) (IsMade Int (a ∷ [])) }
+{
+    Some(Value::Int(x?))
+}
+
+/// A vector of two numbers, where there are both.
+pub(crate) fn vec2_of(x: Option<i64>, y: Option<i64>) -> Option<Value>
+    ensures { (a b : ℤ) → IsExact x a → IsExact y b → MatchOption result (IsNone (IsMade Vec2 (a ∷ b ∷ []))) (IsMade Vec2 (a ∷ b ∷ [])) }
+{
+    Some(Value::Vec2(x?, y?))
+}
+
+/// A vector of three numbers, where there are all.
+pub(crate) fn vec3_of(x: Option<i64>, y: Option<i64>, z: Option<i64>) -> Option<Value>
+    ensures { (a b c : ℤ) → IsExact x a → IsExact y b → IsExact z c → MatchOption result (IsNone (IsMade Vec3 (a ∷ b ∷ c ∷ []))) (IsMade Vec3 (a ∷ b ∷ c ∷ [])) }
+{
+    Some(Value::Vec3(x?, y?, z?))
+}
+
 /// A number, where it is in its range.
 pub(crate) fn int(x: i128) -> Option<Value>
     ensures { MatchOption result (IsNone (IsMade Int (x ∷ []))) (IsMade Int (x ∷ [])) }
 {
-    Some(Value::Int(i64::try_from(x).ok()?))
+    Some(Value::Int(narrowed(x)?))
 }
 
 /// A vector of two numbers, where both are in their range.
 pub(crate) fn vec2(x: i128, y: i128) -> Option<Value>
     ensures { MatchOption result (IsNone (IsMade Vec2 (x ∷ y ∷ []))) (IsMade Vec2 (x ∷ y ∷ [])) }
 {
-    Some(Value::Vec2(i64::try_from(x).ok()?, i64::try_from(y).ok()?))
+    Some(Value::Vec2(narrowed(x)?, narrowed(y)?))
 }
 
 /// A vector of three numbers, where all are in their range.
 pub(crate) fn vec3(x: i128, y: i128, z: i128) -> Option<Value>
     ensures { MatchOption result (IsNone (IsMade Vec3 (x ∷ y ∷ z ∷ []))) (IsMade Vec3 (x ∷ y ∷ z ∷ [])) }
 {
-    Some(Value::Vec3(
-        i64::try_from(x).ok()?,
-        i64::try_from(y).ok()?,
-        i64::try_from(z).ok()?,
-    ))
+    Some(Value::Vec3(narrowed(x)?, narrowed(y)?, narrowed(z)?))
 }
 
 /// A colour, where its parts are in their range.

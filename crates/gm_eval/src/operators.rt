@@ -8,7 +8,10 @@ ghost use Rattle.gm_model.specs.Kinds.{numeric, unary_kind, binary_kind};
 ghost use Rattle.gm_model.specs.Values.{kind_of};
 ghost use Rattle.gm_eval.specs.Made.{IsNone};
 
-use crate::numbers::{difference, int, opposite, product, quotient, remainder, sum, vec2, vec3};
+use crate::numbers::{
+    difference, int, int_of, opposite, product, quotient, remainder, sum, vec2, vec2_of, vec3,
+    vec3_of,
+};
 use gm_model::{BinOp, UnOp, Value};
 
 /// The value of an operator of one part.
@@ -26,6 +29,8 @@ pub(crate) fn unary(op: UnOp, part: Value) -> Option<Value>
 }
 
 /// The value of an operator of two parts.
+// Inlined, it takes the values where they were read.
+#[inline(always)]
 pub(crate) fn binary(op: BinOp, left: Value, right: Value) -> Option<Value>
     requires kind { IsSome (binary_kind op (kind_of left) (kind_of right)) }
     ensures { MatchOption result (IsNone (IsBinary op left right)) (IsBinary op left right) }
@@ -116,9 +121,9 @@ fn added(left: Value, right: Value) -> Option<Value>
     ensures { MatchOption result (IsNone (IsBinary Add left right)) (IsBinary Add left right) }
 {
     match (left, right) {
-        (Value::Int(x), Value::Int(a)) => int(sum(x, a)),
-        (Value::Vec2(x, y), Value::Vec2(a, b)) => { vec2(sum(x, a), sum(y, b)) }
-        (Value::Vec3(x, y, z), Value::Vec3(a, b, c)) => vec3(sum(x, a), sum(y, b), sum(z, c)),
+        (Value::Int(x), Value::Int(a)) => int_of(sum(x, a)),
+        (Value::Vec2(x, y), Value::Vec2(a, b)) => { vec2_of(sum(x, a), sum(y, b)) }
+        (Value::Vec3(x, y, z), Value::Vec3(a, b, c)) => vec3_of(sum(x, a), sum(y, b), sum(z, c)),
         _ => unreachable!(),
     }
 }
@@ -129,9 +134,9 @@ fn subtracted(left: Value, right: Value) -> Option<Value>
     ensures { MatchOption result (IsNone (IsBinary Sub left right)) (IsBinary Sub left right) }
 {
     match (left, right) {
-        (Value::Int(x), Value::Int(a)) => int(difference(x, a)),
-        (Value::Vec2(x, y), Value::Vec2(a, b)) => { vec2(difference(x, a), difference(y, b)) }
-        (Value::Vec3(x, y, z), Value::Vec3(a, b, c)) => vec3(
+        (Value::Int(x), Value::Int(a)) => int_of(difference(x, a)),
+        (Value::Vec2(x, y), Value::Vec2(a, b)) => { vec2_of(difference(x, a), difference(y, b)) }
+        (Value::Vec3(x, y, z), Value::Vec3(a, b, c)) => vec3_of(
             difference(x, a),
             difference(y, b),
             difference(z, c),
@@ -185,9 +190,9 @@ fn quotients(value: Value, divisor: i64) -> Option<Value>
         (IsMade (kind_of value) (map (λ x. floor x divisor) (components value))) }
 {
     match value {
-        Value::Int(x) => int(quotient(x, divisor)),
-        Value::Vec2(x, y) => vec2(quotient(x, divisor), quotient(y, divisor)),
-        Value::Vec3(x, y, z) => vec3(
+        Value::Int(x) => int_of(quotient(x, divisor)),
+        Value::Vec2(x, y) => vec2_of(quotient(x, divisor), quotient(y, divisor)),
+        Value::Vec3(x, y, z) => vec3_of(
             quotient(x, divisor),
             quotient(y, divisor),
             quotient(z, divisor),

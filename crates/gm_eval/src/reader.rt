@@ -23,6 +23,7 @@ pub(crate) struct Reader<'a> {
 
 impl Reader<'_> {
     /// The slot of the dart that the term names.
+    #[inline]
     pub(crate) fn slot<L: Ledger>(&self, term: &DartTerm, steps: &mut Steps<L>) -> Slot
         requires here { IsHere self.now }
         requires term { IsTermHere self.now term.now }
@@ -48,6 +49,7 @@ impl Reader<'_> {
     }
 
     /// Whether both terms name one dart, as a value.
+    #[inline(never)]
     pub(crate) fn same<L: Ledger>(
         &self,
         term: &DartTerm,

@@ -178,6 +178,24 @@ pub record IsBegun (m : ArenaMap) (rule : Rule) (hooks : List ℕ) : Type 0 wher
 pub begun_of : (m : ArenaMap) (rule : Rule) (hooks : List ℕ) (slots : List Slot) → IsMatchable m rule → IsLawful m → 0 < length hooks → length hooks ≡ length rule.hooks → AreHookSlots m hooks slots → IsBegun m rule hooks
 begun_of m rule hooks slots sound lawful some same are = record { sound = sound; lawful = lawful; some = some; live = named_live m hooks slots lawful are; count = same }
 
+-- the same from what was looked up and asked until then
+pub begun_with : (m : ArenaMap) (schema : Schema) (rule : Rule) (hooks : List ℕ) (slots : List Slot) (empty : Bool) → IsGeneralised (as_map m) → m.schema ≡ schema → IsPlanned schema rule → IsLawful m →
+    empty ≡ (length hooks == 0) → empty ≡ false → length hooks ≡ length rule.hooks → AreHookSlots m hooks slots → IsBegun m rule hooks
+begun_with m schema rule hooks slots empty generalised same planned lawful is_empty some count are =
+    begun_of m rule hooks slots (sound_of m schema rule generalised same planned) lawful (not_nil hooks empty is_empty some) count are
+
+-- and the instances that were made are the candidate
+pub record IsMade (m : ArenaMap) (rule : Rule) (hooks : List ℕ) (found : Placed) : Type 0 where
+  pub begun : IsBegun m rule hooks
+  pub at : IsCandidateAt m rule hooks found
+
+pub made_with : (m : ArenaMap) (schema : Schema) (rule : Rule) (hooks : List ℕ) (slots : List Slot) (empty : Bool) (found : Placed) → IsGeneralised (as_map m) → m.schema ≡ schema → IsPlanned schema rule → IsLawful m →
+    empty ≡ (length hooks == 0) → empty ≡ false → length hooks ≡ length rule.hooks → AreHookSlots m hooks slots → IsCandidateAt m rule (names_of m slots) found → IsMade m rule hooks found
+made_with m schema rule hooks slots empty found generalised same planned lawful is_empty some count are at = record {
+  begun = begun_with m schema rule hooks slots empty generalised same planned lawful is_empty some count are;
+  at = subst (λ hs. IsCandidateAt m rule hs found) are.names at;
+}
+
 module _ (m : ArenaMap) (rule : Rule) (hooks : List ℕ) (begun : IsBegun m rule hooks) where
   first_dart : slice_get hooks 0 ≡ Some (slice_index hooks 0)
   first_dart = slice_get-get_or hooks 0 0 begun.some
@@ -212,8 +230,15 @@ module _ (m : ArenaMap) (rule : Rule) (hooks : List ℕ) (begun : IsBegun m rule
     made : (params : List Value) (k : ℕ) → HasPositions (application_of m rule hooks params) k → found_at ≤ looked + 6 * (m.schema.dim + 1) * (length rule.nodes * k)
     made params k has = let w = positions_are params k has in subst (λ n. found_at ≤ looked + 6 * (m.schema.dim + 1) * (length rule.nodes * n)) w.2 (make w.0 w.1)
 
-    pub made_cost : (params : List Value) (k : ℕ) → HasPositions (application_of m rule hooks params) k → found_at ≤ start + 8 * (m.schema.dim + 1) * (length rule.nodes * k + 1)
+    made_cost : (params : List Value) (k : ℕ) → HasPositions (application_of m rule hooks params) k → found_at ≤ start + 8 * (m.schema.dim + 1) * (length rule.nodes * k + 1)
     made_cost params k has = found_cost (m.schema.dim + 1) (length rule.nodes) k start looked found_at (omega arith) (some_position params k has) few_looks (made params k has)
+
+  -- what the candidate took, by the names of the hooks' slots
+  abbrev pub IsMadeWithin : List ℕ → ℕ → ℕ → Type 0
+  IsMadeWithin names looked found_at = (walk : List ℕ) → IsWalk (along_hook (as_map m) rule) (width rule) (slice_index names 0) walk → found_at ≤ looked + 6 * (m.schema.dim + 1) * (length rule.nodes * length walk)
+
+  pub named_cost : (names : List ℕ) → names ≡ hooks → (start looked found_at : ℕ) → looked ≤ start + length hooks → IsMadeWithin names looked found_at → (params : List Value) (k : ℕ) → HasPositions (application_of m rule hooks params) k → found_at ≤ start + 8 * (m.schema.dim + 1) * (length rule.nodes * k + 1)
+  named_cost names same start looked found_at look make = made_cost start looked found_at look (subst (λ hs. IsMadeWithin hs looked found_at) same make)
 
   module _ (found : Placed) (at : IsCandidateAt m rule hooks found) where
     pub positions_found : (params : List Value) (k : ℕ) → HasPositions (application_of m rule hooks params) k → k ≡ found.positions
@@ -222,11 +247,15 @@ module _ (m : ArenaMap) (rule : Rule) (hooks : List ℕ) (begun : IsBegun m rule
         let theirs = positions_are params found.positions (Candidate (place_of m found) (live_hooks params) at.candidate) in
         sym ours.2 ∙ ap length (walk_unique (along_hook (as_map m) rule) (width rule) (slice_index hooks 0) ours.0 theirs.0 ours.1 theirs.1) ∙ theirs.2
 
-    pub tested_cost : (start looked found_at met : ℕ) → looked ≤ start + length hooks → ((walk : List ℕ) → IsWalk (along_hook (as_map m) rule) (width rule) (slice_index hooks 0) walk → found_at ≤ looked + 6 * (m.schema.dim + 1) * (length rule.nodes * length walk)) →
+    tested_cost : (start looked found_at met : ℕ) → looked ≤ start + length hooks → ((walk : List ℕ) → IsWalk (along_hook (as_map m) rule) (width rule) (slice_index hooks 0) walk → found_at ≤ looked + 6 * (m.schema.dim + 1) * (length rule.nodes * length walk)) →
         met ≤ found_at + (m.schema.dim + 1) * (length rule.nodes * found.positions) → (params : List Value) (k : ℕ) → HasPositions (application_of m rule hooks params) k → met ≤ start + 8 * (m.schema.dim + 1) * (length rule.nodes * k + 1)
     tested_cost start looked found_at met look make test params k has =
         met_cost (m.schema.dim + 1) (length rule.nodes) k start looked found_at met (omega arith) (some_position params k has) (few_looks start looked found_at look make) (made start looked found_at look make params k has)
         (subst (λ n. met ≤ found_at + (m.schema.dim + 1) * (length rule.nodes * n)) (sym (positions_found params k has)) test)
+
+    pub named_tested_cost : (names : List ℕ) → names ≡ hooks → (start looked found_at met : ℕ) → looked ≤ start + length hooks → IsMadeWithin names looked found_at →
+        met ≤ found_at + (m.schema.dim + 1) * (length rule.nodes * found.positions) → (params : List Value) (k : ℕ) → HasPositions (application_of m rule hooks params) k → met ≤ start + 8 * (m.schema.dim + 1) * (length rule.nodes * k + 1)
+    named_tested_cost names same start looked found_at met look make = tested_cost start looked found_at met look (subst (λ hs. IsMadeWithin hs looked found_at) same make)
 
     like : (place : Placement) → IsMatch (as_map m) rule hooks place → IsLike rule (place_of m found) place
     like place matched = candidates_agree (as_map m) rule hooks begun.sound.in_range begun.sound.incidence (place_of m found) place at.candidate (match_is_candidate (as_map m) rule place begun.sound.in_range begun.sound.incidence hooks matched)

@@ -10,7 +10,7 @@ use Rattle.std.proofs.lemmas.Nat.{mul-add-lt, div-mul-add, mod-mul-add}
 use Rattle.gm_arena.specs.declared.slot.Slot.{Slot}
 use Rattle.gm_arena.specs.ArenaMap.{ArenaMap, IsAt, name_at, alpha}
 use Rattle.gm_arena.proofs.MapLemmas.{name_at-is}
-use Rattle.gm_match.specs.Layout.{AreColumns, AreRows, dart_at}
+use Rattle.gm_match.specs.Layout.{AreAlongWalk, AreRows, dart_at}
 use Rattle.gm_match.proofs.Paths.{dart_set, dart_stays}
 
 -- a place in a row is within the rows
@@ -73,7 +73,7 @@ links_cost rows index links hooks nodes start after few all cost =
     omega (arith, fits, cost)
 
 -- with one hook such rows are those of the candidate
-pub column_rows : (m : ArenaMap) (rule : Rule) (hooks walk turns : List ℕ) (nodes rows : ℕ) (slots : List Slot) → length rule.hooks ≡ 1 → slice_index walk 0 ≡ slice_index hooks 0 → AreColumns m rule nodes walk rows slots → AreRows m rule hooks walk turns nodes rows slots
+pub column_rows : (m : ArenaMap) (rule : Rule) (hooks walk turns : List ℕ) (nodes rows : ℕ) (slots : List Slot) → length rule.hooks ≡ 1 → slice_index walk 0 ≡ slice_index hooks 0 → AreAlongWalk m rule nodes walk rows slots → AreRows m rule hooks walk turns nodes rows slots
 column_rows m rule hooks walk turns nodes rows slots one starts are = record {
   along = are;
   at_darts = λ t h d some at named.

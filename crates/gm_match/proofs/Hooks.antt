@@ -14,6 +14,7 @@ use Rattle.gm_model.specs.declared.word.Letter.TheVariants.{At}
 use Rattle.gm_model.specs.Rules.{Rule, rule_of, has_word, letters, label_at, width, word_at}
 use Rattle.gm_arena.specs.declared.slot.Slot.{Slot}
 use Rattle.gm_plan.specs.Plans.{IsLeftCount, IsPlanned}
+use Rattle.gm_match.specs.Layout.{IsTurnAmong}
 use Rattle.gm_theory.proofs.Candidates.{hook_left, hook_letter, letter_low}
 use Rattle.gm_theory.proofs.Lists.{contained_at}
 use Rattle.gm_theory.proofs.RuleSteps.{word_below}
@@ -76,3 +77,9 @@ turning schema rule planned h c word is_word turn nodes slots counts (rows, whol
 
     long : length word ≡ width rule
     long = ap length (sym is_word) ∙ planned.accepted.incidence.structured.widths h (word_below rule Left h left) Left left
+
+-- the same from the word that the rule's table answers for the hook
+pub turning_by : (schema : Schema) (table other : RuleTable) (h : ℕ) (answer : Option (List Letter)) (word : List Letter) (turn nodes : ℕ) (slots : List Slot) → IsPlanned schema (rule_of table) → Contains (rule_of table).hooks h →
+    other ≡ table → answer ≡ word_at (rule_of other) Left h → answer ≡ Some word → IsLeftCount (rule_of table) nodes → IsTurnAmong (rule_of table) slots turn → IsTurning schema (rule_of table) h word turn nodes slots
+turning_by schema table other h answer word turn nodes slots planned among same is_answer is_word counts turns =
+    turning schema (rule_of table) planned h among word (word_letters table other h answer word same is_answer is_word) turn nodes slots counts (turns nodes counts)

@@ -83,7 +83,7 @@ abbrev pub AreForcedRows : ArenaMap → Rule → ℕ → ℕ → List Slot → T
 AreForcedRows m rule nodes rows slots = (x p hook : ℕ) (path : List ℕ) → p < rows → IsPathTo rule x hook path → dart_at m nodes slots x p ≡ follow (alpha m) path (dart_at m nodes slots hook p)
 
 -- the first rows, so many of them, are all: of live slots, where the first hook lies along the walk and each left node is forced
-pub record AreColumns (m : ArenaMap) (rule : Rule) (nodes : ℕ) (walk : List ℕ) (rows : ℕ) (slots : List Slot) : Type 0 where
+pub record AreAlongWalk (m : ArenaMap) (rule : Rule) (nodes : ℕ) (walk : List ℕ) (rows : ℕ) (slots : List Slot) : Type 0 where
   pub long : rows * nodes ≡ length slots
   pub live : AreLive m slots
   pub hooked : (h p : ℕ) → first_hook rule ≡ Some h → p < rows → dart_at m nodes slots h p ≡ slice_index walk p
@@ -91,7 +91,7 @@ pub record AreColumns (m : ArenaMap) (rule : Rule) (nodes : ℕ) (walk : List �
 
 -- The first rows, so many of them, are those of the candidate at these hook darts, by its walk and its turns.
 pub record AreRows (m : ArenaMap) (rule : Rule) (hooks walk turns : List ℕ) (nodes rows : ℕ) (slots : List Slot) : Type 0 where
-  pub along : AreColumns m rule nodes walk rows slots
+  pub along : AreAlongWalk m rule nodes walk rows slots
   pub at_darts : (t h d : ℕ) → 0 < rows → slice_get rule.hooks t ≡ Some h → slice_get hooks t ≡ Some d → dart_at m nodes slots h 0 ≡ d
   pub in_step : (t h p k : ℕ) → 0 < t → slice_get rule.hooks t ≡ Some h → p < rows → k < p * width rule → IsFirstTo turns p k → dart_at m nodes slots h p ≡ stepped m rule nodes slots k h
 

@@ -1,6 +1,5 @@
-ghost use Rattle.std.specs.Prelude.{◌≡◌, ℕ, List, ◌++◌, ◌+◌, ◌*◌, ◌<◌, ◌≤◌, [], length, slice_get, slice_index, Some, IfOk, OnOk, vec_capacity};
+ghost use Rattle.std.specs.Prelude.{◌≡◌, ℕ, List, ◌++◌, ◌+◌, ◌*◌, ◌<◌, ◌≤◌, [], length, slice_index, Some, IfOk, OnOk, vec_capacity};
 ghost use Rattle.gm_arena.specs.ArenaAsMap.{as_map};
-ghost use Rattle.gm_arena.specs.Lawful.{IsLawful};
 ghost use Rattle.gm_model.specs.Matches.{along_hook};
 ghost use Rattle.gm_model.specs.Orbits.{IsWalk};
 ghost use Rattle.gm_model.specs.Rules.{rule_of, first_hook, hook_word, width};
@@ -123,6 +122,36 @@ fn fill_slots<L: Ledger>(
     if plan.hooks() == 1 {
         return fill_columns(plan, arena, walk, slots, steps);
     }
+    fill_rows(plan, arena, darts, walk, turns, slots, steps)
+}
+
+/// Puts the slots of the left nodes into the empty vector as `fill_slots` does, whatever hooks there are:
+/// one position after another.
+fn fill_rows<L: Ledger>(
+    plan: &Plan<'_>,
+    arena: &Arena,
+    darts: &[Slot],
+    walk: &[Slot],
+    turns: &[u32],
+    slots: &mut Vec<Slot>,
+    steps: &mut Steps<L>,
+) -> Result<(), OutOfMemory>
+    requires matchable { AreMatchable arena.now plan.now }
+    requires some { 0 < length darts.now }
+    requires count { length darts.now ≡ length (rule_of plan.now.table).hooks }
+    requires darts { AreLive arena.now darts.now }
+    requires some_position { 0 < length walk.now }
+    requires few { length walk.now ≤ 4294967295 }
+    requires walk { AreLive arena.now walk.now }
+    requires starts { slice_index (names_of arena.now walk.now) 0 ≡ slice_index (names_of arena.now darts.now) 0 }
+    requires turns { HaveFirstTurns turns.now (length walk.now) (width (rule_of plan.now.table)) }
+    requires empty { slots.old.items ≡ [] }
+    ensures slots { OnOk result ((nodes : ℕ) × IsLeftCount (rule_of plan.now.table) nodes
+        × AreRows arena.now (rule_of plan.now.table) (names_of arena.now darts.now) (names_of arena.now walk.now) turns.now nodes (length walk.now) slots.new.items) }
+    ensures cost { steps.new + length walk.now ≤ steps.old + length walk.now * length (rule_of plan.now.table).nodes }
+    ensures least { steps.old ≤ steps.new }
+{
+    let nodes = plan.left_nodes() as usize;
     slots.reserve(walk.len() * nodes)?;
     let mut row = [darts[0]; MOST_NODES];
     first_row(plan, arena, darts, &mut row, steps);

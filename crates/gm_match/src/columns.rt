@@ -3,7 +3,7 @@ ghost use Rattle.gm_arena.specs.ArenaMap.{alpha};
 ghost use Rattle.gm_model.specs.Rules.{rule_of};
 ghost use Rattle.gm_plan.specs.Plans.{IsLeftCount};
 ghost use Rattle.gm_walk.specs.Walks.{AreLive, names_of};
-ghost use Rattle.gm_match.specs.Layout.{AreMatchable, AreColumns, AreForcedRows, dart_at};
+ghost use Rattle.gm_match.specs.Layout.{AreMatchable, AreAlongWalk, AreForcedRows, dart_at};
 
 use gm_arena::{Arena, Slot, Steps};
 use gm_model::{Link, OutOfMemory};
@@ -27,18 +27,18 @@ pub(crate) fn fill_columns<L: Ledger>(
     requires walk { AreLive arena.now walk.now }
     requires empty { slots.old.items ≡ [] }
     ensures columns { OnOk result ((nodes : ℕ) × IsLeftCount (rule_of plan.now.table) nodes
-        × AreColumns arena.now (rule_of plan.now.table) nodes (names_of arena.now walk.now) (length walk.now) slots.new.items) }
+        × AreAlongWalk arena.now (rule_of plan.now.table) nodes (names_of arena.now walk.now) (length walk.now) slots.new.items) }
     ensures cost { steps.new + length walk.now ≤ steps.old + length walk.now * length (rule_of plan.now.table).nodes }
     ensures least { steps.old ≤ steps.new }
 {
     let nodes = plan.left_nodes() as usize;
     slots.resize(walk.len() * nodes, walk[0])?;
-    fill_rows(plan, arena, walk, nodes, slots, steps);
+    write_columns(plan, arena, walk, nodes, slots, steps);
     Ok(())
 }
 
 /// Writes the slots of the left nodes over the others, by position and node.
-fn fill_rows<L: Ledger>(
+fn write_columns<L: Ledger>(
     plan: &Plan<'_>,
     arena: &Arena,
     walk: &[Slot],
@@ -54,7 +54,7 @@ fn fill_rows<L: Ledger>(
     requires long { length walk.now * nodes ≡ length slots.old }
     requires live { AreLive arena.now slots.old }
     ensures long { length slots.new ≡ length slots.old }
-    ensures columns { AreColumns arena.now (rule_of plan.now.table) nodes (names_of arena.now walk.now) (length walk.now) slots.new }
+    ensures columns { AreAlongWalk arena.now (rule_of plan.now.table) nodes (names_of arena.now walk.now) (length walk.now) slots.new }
     ensures cost { steps.new + length walk.now ≤ steps.old + length walk.now * length (rule_of plan.now.table).nodes }
     ensures least { steps.old ≤ steps.new }
 {

@@ -7,22 +7,22 @@ use crate::fault::MatchFault;
 use gm_plan::Instances;
 use gm_walk::Scratch;
 
-/// Tests that no two instances have one slot. Those of the hook are walked, and none of them comes
-/// twice.
+/// Tests that no two instances have one slot. Those of the first hook are walked, and none of them
+/// comes twice.
 pub(crate) fn take_once(
     found: &Instances,
     nodes: u8,
-    hook: u8,
+    first_hook: u8,
     scratch: &mut Scratch,
 ) -> Result<(), MatchFault>
     requires nodes { nodes ≡ found.now.nodes }
     requires room { All (λ (s : Slot). s.at < scratch.old.bound) found.now.slots }
-    requires walked { AreSlotsOf found.now hook scratch.old.walked }
-    requires alone { TakesEachOnce found.now hook }
+    requires walked { AreSlotsOf found.now first_hook scratch.old.walked }
+    requires distinct { TakesEachOnce found.now first_hook }
     ensures once { MatchResult result (λ _. TakeEachOnce found.now) (IsFirstTwice found.now) }
     ensures room { scratch.new.bound ≡ scratch.old.bound }
 {
-    if are_apart(found, nodes, hook, scratch) {
+    if take_others(found, nodes, first_hook, scratch) {
         return Ok(());
     }
     // Only where a slot comes twice it matters in which order they are taken.
@@ -33,18 +33,18 @@ pub(crate) fn take_once(
     Ok(())
 }
 
-/// Whether no two instances have one slot. Those of the hook are walked, and none of them comes
-/// twice.
-fn are_apart(found: &Instances, nodes: u8, hook: u8, scratch: &mut Scratch) -> bool
+/// Takes the slots of all nodes but the first hook, whose own are walked, and tells whether each was
+/// new: then no two instances have one slot. It ends at the first that was not.
+fn take_others(found: &Instances, nodes: u8, first_hook: u8, scratch: &mut Scratch) -> bool
     requires nodes { nodes ≡ found.now.nodes }
     requires room { All (λ (s : Slot). s.at < scratch.old.bound) found.now.slots }
-    requires walked { AreSlotsOf found.now hook scratch.old.walked }
-    requires alone { TakesEachOnce found.now hook }
+    requires walked { AreSlotsOf found.now first_hook scratch.old.walked }
+    requires distinct { TakesEachOnce found.now first_hook }
     ensures apart { IsTrue result → TakeEachOnce found.now }
     ensures room { scratch.new.bound ≡ scratch.old.bound }
 {
     for node in 0..nodes {
-        if node == hook {
+        if node == first_hook {
             continue;
         }
         if !take_apart(found, node, scratch) {

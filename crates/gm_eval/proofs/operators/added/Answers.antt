@@ -1,7 +1,7 @@
-use Rattle.std.proofs.Common.{FitsSigned, w64, ◌+ℤ◌, ◌∷◌, [], ap, ap₂, rules}
+use Rattle.std.proofs.Common.{FitsSigned, w64, ◌+ℤ◌, refl, rules}
 use Rattle.gm_model.specs.declared.value.Value.TheVariants as values
-use Rattle.gm_eval.proofs.Casts.{exact}
-use Rattle.gm_eval.proofs.Operated.{found_by_parts, three}
+use Rattle.gm_eval.proofs.Casts.{exactly}
+use Rattle.gm_eval.proofs.Operated.{found_by_parts}
 use Rattle.gm_eval.proofs.operators.added.Goals as goal
 
 pub returns-in-Int-Int : goal.returns-in-Int-Int
@@ -9,30 +9,30 @@ returns-in-Int-Int c =
     let at = c.in-Int-Int in
     let x_fits : FitsSigned w64 at.x = search rules in
     let a_fits : FitsSigned w64 at.a = search rules in
-    let first = exact ◌+ℤ◌ at.x at.a c.sum.result x_fits a_fits (record { sfits = c.sum.type_inv }) c.sum.ensures in
-    found_by_parts ◌+ℤ◌ c.args.left c.args.right (values.Int at.x) (values.Int at.a) _ c.int.result at.is-0 at.is-1 (ap (λ u. u ∷ []) first) c.int.ensures
+    let first = exactly ◌+ℤ◌ at.x at.a c.sum.result x_fits a_fits c.sum.ensures in
+    found_by_parts ◌+ℤ◌ c.args.left c.args.right (values.Int at.x) (values.Int at.a) _ c.int_of.result at.is-0 at.is-1 refl (c.int_of.ensures _ first)
 
 pub returns-in-Vec2-Vec2 : goal.returns-in-Vec2-Vec2
 returns-in-Vec2-Vec2 c =
     let at = c.in-Vec2-Vec2 in
     let x_fits : FitsSigned w64 at.x = search rules in
     let a_fits : FitsSigned w64 at.a = search rules in
-    let first = exact ◌+ℤ◌ at.x at.a c.sum-in-Vec2-Vec2.result x_fits a_fits (record { sfits = c.sum-in-Vec2-Vec2.type_inv }) c.sum-in-Vec2-Vec2.ensures in
+    let first = exactly ◌+ℤ◌ at.x at.a c.sum-in-Vec2-Vec2.result x_fits a_fits c.sum-in-Vec2-Vec2.ensures in
     let y_fits : FitsSigned w64 at.y = search rules in
     let b_fits : FitsSigned w64 at.b = search rules in
-    let second = exact ◌+ℤ◌ at.y at.b c.sum-in-Vec2-Vec2-2.result y_fits b_fits (record { sfits = c.sum-in-Vec2-Vec2-2.type_inv }) c.sum-in-Vec2-Vec2-2.ensures in
-    found_by_parts ◌+ℤ◌ c.args.left c.args.right (values.Vec2 at.x at.y) (values.Vec2 at.a at.b) _ c.vec2.result at.is-0 at.is-1 (ap₂ (λ u v. u ∷ v ∷ []) first second) c.vec2.ensures
+    let second = exactly ◌+ℤ◌ at.y at.b c.sum-in-Vec2-Vec2-2.result y_fits b_fits c.sum-in-Vec2-Vec2-2.ensures in
+    found_by_parts ◌+ℤ◌ c.args.left c.args.right (values.Vec2 at.x at.y) (values.Vec2 at.a at.b) _ c.vec2_of.result at.is-0 at.is-1 refl (c.vec2_of.ensures _ _ first second)
 
 pub returns-in-Vec3-Vec3 : goal.returns-in-Vec3-Vec3
 returns-in-Vec3-Vec3 c =
     let at = c.in-Vec3-Vec3 in
     let x_fits : FitsSigned w64 at.x = search rules in
     let a_fits : FitsSigned w64 at.a = search rules in
-    let first = exact ◌+ℤ◌ at.x at.a c.sum-in-Vec3-Vec3.result x_fits a_fits (record { sfits = c.sum-in-Vec3-Vec3.type_inv }) c.sum-in-Vec3-Vec3.ensures in
+    let first = exactly ◌+ℤ◌ at.x at.a c.sum-in-Vec3-Vec3.result x_fits a_fits c.sum-in-Vec3-Vec3.ensures in
     let y_fits : FitsSigned w64 at.y = search rules in
     let b_fits : FitsSigned w64 at.b = search rules in
-    let second = exact ◌+ℤ◌ at.y at.b c.sum-in-Vec3-Vec3-2.result y_fits b_fits (record { sfits = c.sum-in-Vec3-Vec3-2.type_inv }) c.sum-in-Vec3-Vec3-2.ensures in
+    let second = exactly ◌+ℤ◌ at.y at.b c.sum-in-Vec3-Vec3-2.result y_fits b_fits c.sum-in-Vec3-Vec3-2.ensures in
     let z_fits : FitsSigned w64 at.z = search rules in
     let c_fits : FitsSigned w64 at.c = search rules in
-    let third = exact ◌+ℤ◌ at.z at.c c.sum-in-Vec3-Vec3-3.result z_fits c_fits (record { sfits = c.sum-in-Vec3-Vec3-3.type_inv }) c.sum-in-Vec3-Vec3-3.ensures in
-    found_by_parts ◌+ℤ◌ c.args.left c.args.right (values.Vec3 at.x at.y at.z) (values.Vec3 at.a at.b at.c) _ c.vec3.result at.is-0 at.is-1 (three _ _ _ _ _ _ first second third) c.vec3.ensures
+    let third = exactly ◌+ℤ◌ at.z at.c c.sum-in-Vec3-Vec3-3.result z_fits c_fits c.sum-in-Vec3-Vec3-3.ensures in
+    found_by_parts ◌+ℤ◌ c.args.left c.args.right (values.Vec3 at.x at.y at.z) (values.Vec3 at.a at.b at.c) _ c.vec3_of.result at.is-0 at.is-1 refl (c.vec3_of.ensures _ _ _ first second third)

@@ -1,17 +1,12 @@
-use Rattle.std.proofs.Common.{◌≡◌, ℕ, ◌+◌, ◌*◌, ◌<◌, ◌≤◌, List, Some, length, refl, sym, ap, subst, ◌∙◌, arith}
+use Rattle.std.proofs.Common.{◌≡◌, ◌<◌, Some, length, refl, sym, ap, subst, ◌∙◌, arith}
 use Rattle.std.proofs.Math.Nat.{le_trans}
 use Rattle.std.proofs.lemmas.Option.{slice_get-get_or}
 use Rattle.std.proofs.lemmas.Result.{err_from_is_err_and}
-use Rattle.std.specs.Prelude.{slice_index}
 use Rattle.gm_model.specs.declared.rule.RuleTable.{RuleTable}
-use Rattle.gm_model.specs.Matches.{along_hook}
-use Rattle.gm_model.specs.Orbits.{IsWalk}
-use Rattle.gm_model.specs.Rules.{rule_of, first_hook, width}
-use Rattle.gm_arena.specs.ArenaAsMap.{as_map}
+use Rattle.gm_model.specs.Rules.{rule_of, first_hook}
 use Rattle.gm_plan.proofs.Hooks.{few_hooks}
-use Rattle.gm_match.specs.Layout.{IsCandidateAt}
 use Rattle.gm_match.specs.Taken.{TakesEachOnce}
-use Rattle.gm_match.proofs.Answering.{sound_of, begun_of, is_nil, not_nil, no_items, none_within, as_many, within_taken, first_same, slots_below, first_below, dart_cause, dart_missed, missed_cost, created, made_cost, tested_cost, step_cause, step_missed, twice_cause, twice_missed, hook_once, answer}
+use Rattle.gm_match.proofs.Answering.{sound_of, is_nil, not_nil, no_items, none_within, as_many, within_taken, first_same, slots_below, first_below, dart_cause, dart_missed, missed_cost, created, begun_with, made_with, named_cost, named_tested_cost, step_cause, step_missed, twice_cause, twice_missed, hook_once, answer}
 use Rattle.gm_match.proofs.Costs.{no_cost}
 use Rattle.gm_match.proofs.Stepping.{same_count}
 use Rattle.gm_match.proofs.matching.find.Goals as goal
@@ -23,80 +18,48 @@ hook_darts-requires g c =
 
 pub returns-in_err-hook_darts-clause-answer : goal.returns-in_err-hook_darts-clause-answer
 returns-in_err-hook_darts-clause-answer g c =
-    let m = c.args.arena.now in
-    let rule = rule_of c.args.plan.now.table in
-    let sound = sound_of m c.args.plan.now.schema rule c.requires.map c.requires.schema c.rule.ensures.planned in
+    let sound = sound_of c.args.arena.now c.args.plan.now.schema (rule_of c.args.plan.now.table) c.requires.map c.requires.schema c.rule.ensures.planned in
     let p = err_from_is_err_and c.from_residual.result c.from_residual.ensures.1 in
-    rw (p.1, p.2) (dart_cause m rule sound c.args.hooks.now _ c.in_err-hook_darts.ensures.darts)
+    rw (p.1, p.2) (dart_cause _ _ sound c.args.hooks.now _ c.in_err-hook_darts.ensures.darts)
 
 pub returns-in_err-hook_darts-clause-none_missed : goal.returns-in_err-hook_darts-clause-none_missed
 returns-in_err-hook_darts-clause-none_missed g c =
-    let m = c.args.arena.now in
-    let rule = rule_of c.args.plan.now.table in
-    let sound = sound_of m c.args.plan.now.schema rule c.requires.map c.requires.schema c.rule.ensures.planned in
-    λ place matched. absurd (dart_missed m rule sound c.args.hooks.now _ c.in_err-hook_darts.ensures.darts place matched)
+    let sound = sound_of c.args.arena.now c.args.plan.now.schema (rule_of c.args.plan.now.table) c.requires.map c.requires.schema c.rule.ensures.planned in
+    λ place matched. absurd (dart_missed _ _ sound c.args.hooks.now _ c.in_err-hook_darts.ensures.darts place matched)
 
 pub returns-in_err-hook_darts-clause-cost : goal.returns-in_err-hook_darts-clause-cost
 returns-in_err-hook_darts-clause-cost g c =
-    let m = c.args.arena.now in
-    let rule = rule_of c.args.plan.now.table in
-    let sound = sound_of m c.args.plan.now.schema rule c.requires.map c.requires.schema c.rule.ensures.planned in
-    missed_cost m rule sound c.args.hooks.now _ c.in_err-hook_darts.ensures.darts c.requires.hooks _ _ c.in_err-hook_darts.ensures.cost
+    let sound = sound_of c.args.arena.now c.args.plan.now.schema (rule_of c.args.plan.now.table) c.requires.map c.requires.schema c.rule.ensures.planned in
+    missed_cost _ _ sound c.args.hooks.now _ c.in_err-hook_darts.ensures.darts c.requires.hooks _ _ c.in_err-hook_darts.ensures.cost
 
 pub returns-then-is_empty-clause-answer : goal.returns-then-is_empty-clause-answer
 returns-then-is_empty-clause-answer g c =
-    let m = c.args.arena.now in
-    let rule = rule_of c.args.plan.now.table in
-    let sound = sound_of m c.args.plan.now.schema rule c.requires.map c.requires.schema c.rule.ensures.planned in
+    let sound = sound_of c.args.arena.now c.args.plan.now.schema (rule_of c.args.plan.now.table) c.requires.map c.requires.schema c.rule.ensures.planned in
     let none = is_nil c.args.hooks.now c.is_empty.result c.is_empty.ensures c.if-is_empty.true in
     let made = c.new-then-is_empty-2.ensures in
-    created m rule sound c.args.hooks.now (no_items rule.hooks (sym c.requires.hooks ∙ ap length none)) none c.new-then-is_empty-2.result (made.slots ∙ c.new.ensures.items) made.positions
+    created _ _ sound c.args.hooks.now (no_items (rule_of c.args.plan.now.table).hooks (sym c.requires.hooks ∙ ap length none)) none c.new-then-is_empty-2.result (made.slots ∙ c.new.ensures.items) made.positions
     (omega (arith, made.nodes, made.positions, ap length c.new.ensures.items)) made.places
 
 pub returns-in_err-found-clause-cost : goal.returns-in_err-found-clause-cost
 returns-in_err-found-clause-cost g c =
-    let m = c.args.arena.now in
-    let rule = rule_of c.args.plan.now.table in
-    let sound = sound_of m c.args.plan.now.schema rule c.requires.map c.requires.schema c.rule.ensures.planned in
-    let are = c.in_ok-hook_darts.ensures.darts in
-    let begun = begun_of m rule c.args.hooks.now _ sound c.bound.ensures.lawful (not_nil c.args.hooks.now c.is_empty.result c.is_empty.ensures c.if-is_empty.false) c.requires.hooks are in
-    let make = subst (λ hs. (walk : List ℕ) → IsWalk (along_hook (as_map m) rule) (width rule) (slice_index hs 0) walk → c.candidate.new.steps ≤ c.hook_darts.new.steps + 6 * (m.schema.dim + 1) * (length rule.nodes * length walk)) are.names c.candidate.ensures.cost in
-    made_cost m rule _ begun _ _ _ c.in_ok-hook_darts.ensures.cost make
+    let begun = begun_with c.args.arena.now c.args.plan.now.schema (rule_of c.args.plan.now.table) c.args.hooks.now _ _ c.requires.map c.requires.schema c.rule.ensures.planned c.bound.ensures.lawful c.is_empty.ensures c.if-is_empty.false c.requires.hooks c.in_ok-hook_darts.ensures.darts in
+    named_cost _ _ _ begun _ c.in_ok-hook_darts.ensures.darts.names _ _ _ c.in_ok-hook_darts.ensures.cost c.candidate.ensures.cost
 
 pub returns-in_err-meet_steps-clause-answer : goal.returns-in_err-meet_steps-clause-answer
 returns-in_err-meet_steps-clause-answer g c =
-    let m = c.args.arena.now in
-    let rule = rule_of c.args.plan.now.table in
-    let sound = sound_of m c.args.plan.now.schema rule c.requires.map c.requires.schema c.rule.ensures.planned in
-    let are = c.in_ok-hook_darts.ensures.darts in
-    let begun = begun_of m rule c.args.hooks.now _ sound c.bound.ensures.lawful (not_nil c.args.hooks.now c.is_empty.result c.is_empty.ensures c.if-is_empty.false) c.requires.hooks are in
-    let found = c.in_ok-found.found in
-    let at = subst (λ hs. IsCandidateAt m rule hs found) are.names c.in_ok-found.ensures.candidate in
+    let made = made_with c.args.arena.now c.args.plan.now.schema (rule_of c.args.plan.now.table) c.args.hooks.now _ _ c.in_ok-found.found c.requires.map c.requires.schema c.rule.ensures.planned c.bound.ensures.lawful c.is_empty.ensures c.if-is_empty.false c.requires.hooks c.in_ok-hook_darts.ensures.darts c.in_ok-found.ensures.candidate in
     let p = err_from_is_err_and c.from_residual-in_err-meet_steps.result c.from_residual-in_err-meet_steps.ensures.1 in
-    rw (p.1, p.2) (step_cause m rule _ begun found at _ c.in_err-meet_steps.ensures.steps)
+    rw (p.1, p.2) (step_cause _ _ _ made.begun _ made.at _ c.in_err-meet_steps.ensures.steps)
 
 pub returns-in_err-meet_steps-clause-none_missed : goal.returns-in_err-meet_steps-clause-none_missed
 returns-in_err-meet_steps-clause-none_missed g c =
-    let m = c.args.arena.now in
-    let rule = rule_of c.args.plan.now.table in
-    let sound = sound_of m c.args.plan.now.schema rule c.requires.map c.requires.schema c.rule.ensures.planned in
-    let are = c.in_ok-hook_darts.ensures.darts in
-    let begun = begun_of m rule c.args.hooks.now _ sound c.bound.ensures.lawful (not_nil c.args.hooks.now c.is_empty.result c.is_empty.ensures c.if-is_empty.false) c.requires.hooks are in
-    let found = c.in_ok-found.found in
-    let at = subst (λ hs. IsCandidateAt m rule hs found) are.names c.in_ok-found.ensures.candidate in
-    λ place matched. absurd (step_missed m rule _ begun found at _ c.in_err-meet_steps.ensures.steps place matched)
+    let made = made_with c.args.arena.now c.args.plan.now.schema (rule_of c.args.plan.now.table) c.args.hooks.now _ _ c.in_ok-found.found c.requires.map c.requires.schema c.rule.ensures.planned c.bound.ensures.lawful c.is_empty.ensures c.if-is_empty.false c.requires.hooks c.in_ok-hook_darts.ensures.darts c.in_ok-found.ensures.candidate in
+    λ place matched. absurd (step_missed _ _ _ made.begun _ made.at _ c.in_err-meet_steps.ensures.steps place matched)
 
 pub returns-in_err-meet_steps-clause-cost : goal.returns-in_err-meet_steps-clause-cost
 returns-in_err-meet_steps-clause-cost g c =
-    let m = c.args.arena.now in
-    let rule = rule_of c.args.plan.now.table in
-    let sound = sound_of m c.args.plan.now.schema rule c.requires.map c.requires.schema c.rule.ensures.planned in
-    let are = c.in_ok-hook_darts.ensures.darts in
-    let begun = begun_of m rule c.args.hooks.now _ sound c.bound.ensures.lawful (not_nil c.args.hooks.now c.is_empty.result c.is_empty.ensures c.if-is_empty.false) c.requires.hooks are in
-    let make = subst (λ hs. (walk : List ℕ) → IsWalk (along_hook (as_map m) rule) (width rule) (slice_index hs 0) walk → c.candidate.new.steps ≤ c.hook_darts.new.steps + 6 * (m.schema.dim + 1) * (length rule.nodes * length walk)) are.names c.candidate.ensures.cost in
-    let found = c.in_ok-found.found in
-    let at = subst (λ hs. IsCandidateAt m rule hs found) are.names c.in_ok-found.ensures.candidate in
-    tested_cost m rule _ begun found at _ _ _ _ c.in_ok-hook_darts.ensures.cost make c.meet_steps.ensures.cost
+    let made = made_with c.args.arena.now c.args.plan.now.schema (rule_of c.args.plan.now.table) c.args.hooks.now _ _ c.in_ok-found.found c.requires.map c.requires.schema c.rule.ensures.planned c.bound.ensures.lawful c.is_empty.ensures c.if-is_empty.false c.requires.hooks c.in_ok-hook_darts.ensures.darts c.in_ok-found.ensures.candidate in
+    named_tested_cost _ _ _ made.begun _ made.at _ c.in_ok-hook_darts.ensures.darts.names _ _ _ _ c.in_ok-hook_darts.ensures.cost c.candidate.ensures.cost c.meet_steps.ensures.cost
 
 pub take_once-requires-clause-nodes : goal.take_once-requires-clause-nodes
 take_once-requires-clause-nodes g c =
@@ -112,75 +75,37 @@ take_once-requires-clause-walked g c =
     let same = first_same c.args.plan.now.table _ _ c.as_slice-2.ensures c.rule-2.ensures.rule in
     c.in_ok-found.ensures.walked _ (subst (λ h. first_hook rule ≡ Some h) (sym same) (slice_get-get_or rule.hooks 0 0 (subst (λ n. 0 < n) c.requires.hooks (not_nil c.args.hooks.now c.is_empty.result c.is_empty.ensures c.if-is_empty.false))))
 
-pub take_once-requires-clause-alone : goal.take_once-requires-clause-alone
-take_once-requires-clause-alone g c =
-    let m = c.args.arena.now in
-    let rule = rule_of c.args.plan.now.table in
-    let sound = sound_of m c.args.plan.now.schema rule c.requires.map c.requires.schema c.rule.ensures.planned in
-    let are = c.in_ok-hook_darts.ensures.darts in
-    let begun = begun_of m rule c.args.hooks.now _ sound c.bound.ensures.lawful (not_nil c.args.hooks.now c.is_empty.result c.is_empty.ensures c.if-is_empty.false) c.requires.hooks are in
-    let found = c.in_ok-found.found in
-    let at = subst (λ hs. IsCandidateAt m rule hs found) are.names c.in_ok-found.ensures.candidate in
+pub take_once-requires-clause-distinct : goal.take_once-requires-clause-distinct
+take_once-requires-clause-distinct g c =
+    let made = made_with c.args.arena.now c.args.plan.now.schema (rule_of c.args.plan.now.table) c.args.hooks.now _ _ c.in_ok-found.found c.requires.map c.requires.schema c.rule.ensures.planned c.bound.ensures.lawful c.is_empty.ensures c.if-is_empty.false c.requires.hooks c.in_ok-hook_darts.ensures.darts c.in_ok-found.ensures.candidate in
     let same = first_same c.args.plan.now.table _ _ c.as_slice-2.ensures c.rule-2.ensures.rule in
-    subst (TakesEachOnce found) (sym same) (hook_once m rule _ begun found at)
+    subst (TakesEachOnce c.in_ok-found.found) (sym same) (hook_once _ _ _ made.begun _ made.at)
 
 pub returns-in_err-take_once-clause-answer : goal.returns-in_err-take_once-clause-answer
 returns-in_err-take_once-clause-answer g c =
-    let m = c.args.arena.now in
-    let rule = rule_of c.args.plan.now.table in
-    let sound = sound_of m c.args.plan.now.schema rule c.requires.map c.requires.schema c.rule.ensures.planned in
-    let are = c.in_ok-hook_darts.ensures.darts in
-    let begun = begun_of m rule c.args.hooks.now _ sound c.bound.ensures.lawful (not_nil c.args.hooks.now c.is_empty.result c.is_empty.ensures c.if-is_empty.false) c.requires.hooks are in
-    let found = c.in_ok-found.found in
-    let at = subst (λ hs. IsCandidateAt m rule hs found) are.names c.in_ok-found.ensures.candidate in
+    let made = made_with c.args.arena.now c.args.plan.now.schema (rule_of c.args.plan.now.table) c.args.hooks.now _ _ c.in_ok-found.found c.requires.map c.requires.schema c.rule.ensures.planned c.bound.ensures.lawful c.is_empty.ensures c.if-is_empty.false c.requires.hooks c.in_ok-hook_darts.ensures.darts c.in_ok-found.ensures.candidate in
     let p = err_from_is_err_and c.from_residual-in_err-take_once.result c.from_residual-in_err-take_once.ensures.1 in
-    rw (p.1, p.2) (twice_cause m rule _ begun found at c.in_ok-meet_steps.ensures.steps _ c.in_err-take_once.ensures.once)
+    rw (p.1, p.2) (twice_cause _ _ _ made.begun _ made.at c.in_ok-meet_steps.ensures.steps _ c.in_err-take_once.ensures.once)
 
 pub returns-in_err-take_once-clause-none_missed : goal.returns-in_err-take_once-clause-none_missed
 returns-in_err-take_once-clause-none_missed g c =
-    let m = c.args.arena.now in
-    let rule = rule_of c.args.plan.now.table in
-    let sound = sound_of m c.args.plan.now.schema rule c.requires.map c.requires.schema c.rule.ensures.planned in
-    let are = c.in_ok-hook_darts.ensures.darts in
-    let begun = begun_of m rule c.args.hooks.now _ sound c.bound.ensures.lawful (not_nil c.args.hooks.now c.is_empty.result c.is_empty.ensures c.if-is_empty.false) c.requires.hooks are in
-    let found = c.in_ok-found.found in
-    let at = subst (λ hs. IsCandidateAt m rule hs found) are.names c.in_ok-found.ensures.candidate in
-    λ place matched. absurd (twice_missed m rule _ begun found at _ c.in_err-take_once.ensures.once place matched)
+    let made = made_with c.args.arena.now c.args.plan.now.schema (rule_of c.args.plan.now.table) c.args.hooks.now _ _ c.in_ok-found.found c.requires.map c.requires.schema c.rule.ensures.planned c.bound.ensures.lawful c.is_empty.ensures c.if-is_empty.false c.requires.hooks c.in_ok-hook_darts.ensures.darts c.in_ok-found.ensures.candidate in
+    λ place matched. absurd (twice_missed _ _ _ made.begun _ made.at _ c.in_err-take_once.ensures.once place matched)
 
 pub returns-in_err-take_once-clause-cost : goal.returns-in_err-take_once-clause-cost
 returns-in_err-take_once-clause-cost g c =
-    let m = c.args.arena.now in
-    let rule = rule_of c.args.plan.now.table in
-    let sound = sound_of m c.args.plan.now.schema rule c.requires.map c.requires.schema c.rule.ensures.planned in
-    let are = c.in_ok-hook_darts.ensures.darts in
-    let begun = begun_of m rule c.args.hooks.now _ sound c.bound.ensures.lawful (not_nil c.args.hooks.now c.is_empty.result c.is_empty.ensures c.if-is_empty.false) c.requires.hooks are in
-    let make = subst (λ hs. (walk : List ℕ) → IsWalk (along_hook (as_map m) rule) (width rule) (slice_index hs 0) walk → c.candidate.new.steps ≤ c.hook_darts.new.steps + 6 * (m.schema.dim + 1) * (length rule.nodes * length walk)) are.names c.candidate.ensures.cost in
-    let found = c.in_ok-found.found in
-    let at = subst (λ hs. IsCandidateAt m rule hs found) are.names c.in_ok-found.ensures.candidate in
-    tested_cost m rule _ begun found at _ _ _ _ c.in_ok-hook_darts.ensures.cost make c.meet_steps.ensures.cost
+    let made = made_with c.args.arena.now c.args.plan.now.schema (rule_of c.args.plan.now.table) c.args.hooks.now _ _ c.in_ok-found.found c.requires.map c.requires.schema c.rule.ensures.planned c.bound.ensures.lawful c.is_empty.ensures c.if-is_empty.false c.requires.hooks c.in_ok-hook_darts.ensures.darts c.in_ok-found.ensures.candidate in
+    named_tested_cost _ _ _ made.begun _ made.at _ c.in_ok-hook_darts.ensures.darts.names _ _ _ _ c.in_ok-hook_darts.ensures.cost c.candidate.ensures.cost c.meet_steps.ensures.cost
 
 pub returns-clause-answer : goal.returns-clause-answer
 returns-clause-answer g c =
-    let m = c.args.arena.now in
-    let rule = rule_of c.args.plan.now.table in
-    let sound = sound_of m c.args.plan.now.schema rule c.requires.map c.requires.schema c.rule.ensures.planned in
-    let are = c.in_ok-hook_darts.ensures.darts in
-    let begun = begun_of m rule c.args.hooks.now _ sound c.bound.ensures.lawful (not_nil c.args.hooks.now c.is_empty.result c.is_empty.ensures c.if-is_empty.false) c.requires.hooks are in
-    let found = c.in_ok-found.found in
-    let at = subst (λ hs. IsCandidateAt m rule hs found) are.names c.in_ok-found.ensures.candidate in
-    answer m rule _ begun found at c.in_ok-meet_steps.ensures.steps c.in_ok-take_once.ensures.once
+    let made = made_with c.args.arena.now c.args.plan.now.schema (rule_of c.args.plan.now.table) c.args.hooks.now _ _ c.in_ok-found.found c.requires.map c.requires.schema c.rule.ensures.planned c.bound.ensures.lawful c.is_empty.ensures c.if-is_empty.false c.requires.hooks c.in_ok-hook_darts.ensures.darts c.in_ok-found.ensures.candidate in
+    answer _ _ _ made.begun _ made.at c.in_ok-meet_steps.ensures.steps c.in_ok-take_once.ensures.once
 
 pub returns-clause-cost : goal.returns-clause-cost
 returns-clause-cost g c =
-    let m = c.args.arena.now in
-    let rule = rule_of c.args.plan.now.table in
-    let sound = sound_of m c.args.plan.now.schema rule c.requires.map c.requires.schema c.rule.ensures.planned in
-    let are = c.in_ok-hook_darts.ensures.darts in
-    let begun = begun_of m rule c.args.hooks.now _ sound c.bound.ensures.lawful (not_nil c.args.hooks.now c.is_empty.result c.is_empty.ensures c.if-is_empty.false) c.requires.hooks are in
-    let make = subst (λ hs. (walk : List ℕ) → IsWalk (along_hook (as_map m) rule) (width rule) (slice_index hs 0) walk → c.candidate.new.steps ≤ c.hook_darts.new.steps + 6 * (m.schema.dim + 1) * (length rule.nodes * length walk)) are.names c.candidate.ensures.cost in
-    let found = c.in_ok-found.found in
-    let at = subst (λ hs. IsCandidateAt m rule hs found) are.names c.in_ok-found.ensures.candidate in
-    tested_cost m rule _ begun found at _ _ _ _ c.in_ok-hook_darts.ensures.cost make c.meet_steps.ensures.cost
+    let made = made_with c.args.arena.now c.args.plan.now.schema (rule_of c.args.plan.now.table) c.args.hooks.now _ _ c.in_ok-found.found c.requires.map c.requires.schema c.rule.ensures.planned c.bound.ensures.lawful c.is_empty.ensures c.if-is_empty.false c.requires.hooks c.in_ok-hook_darts.ensures.darts c.in_ok-found.ensures.candidate in
+    named_tested_cost _ _ _ made.begun _ made.at _ c.in_ok-hook_darts.ensures.darts.names _ _ _ _ c.in_ok-hook_darts.ensures.cost c.candidate.ensures.cost c.meet_steps.ensures.cost
 
 pub prove-unreachable-requires : goal.prove-unreachable-requires
 prove-unreachable-requires g c = c.if-prove.true (c.requires.hooks ∙ sym (ap length (c.as_slice.ensures ∙ ap (λ (table : RuleTable). table.hooks) c.rule.ensures.rule)))

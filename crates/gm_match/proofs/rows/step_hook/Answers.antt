@@ -8,7 +8,7 @@ use Rattle.gm_arena.specs.ArenaMap.{IsLiveSlot, name_at, alpha}
 use Rattle.gm_walk.proofs.NameLemmas.{at_name, live_at}
 use Rattle.gm_match.specs.Layout.{dart_in}
 use Rattle.gm_theory.proofs.Lists.{some_same}
-use Rattle.gm_match.proofs.Hooks.{turning, own_word, word_letters}
+use Rattle.gm_match.proofs.Hooks.{turning_by, own_word}
 use Rattle.gm_match.proofs.Paths.{row_name}
 use Rattle.gm_match.proofs.Stepping.{same_count}
 use Rattle.gm_match.proofs.rows.step_hook.Goals as goal
@@ -18,102 +18,63 @@ same_label i j e = cc
 
 pub nonzero_rem-turn : goal.nonzero_rem-turn
 nonzero_rem-turn g c =
-    let rule = rule_of c.args.plan.now.table in
-    let word = c.unwrap-word.result in
-    let is_word = word_letters c.args.plan.now.table c.rule.result.now c.args.hook c.word.result word c.rule.ensures.rule c.word.ensures c.unwrap-word.ensures in
-    let nodes = c.left_nodes-nodes.result in
-    let t = turning c.args.plan.now.schema rule c.requires.matchable.planned c.args.hook c.requires.hook word is_word c.args.turn nodes c.args.slots.now c.left_nodes-nodes.ensures.left (c.requires.turn nodes c.left_nodes-nodes.ensures.left) in
+    let t = turning_by c.args.plan.now.schema c.args.plan.now.table c.rule.result.now c.args.hook c.word.result c.unwrap-word.result c.args.turn c.left_nodes-nodes.result c.args.slots.now c.requires.matchable.planned c.requires.hook c.rule.ensures.rule c.word.ensures c.unwrap-word.ensures c.left_nodes-nodes.ensures.left c.requires.turn in
     rw c.len-places.ensures.value t.some
 
 pub overflow_cast-turn : goal.overflow_cast-turn
 overflow_cast-turn g c =
-    let rule = rule_of c.args.plan.now.table in
-    let word = c.unwrap-word.result in
-    let is_word = word_letters c.args.plan.now.table c.rule.result.now c.args.hook c.word.result word c.rule.ensures.rule c.word.ensures c.unwrap-word.ensures in
-    let nodes = c.left_nodes-nodes.result in
-    let t = turning c.args.plan.now.schema rule c.requires.matchable.planned c.args.hook c.requires.hook word is_word c.args.turn nodes c.args.slots.now c.left_nodes-nodes.ensures.left (c.requires.turn nodes c.left_nodes-nodes.ensures.left) in
+    let t = turning_by c.args.plan.now.schema c.args.plan.now.table c.rule.result.now c.args.hook c.word.result c.unwrap-word.result c.args.turn c.left_nodes-nodes.result c.args.slots.now c.requires.matchable.planned c.requires.hook c.rule.ensures.rule c.word.ensures c.unwrap-word.ensures c.left_nodes-nodes.ensures.left c.requires.turn in
     let few = t.place in rw c.len-places.ensures.value (omega (arith, few, c.len-places.ensures.most))
 
 pub letter-requires : goal.letter-requires
 letter-requires g c =
-    let rule = rule_of c.args.plan.now.table in
-    let word = c.unwrap-word.result in
-    let is_word = word_letters c.args.plan.now.table c.rule.result.now c.args.hook c.word.result word c.rule.ensures.rule c.word.ensures c.unwrap-word.ensures in
-    let nodes = c.left_nodes-nodes.result in
-    let t = turning c.args.plan.now.schema rule c.requires.matchable.planned c.args.hook c.requires.hook word is_word c.args.turn nodes c.args.slots.now c.left_nodes-nodes.ensures.left (c.requires.turn nodes c.left_nodes-nodes.ensures.left) in
+    let t = turning_by c.args.plan.now.schema c.args.plan.now.table c.rule.result.now c.args.hook c.word.result c.unwrap-word.result c.args.turn c.left_nodes-nodes.result c.args.slots.now c.requires.matchable.planned c.requires.hook c.rule.ensures.rule c.word.ensures c.unwrap-word.ensures c.left_nodes-nodes.ensures.left c.requires.turn in
     rw c.len-places.ensures.value t.place
 
 pub unreachable-requires : goal.unreachable-requires
 unreachable-requires g c =
     let rule = rule_of c.args.plan.now.table in
-    let word = c.unwrap-word.result in
-    let is_word = word_letters c.args.plan.now.table c.rule.result.now c.args.hook c.word.result word c.rule.ensures.rule c.word.ensures c.unwrap-word.ensures in
-    let nodes = c.left_nodes-nodes.result in
-    let t = turning c.args.plan.now.schema rule c.requires.matchable.planned c.args.hook c.requires.hook word is_word c.args.turn nodes c.args.slots.now c.left_nodes-nodes.ensures.left (c.requires.turn nodes c.left_nodes-nodes.ensures.left) in
+    let t = turning_by c.args.plan.now.schema c.args.plan.now.table c.rule.result.now c.args.hook c.word.result c.unwrap-word.result c.args.turn c.left_nodes-nodes.result c.args.slots.now c.requires.matchable.planned c.requires.hook c.rule.ensures.rule c.word.ensures c.unwrap-word.ensures c.left_nodes-nodes.ensures.left c.requires.turn in
     c.in_default.not-At (label_at (letters rule Left c.args.hook) (c.args.turn % width rule)) (some_same _ _ (sym c.letter.ensures ∙ rw c.len-places.ensures.value t.letter))
 
 pub overflow_mul-from : goal.overflow_mul-from
 overflow_mul-from g c =
-    let rule = rule_of c.args.plan.now.table in
-    let word = c.unwrap-word.result in
-    let is_word = word_letters c.args.plan.now.table c.rule.result.now c.args.hook c.word.result word c.rule.ensures.rule c.word.ensures c.unwrap-word.ensures in
-    let nodes = c.left_nodes-nodes.result in
-    let t = turning c.args.plan.now.schema rule c.requires.matchable.planned c.args.hook c.requires.hook word is_word c.args.turn nodes c.args.slots.now c.left_nodes-nodes.ensures.left (c.requires.turn nodes c.left_nodes-nodes.ensures.left) in
+    let t = turning_by c.args.plan.now.schema c.args.plan.now.table c.rule.result.now c.args.hook c.word.result c.unwrap-word.result c.args.turn c.left_nodes-nodes.result c.args.slots.now c.requires.matchable.planned c.requires.hook c.rule.ensures.rule c.word.ensures c.unwrap-word.ensures c.left_nodes-nodes.ensures.left c.requires.turn in
     let w = t.within in rw c.len-places.ensures.value (omega (arith, w))
 
 pub overflow_add-from : goal.overflow_add-from
 overflow_add-from g c =
-    let rule = rule_of c.args.plan.now.table in
-    let word = c.unwrap-word.result in
-    let is_word = word_letters c.args.plan.now.table c.rule.result.now c.args.hook c.word.result word c.rule.ensures.rule c.word.ensures c.unwrap-word.ensures in
-    let nodes = c.left_nodes-nodes.result in
-    let t = turning c.args.plan.now.schema rule c.requires.matchable.planned c.args.hook c.requires.hook word is_word c.args.turn nodes c.args.slots.now c.left_nodes-nodes.ensures.left (c.requires.turn nodes c.left_nodes-nodes.ensures.left) in
+    let t = turning_by c.args.plan.now.schema c.args.plan.now.table c.rule.result.now c.args.hook c.word.result c.unwrap-word.result c.args.turn c.left_nodes-nodes.result c.args.slots.now c.requires.matchable.planned c.requires.hook c.rule.ensures.rule c.word.ensures c.unwrap-word.ensures c.left_nodes-nodes.ensures.left c.requires.turn in
     let w = t.within in rw c.len-places.ensures.value (omega (arith, w))
 
 pub offset_bounds-slots-position : goal.offset_bounds-slots-position
 offset_bounds-slots-position g c =
-    let rule = rule_of c.args.plan.now.table in
-    let word = c.unwrap-word.result in
-    let is_word = word_letters c.args.plan.now.table c.rule.result.now c.args.hook c.word.result word c.rule.ensures.rule c.word.ensures c.unwrap-word.ensures in
-    let nodes = c.left_nodes-nodes.result in
-    let t = turning c.args.plan.now.schema rule c.requires.matchable.planned c.args.hook c.requires.hook word is_word c.args.turn nodes c.args.slots.now c.left_nodes-nodes.ensures.left (c.requires.turn nodes c.left_nodes-nodes.ensures.left) in
+    let t = turning_by c.args.plan.now.schema c.args.plan.now.table c.rule.result.now c.args.hook c.word.result c.unwrap-word.result c.args.turn c.left_nodes-nodes.result c.args.slots.now c.requires.matchable.planned c.requires.hook c.rule.ensures.rule c.word.ensures c.unwrap-word.ensures c.left_nodes-nodes.ensures.left c.requires.turn in
     let w = t.within in rw c.len-places.ensures.value (omega (arith, w))
 
 pub bounds-slots-position : goal.bounds-slots-position
 bounds-slots-position g c =
-    let rule = rule_of c.args.plan.now.table in
-    let word = c.unwrap-word.result in
-    let is_word = word_letters c.args.plan.now.table c.rule.result.now c.args.hook c.word.result word c.rule.ensures.rule c.word.ensures c.unwrap-word.ensures in
-    let nodes = c.left_nodes-nodes.result in
-    let t = turning c.args.plan.now.schema rule c.requires.matchable.planned c.args.hook c.requires.hook word is_word c.args.turn nodes c.args.slots.now c.left_nodes-nodes.ensures.left (c.requires.turn nodes c.left_nodes-nodes.ensures.left) in
+    let t = turning_by c.args.plan.now.schema c.args.plan.now.table c.rule.result.now c.args.hook c.word.result c.unwrap-word.result c.args.turn c.left_nodes-nodes.result c.args.slots.now c.requires.matchable.planned c.requires.hook c.rule.ensures.rule c.word.ensures c.unwrap-word.ensures c.left_nodes-nodes.ensures.left c.requires.turn in
     rw c.len-places.ensures.value t.within
 
 pub alpha-requires-clause-live : goal.alpha-requires-clause-live
 alpha-requires-clause-live g c =
-    let rule = rule_of c.args.plan.now.table in
-    let word = c.unwrap-word.result in
-    let is_word = word_letters c.args.plan.now.table c.rule.result.now c.args.hook c.word.result word c.rule.ensures.rule c.word.ensures c.unwrap-word.ensures in
     let nodes = c.left_nodes-nodes.result in
-    let t = turning c.args.plan.now.schema rule c.requires.matchable.planned c.args.hook c.requires.hook word is_word c.args.turn nodes c.args.slots.now c.left_nodes-nodes.ensures.left (c.requires.turn nodes c.left_nodes-nodes.ensures.left) in
-    rw c.len-places.ensures.value (All-get_or (λ (s : Slot). IsLiveSlot c.args.arena.now s.at) c.args.slots.now (c.args.turn / length word * nodes + c.args.hook) (record { at = 0 }) t.within c.requires.slots)
+    let t = turning_by c.args.plan.now.schema c.args.plan.now.table c.rule.result.now c.args.hook c.word.result c.unwrap-word.result c.args.turn c.left_nodes-nodes.result c.args.slots.now c.requires.matchable.planned c.requires.hook c.rule.ensures.rule c.word.ensures c.unwrap-word.ensures c.left_nodes-nodes.ensures.left c.requires.turn in
+    rw c.len-places.ensures.value (All-get_or (λ (s : Slot). IsLiveSlot c.args.arena.now s.at) c.args.slots.now (c.args.turn / length c.unwrap-word.result * nodes + c.args.hook) (record { at = 0 }) t.within c.requires.slots)
 
 pub alpha-requires-clause-label : goal.alpha-requires-clause-label
 alpha-requires-clause-label g c =
     let rule = rule_of c.args.plan.now.table in
-    let word = c.unwrap-word.result in
-    let is_word = word_letters c.args.plan.now.table c.rule.result.now c.args.hook c.word.result word c.rule.ensures.rule c.word.ensures c.unwrap-word.ensures in
-    let nodes = c.left_nodes-nodes.result in
-    let t = turning c.args.plan.now.schema rule c.requires.matchable.planned c.args.hook c.requires.hook word is_word c.args.turn nodes c.args.slots.now c.left_nodes-nodes.ensures.left (c.requires.turn nodes c.left_nodes-nodes.ensures.left) in
+    let t = turning_by c.args.plan.now.schema c.args.plan.now.table c.rule.result.now c.args.hook c.word.result c.unwrap-word.result c.args.turn c.left_nodes-nodes.result c.args.slots.now c.requires.matchable.planned c.requires.hook c.rule.ensures.rule c.word.ensures c.unwrap-word.ensures c.left_nodes-nodes.ensures.left c.requires.turn in
     let same : c.in-At.label ≡ label_at (letters rule Left c.args.hook) (c.args.turn % width rule) = same_label _ _ (sym c.in-At.is ∙ some_same _ _ (sym c.letter.ensures ∙ rw c.len-places.ensures.value t.letter)) in
     rw (same, c.requires.matchable.schema) t.low
 
 pub returns-clause-stepped : goal.returns-clause-stepped
 returns-clause-stepped g c =
     let rule = rule_of c.args.plan.now.table in
-    let word = c.unwrap-word.result in
-    let is_word = word_letters c.args.plan.now.table c.rule.result.now c.args.hook c.word.result word c.rule.ensures.rule c.word.ensures c.unwrap-word.ensures in
     let nodes = c.left_nodes-nodes.result in
-    let t = turning c.args.plan.now.schema rule c.requires.matchable.planned c.args.hook c.requires.hook word is_word c.args.turn nodes c.args.slots.now c.left_nodes-nodes.ensures.left (c.requires.turn nodes c.left_nodes-nodes.ensures.left) in
+    let t = turning_by c.args.plan.now.schema c.args.plan.now.table c.rule.result.now c.args.hook c.word.result c.unwrap-word.result c.args.turn c.left_nodes-nodes.result c.args.slots.now c.requires.matchable.planned c.requires.hook c.rule.ensures.rule c.word.ensures c.unwrap-word.ensures c.left_nodes-nodes.ensures.left c.requires.turn in
     let m = c.args.arena.now in
     let slots = c.args.slots.now in
     let places = c.len-places.result in
@@ -134,11 +95,7 @@ unwrap-word-requires g c = own_word c.args.plan.now.schema c.args.plan.now.table
 
 pub nonzero_div-position : goal.nonzero_div-position
 nonzero_div-position g c =
-    let rule = rule_of c.args.plan.now.table in
-    let word = c.unwrap-word.result in
-    let is_word = word_letters c.args.plan.now.table c.rule.result.now c.args.hook c.word.result word c.rule.ensures.rule c.word.ensures c.unwrap-word.ensures in
-    let nodes = c.left_nodes-nodes.result in
-    let t = turning c.args.plan.now.schema rule c.requires.matchable.planned c.args.hook c.requires.hook word is_word c.args.turn nodes c.args.slots.now c.left_nodes-nodes.ensures.left (c.requires.turn nodes c.left_nodes-nodes.ensures.left) in
+    let t = turning_by c.args.plan.now.schema c.args.plan.now.table c.rule.result.now c.args.hook c.word.result c.unwrap-word.result c.args.turn c.left_nodes-nodes.result c.args.slots.now c.requires.matchable.planned c.requires.hook c.rule.ensures.rule c.word.ensures c.unwrap-word.ensures c.left_nodes-nodes.ensures.left c.requires.turn in
     rw c.len-places.ensures.value t.some
 
 pub returns-clause-live : goal.returns-clause-live

@@ -1,0 +1,193 @@
+use Rattle.std.proofs.Common.{◌≡◌, ◌+◌, ◌*◌, ◌<◌, ◌≤◌, ◌∙◌, ℕ, Some, [], length, sym, subst, ap, arith}
+use Rattle.std.proofs.Math.Nat.{le_refl, le_antisymm, mul-le-mul_right}
+use Rattle.std.proofs.lemmas.List.{length-take-le}
+use Rattle.std.proofs.lemmas.List.Elements.{All-get_or, All-replicate}
+use Rattle.gm_model.specs.Rules.{rule_of, width}
+use Rattle.std.specs.List.{slice_get}
+use Rattle.gm_arena.specs.declared.slot.Slot.{Slot}
+use Rattle.gm_arena.specs.ArenaMap.{IsLiveSlot}
+use Rattle.gm_plan.specs.Plans.{IsLeftCount}
+use Rattle.gm_plan.proofs.Hooks.{few_hooks}
+use Rattle.gm_walk.specs.Walks.{AreLive, names_of}
+use Rattle.gm_walk.proofs.NameLemmas.{name_there}
+use Rattle.gm_match.specs.Layout.{AreRows, dart_in, stepped}
+use Rattle.gm_match.proofs.Growing.{first_next, later_next, none_yet, one_first, one_more, wide_row, none_ok}
+use Rattle.gm_match.proofs.Costs.{row_cost, row_room, some_node}
+use Rattle.gm_match.proofs.Stepping.{same_count}
+use Rattle.gm_match.proofs.candidates.fill_rows.Goals as goal
+
+pub first_row-requires-clause-row : goal.first_row-requires-clause-row
+first_row-requires-clause-row g c =
+    let m = c.args.arena.now in
+    All-replicate (λ (s : Slot). IsLiveSlot m s.at) 32 _ (All-get_or (λ (s : Slot). IsLiveSlot m s.at) c.args.darts.now 0 (record { at = 0 }) c.requires.some c.requires.darts)
+
+pub push_row-requires : goal.push_row-requires
+push_row-requires g c =
+    let nodes = c.left_nodes-nodes.result in
+    let made = c.first_row.ensures in
+    let wide = wide_row nodes _ c.first_row.new.row c.left_nodes-nodes.ensures.most c.requires.matchable.planned.within.nodes made.row.long in
+    let room = mul-le-mul_right nodes c.requires.some_position in
+    omega (arith, room, ap length c.reserve.ensures.items, ap length c.requires.empty, length-take-le nodes c.first_row.new.row wide, c.in_ok-reserve.ensures.ok)
+
+pub loop-position-init : goal.loop-position-init
+loop-position-init g c =
+    let m = c.args.arena.now in
+    let schema = c.args.plan.now.schema in
+    let rule = rule_of c.args.plan.now.table in
+    let planned = c.requires.matchable.planned in
+    let hooks = names_of m c.args.darts.now in
+    let walk = names_of m c.args.walk.now in
+    let turns = c.args.turns.now in
+    let nodes = c.left_nodes-nodes.result in
+    let counts = c.left_nodes-nodes.ensures.left in
+    let row = c.first_row.new.row in
+    let made = c.first_row.ensures in
+    let wide = wide_row nodes _ row c.left_nodes-nodes.ensures.most planned.within.nodes made.row.long in
+    let none = none_yet m schema rule planned hooks walk turns nodes counts in
+    let next = first_next m schema rule planned hooks walk turns nodes counts row c.requires.starts made.darts in
+    record {
+      rows = rw (c.push_row.ensures.items, c.reserve.ensures.items, c.requires.empty) (one_more m schema rule planned hooks walk turns nodes counts 0 [] row none made.row wide next);
+      row_live = made.row.live;
+      capacity = omega (arith, c.push_row.ensures.capacity, c.in_ok-reserve.ensures.ok);
+      before = λ j less. absurd (omega (arith, less));
+      cost = omega (arith, made.cost, c.requires.some, c.requires.count);
+      least = made.least;
+    }
+
+pub next_turn-turn-requires-clause-some : goal.next_turn-turn-requires-clause-some
+next_turn-turn-requires-clause-some g c =
+    let first = c.requires.turns c.loop-position.position (omega (arith, c.loop-position.auto.position)) c.loop-position-test.true in
+    (first.0, first.2)
+
+pub later_row-requires-clause-turn : goal.later_row-requires-clause-turn
+later_row-requires-clause-turn g c = λ several count counts.
+    let rule = rule_of c.args.plan.now.table in
+    let p = c.loop-position.position in
+    let turns = c.args.turns.now in
+    let turn = c.next_turn-turn.result in
+    let first = c.requires.turns p (omega (arith, c.loop-position.auto.position)) c.loop-position-test.true in
+    let long = c.loop-position.invariant.rows.along.long ∙ ap length (sym c.deref.ensures.value) in (
+      p,
+      subst (λ n. p * n ≡ length c.deref.result.now) (same_count rule c.left_nodes-nodes.result count c.left_nodes-nodes.ensures.left counts) long,
+      subst (λ k. k < p * width rule) (one_first turns p first.0 turn first.2 c.next_turn-turn.ensures.first) first.1,
+    )
+
+pub push_row-requires-in-loop-position : goal.push_row-requires-in-loop-position
+push_row-requires-in-loop-position g c =
+    let nodes = c.left_nodes-nodes.result in
+    let i = c.loop-position.invariant in
+    let made = c.later_row.ensures in
+    let wide = wide_row nodes _ c.later_row.new.row c.left_nodes-nodes.ensures.most c.requires.matchable.planned.within.nodes made.row.long in
+    let room = mul-le-mul_right nodes c.loop-position-test.true in
+    omega (arith, room, i.rows.along.long, length-take-le nodes c.later_row.new.row wide, i.capacity)
+
+pub loop-position-preserved : goal.loop-position-preserved
+loop-position-preserved g c =
+    let m = c.args.arena.now in
+    let schema = c.args.plan.now.schema in
+    let rule = rule_of c.args.plan.now.table in
+    let planned = c.requires.matchable.planned in
+    let hooks = names_of m c.args.darts.now in
+    let walk = names_of m c.args.walk.now in
+    let turns = c.args.turns.now in
+    let nodes = c.left_nodes-nodes.result in
+    let counts = c.left_nodes-nodes.ensures.left in
+    let p = c.loop-position.position in
+    let turn = c.next_turn-turn.result in
+    let slots = c.loop-position.slots.items in
+    let row = c.later_row.new.row in
+    let made = c.later_row.ensures in
+    let i = c.loop-position.invariant in
+    let wide = wide_row nodes _ row c.left_nodes-nodes.ensures.most planned.within.nodes made.row.long in
+    let along = sym (name_there m c.args.walk.now p (record { at = 0 }) c.loop-position-test.true) in
+    let next = later_next m schema rule planned hooks walk turns nodes counts p turn slots row _ (omega (arith, c.loop-position.auto.position)) (λ several. c.next_turn-turn.ensures.first) along made.first
+    (subst (λ xs. (t h count : ℕ) → 0 < t → slice_get rule.hooks t ≡ Some h → IsLeftCount rule count → dart_in m row h ≡ stepped m rule count xs turn h) c.deref.ensures.value made.later) in
+    record {
+      rows = rw c.push_row-in-loop-position.ensures.items (one_more m schema rule planned hooks walk turns nodes counts p slots row i.rows made.row wide next);
+      row_live = made.row.live;
+      capacity = omega (arith, c.push_row-in-loop-position.ensures.capacity, i.capacity);
+      before = λ j less. let low = c.next_turn-turn.ensures.before j less in omega (arith, low);
+      cost = omega (arith, i.cost, made.cost);
+      least = omega (arith, i.least, made.least);
+    }
+
+pub returns-clause-slots : goal.returns-clause-slots
+returns-clause-slots g c =
+    let m = c.args.arena.now in
+    let end = le_antisymm (c.loop-position.auto.position-end c.requires.some_position) c.loop-position-test.false in (
+      c.left_nodes-nodes.result,
+      c.left_nodes-nodes.ensures.left,
+      subst (λ n. AreRows m (rule_of c.args.plan.now.table) (names_of m c.args.darts.now) (names_of m c.args.walk.now) c.args.turns.now c.left_nodes-nodes.result n c.loop-position.slots.items) end c.loop-position.invariant.rows,
+    )
+
+pub overflow_mul-walk : goal.overflow_mul-walk
+overflow_mul-walk g c = omega (arith, row_room _ _ _ c.requires.few c.left_nodes-nodes.ensures.most c.requires.matchable.planned.within.nodes)
+
+pub returns-in_err-reserve-clause-slots : goal.returns-in_err-reserve-clause-slots
+returns-in_err-reserve-clause-slots g c = none_ok c.from_residual.result _ c.from_residual.ensures.0
+
+pub returns-in_err-reserve-clause-cost : goal.returns-in_err-reserve-clause-cost
+returns-in_err-reserve-clause-cost g c = row_cost _ _ _ (some_node c.requires.some c.requires.count (few_hooks c.args.plan.now.schema (rule_of c.args.plan.now.table) c.requires.matchable.planned))
+
+pub returns-in_err-reserve-clause-least : goal.returns-in_err-reserve-clause-least
+returns-in_err-reserve-clause-least g c = le_refl _
+
+pub first_row-requires-clause-matchable : goal.first_row-requires-clause-matchable
+first_row-requires-clause-matchable g c = c.requires.matchable
+
+pub first_row-requires-clause-count : goal.first_row-requires-clause-count
+first_row-requires-clause-count g c = c.requires.count
+
+pub first_row-requires-clause-live : goal.first_row-requires-clause-live
+first_row-requires-clause-live g c = c.requires.darts
+
+pub slice_bounds-row-end : goal.slice_bounds-row-end
+slice_bounds-row-end g c = wide_row c.left_nodes-nodes.result _ c.first_row.new.row c.left_nodes-nodes.ensures.most c.requires.matchable.planned.within.nodes c.first_row.ensures.row.long
+
+pub slice_bounds-push_row-end : goal.slice_bounds-push_row-end
+slice_bounds-push_row-end g c =
+    let wide = wide_row c.left_nodes-nodes.result _ c.first_row.new.row c.left_nodes-nodes.ensures.most c.requires.matchable.planned.within.nodes c.first_row.ensures.row.long in
+    sym (length-take-le c.left_nodes-nodes.result c.first_row.new.row wide)
+
+pub overflow_cast-position : goal.overflow_cast-position
+overflow_cast-position g c = omega (arith, c.loop-position-test.true, c.requires.few)
+
+pub next_turn-turn-requires-clause-before : goal.next_turn-turn-requires-clause-before
+next_turn-turn-requires-clause-before g c = c.loop-position.invariant.before
+
+pub offset_bounds-walk-position : goal.offset_bounds-walk-position
+offset_bounds-walk-position g c = omega (arith, c.loop-position-test.true, c.requires.few)
+
+pub bounds-walk-position : goal.bounds-walk-position
+bounds-walk-position g c = c.loop-position-test.true
+
+pub later_row-requires-clause-matchable : goal.later_row-requires-clause-matchable
+later_row-requires-clause-matchable g c = c.requires.matchable
+
+pub later_row-requires-clause-some : goal.later_row-requires-clause-some
+later_row-requires-clause-some g c = subst (λ n. 0 < n) c.requires.count c.requires.some
+
+pub later_row-requires-clause-first : goal.later_row-requires-clause-first
+later_row-requires-clause-first g c = c.requires.walk c.loop-position.position (record { at = 0 }) c.loop-position-test.true
+
+pub later_row-requires-clause-slots : goal.later_row-requires-clause-slots
+later_row-requires-clause-slots g c = subst (AreLive c.args.arena.now) (sym c.deref.ensures.value) c.loop-position.invariant.rows.along.live
+
+pub later_row-requires-clause-row : goal.later_row-requires-clause-row
+later_row-requires-clause-row g c = c.loop-position.invariant.row_live
+
+pub slice_bounds-row-end-in-loop-position : goal.slice_bounds-row-end-in-loop-position
+slice_bounds-row-end-in-loop-position g c = wide_row c.left_nodes-nodes.result _ c.later_row.new.row c.left_nodes-nodes.ensures.most c.requires.matchable.planned.within.nodes c.later_row.ensures.row.long
+
+pub slice_bounds-push_row-end-in-loop-position : goal.slice_bounds-push_row-end-in-loop-position
+slice_bounds-push_row-end-in-loop-position g c =
+    let wide = wide_row c.left_nodes-nodes.result _ c.later_row.new.row c.left_nodes-nodes.ensures.most c.requires.matchable.planned.within.nodes c.later_row.ensures.row.long in
+    sym (length-take-le c.left_nodes-nodes.result c.later_row.new.row wide)
+
+pub returns-clause-cost : goal.returns-clause-cost
+returns-clause-cost g c =
+    let end = le_antisymm (c.loop-position.auto.position-end c.requires.some_position) c.loop-position-test.false in
+    subst (λ p. c.loop-position.steps + p ≤ c.args.steps.now + p * length (rule_of c.args.plan.now.table).nodes) end c.loop-position.invariant.cost
+
+pub returns-clause-least : goal.returns-clause-least
+returns-clause-least g c = c.loop-position.invariant.least
