@@ -89,6 +89,7 @@ fn is_known_beginning(first: u8, second: u8) -> bool
     }
 }
 
+#[inline(never)]
 fn sight_of_known_word(bytes: &[u8]) -> Sight
     ensures { result ≡ reading.sight_of_word bytes.now }
 {
