@@ -462,13 +462,6 @@ nothing = record { spot = spots.Start; begun = 0; within = false; stat = new_sta
 abbrev pub stats_of : ℕ → List ℕ → Result (List HeldStat) Stop
 stats_of n text = read_from n text nothing (items_of text)
 
--- from the one lexer to the other tokens were read that end no statement and name no rule
-pub record ReadsOn (held next : Held) (old new : Cursor) : Type 0 where
-  pub text : new.text ≡ old.text
-  pub goes_on : old.place ≤ new.place
-  pub same : (n : ℕ) → read_from n old.text next (rest_of new) ≡ read_from n old.text held (rest_of old)
-  pub name : next.stat.name ≡ held.stat.name
-
 -- ---- what a reader of the code answers
 
 -- what the code says is passed
@@ -485,6 +478,13 @@ fault_of passings.Mention place = faults.Twice place
 pub record IsInText (text : List ℕ) (token : Token) : Type 0 where
   pub order : token.start ≤ token.end
   pub within : token.end ≤ length text
+
+-- from the one lexer to the other tokens were read that end no statement
+pub record ReadsOn (held next : Held) (old new : Cursor) : Type 0 where
+  pub text : new.text ≡ old.text
+  pub goes_on : old.place ≤ new.place
+  pub same : (n : ℕ) → read_from n old.text next (rest_of new) ≡ read_from n old.text held (rest_of old)
+  pub named : IsInText old.text held.stat.name → IsInText old.text next.stat.name
 
 -- the token is the next item, and lies in the text
 pub record IsNext (before : Cursor) (token : Token) (behind : Cursor) : Type 0 where

@@ -204,6 +204,31 @@ impl Reader {
         Ok(())
     }
 
+    /// Whether the rule's name of an application stands next.
+    pub(crate) fn takes_name(&self) -> bool
+        ensures { IsTrue result → self.now.spot ≡ Spot.Apply }
+    {
+        self.spot == Spot::Apply
+    }
+
+    /// Reads a token in which nothing but a name is seen, as the rule's name of an application.
+    pub(crate) fn take_name(&mut self, token: Token) -> Result<(), TextFault>
+        requires order { token.start ≤ token.end }
+        requires spot { self.old.spot ≡ Spot.Apply }
+        ensures name { OnOk result (self.new.stat.name ≡ token) }
+        ensures taken { (n : ℕ) → Gives (λ _. self.new) result (reading.taken_at n Sight.Name token self.old) }
+    {
+        if token.end - token.start > MOST_NAME_BYTES {
+            return Err(TextFault::Limit {
+                what: LimitKind::Name,
+                place: token.start,
+            });
+        }
+        self.stat.name = token;
+        self.spot = Spot::Rule;
+        Ok(())
+    }
+
     /// Whether a hook can stand next.
     pub(crate) fn takes_hooks(&self) -> bool
         ensures { IsTrue result → self.now.spot ≡ Spot.Rule }

@@ -17,7 +17,7 @@ use crate::comparing::Compared;
 use crate::fault::ScriptFault;
 use crate::reader::{Reader, TextFault};
 use crate::rules::RulesByName;
-use crate::seen::{Seen, next_seen};
+use crate::seen::{Seen, near_name, next_seen};
 use gm_model::{Book, Dim, Items, Script, Stat};
 use gm_text::{Lexer, Token, TokenKind};
 use std::alloc::Global;
@@ -40,7 +40,6 @@ fn read_hooks(lexer: &mut Lexer<'_>, reader: &mut Reader) -> Result<(), TextFaul
 }
 
 /// The same where hooks can stand, and elsewhere nothing.
-// A hook that is read as a token by itself takes some 100 instructions more.
 fn read_hooks_there(lexer: &mut Lexer<'_>, reader: &mut Reader) -> Result<(), TextFault>
     ensures ok { OnOk result (ReadsOn reader.old reader.new lexer.old lexer.new) }
     ensures err { IfErr result (λ fault. (n : ℕ) → Fails fault (read_from n lexer.old.text reader.old (rest_of lexer.old))) }
@@ -49,6 +48,40 @@ fn read_hooks_there(lexer: &mut Lexer<'_>, reader: &mut Reader) -> Result<(), Te
         return read_hooks(lexer, reader);
     }
     Ok(())
+}
+
+/// Reads the rule's name that stands next, if it has one blank before it and is no word that scripts
+/// have for something else.
+fn read_name(lexer: &mut Lexer<'_>, reader: &mut Reader) -> Result<(), TextFault>
+    requires spot { reader.old.spot ≡ Spot.Apply }
+    ensures ok { OnOk result (ReadsOn reader.old reader.new lexer.old lexer.new) }
+    ensures err { IfErr result (λ fault. (n : ℕ) → Fails fault (read_from n lexer.old.text reader.old (rest_of lexer.old))) }
+{
+    if let Some(token) = near_name(lexer) {
+        reader.take_name(token)?;
+    }
+    Ok(())
+}
+
+/// The same where an application's name stands next, and elsewhere nothing.
+fn read_name_there(lexer: &mut Lexer<'_>, reader: &mut Reader) -> Result<(), TextFault>
+    ensures ok { OnOk result (ReadsOn reader.old reader.new lexer.old lexer.new) }
+    ensures err { IfErr result (λ fault. (n : ℕ) → Fails fault (read_from n lexer.old.text reader.old (rest_of lexer.old))) }
+{
+    if reader.takes_name() {
+        return read_name(lexer, reader);
+    }
+    Ok(())
+}
+
+/// Reads on behind a token: a rule's name, where one stands next, and the hooks behind it.
+// A name or a hook that is read as a token by itself takes some 100 instructions more.
+fn read_on(lexer: &mut Lexer<'_>, reader: &mut Reader) -> Result<(), TextFault>
+    ensures ok { OnOk result (ReadsOn reader.old reader.new lexer.old lexer.new) }
+    ensures err { IfErr result (λ fault. (n : ℕ) → Fails fault (read_from n lexer.old.text reader.old (rest_of lexer.old))) }
+{
+    read_name_there(lexer, reader)?;
+    read_hooks_there(lexer, reader)
 }
 
 /// Reads the text to its end, and compares each statement but the last.
@@ -70,7 +103,7 @@ fn read_tokens(
         let Seen { sight, token } = seen;
         reader.end_stat(bytes, sight, rules, compared)?;
         reader.take(top, sight, token)?;
-        read_hooks_there(&mut lexer, reader)?;
+        read_on(&mut lexer, reader)?;
     }
     Ok(())
 }

@@ -19,7 +19,7 @@ pub(crate) struct Seen {
 }
 
 /// What stands next, behind this spot.
-// A name or a part of a value that is read as any other token takes some 100 to 150 instructions more.
+// A part of a value that is read as any other token takes some 150 instructions more.
 pub(crate) fn next_seen<'a>(
     bytes: &'a [u8],
     lexer: &mut Lexer<'a>,
@@ -35,32 +35,25 @@ pub(crate) fn next_seen<'a>(
     if let Some(seen) = frequent_word(bytes, lexer, spot) {
         return Ok(Some(seen));
     }
-    if let Some(seen) = near_token(lexer, spot) {
+    if let Some(seen) = small_part(lexer, spot) {
         return Ok(Some(seen));
     }
     next_token_seen(lexer)
 }
 
-/// What most often stands behind the spot, with one blank before it at most: a rule's name, or a part
-/// of a value. `None` says nothing of what stands next, and the lexer is then as before.
-fn near_token(lexer: &mut Lexer<'_>, spot: Spot) -> Option<Seen>
-    ensures seen { IfSome result (λ seen. IsSeenNext lexer.old seen.sight seen.token lexer.new) }
+/// The name that stands next, with one blank before it at most, in which nothing else is seen. `None`
+/// says nothing of what stands next, and the lexer is then as before.
+pub(crate) fn near_name(lexer: &mut Lexer<'_>) -> Option<Token>
+    ensures seen { IfSome result (λ token. IsSeenNext lexer.old Sight.Name token lexer.new) }
     ensures none { IfNone result (lexer.new ≡ lexer.old) }
 {
-    match spot {
-        Spot::Apply | Spot::Over => near_name(lexer),
-        Spot::Start | Spot::Bare | Spot::Rule | Spot::Each | Spot::Orbit | Spot::Named => None,
-        _ => small_part(lexer, spot),
+    let mut ahead = lexer.fork();
+    let token = ahead.small_name()?;
+    if !matches!(sight_of_word(ahead.text(&token)), Sight::Name) {
+        return None;
     }
-}
-
-fn near_name(lexer: &mut Lexer<'_>) -> Option<Seen>
-    ensures seen { IfSome result (λ seen. IsSeenNext lexer.old seen.sight seen.token lexer.new) }
-    ensures none { IfNone result (lexer.new ≡ lexer.old) }
-{
-    let token = lexer.small_name()?;
-    let sight = sight_of_word(lexer.text(&token));
-    Some(Seen { sight, token })
+    *lexer = ahead;
+    Some(token)
 }
 
 /// The word `apply` at the beginning of a line, or `with`, where it can stand behind the spot.
@@ -134,12 +127,26 @@ fn next_token(lexer: &mut Lexer<'_>) -> Result<Option<Token>, TextFault>
     }
 }
 
-/// A small number or a sign of a value, where one stands next with one blank before it at most.
-/// `None` says nothing of what stands next, and the lexer is then as before.
+/// A small number or a sign of a value, where one can stand behind the spot and stands next with one
+/// blank before it at most. `None` says nothing of what stands next, and the lexer is then as before.
 fn small_part(lexer: &mut Lexer<'_>, spot: Spot) -> Option<Seen>
     ensures seen { IfSome result (λ seen. IsSeenNext lexer.old seen.sight seen.token lexer.new) }
     ensures none { IfNone result (lexer.new ≡ lexer.old) }
 {
+    let before_values = matches!(
+        spot,
+        Spot::Start
+            | Spot::Bare
+            | Spot::Apply
+            | Spot::Rule
+            | Spot::Each
+            | Spot::Orbit
+            | Spot::Over
+            | Spot::Named
+    );
+    if before_values {
+        return None;
+    }
     match small_number(lexer) {
         Some(seen) => Some(seen),
         None => small_sign(lexer, spot),

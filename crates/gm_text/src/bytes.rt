@@ -24,13 +24,14 @@ pub fn digit_value(b: u8) -> u32
 pub fn is_letter(b: u8) -> bool
     ensures { result ≡ tokens.is_letter b }
 {
-    matches!(b, b'A'..=b'Z' | b'a'..=b'z')
+    matches!(b, b'a'..=b'z') || matches!(b, b'A'..=b'Z')
 }
 
+// Small letters are tested first, as most bytes of names are.
 pub fn is_name_byte(b: u8) -> bool
     ensures { result ≡ tokens.is_name_byte b }
 {
-    matches!(b, b'A'..=b'Z' | b'a'..=b'z' | b'0'..=b'9' | b'_')
+    is_letter(b) || is_digit(b) || b == b'_'
 }
 
 pub fn is_sign(b: u8) -> bool

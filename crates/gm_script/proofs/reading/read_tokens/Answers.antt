@@ -29,9 +29,9 @@ returns-in_err-take-clause-fault c =
     (token_fails c.args.bytes.now (map rule_of c.args.rules.now) c.args.dim c.loop-seen.reader c.in-Some.seen.token (rest_of c.next_seen.new.lexer) c.loop-seen.compared (rw next.items at c.loop-seen.invariant.so_far)
     c.in_err-take.field-0.0 (rw (c.top-top.ensures.value, c.end_stat.ensures.next c.args.dim c.in-Some.seen.token, seen) at c.in_err-take.ensures))
 
-pub returns-in_err-read_hooks_there-clause-fault : goal.returns-in_err-read_hooks_there-clause-fault
-returns-in_err-read_hooks_there-clause-fault c =
-    let p = err_from_is_err_and c.from_residual-in_err-read_hooks_there.result c.from_residual-in_err-read_hooks_there.ensures.1 in
+pub returns-in_err-read_on-clause-fault : goal.returns-in_err-read_on-clause-fault
+returns-in_err-read_on-clause-fault c =
+    let p = err_from_is_err_and c.from_residual-in_err-read_on.result c.from_residual-in_err-read_on.ensures.1 in
     let next : IsSeenNext c.loop-seen.lexer c.in-Some.seen.sight c.in-Some.seen.token c.next_seen.new.lexer = rw c.in-Some.is at c.in_ok-seen.ensures.found in
     let text : c.next_seen.new.lexer.text ≡ c.args.bytes.now = c.in_ok-seen.ensures.text ∙ c.loop-seen.invariant.text in
     let seen : c.in-Some.seen.sight ≡ sight_of (symbol_at c.args.bytes.now c.in-Some.seen.token) = rw c.loop-seen.invariant.text at next.seen in
@@ -40,7 +40,7 @@ returns-in_err-read_hooks_there-clause-fault c =
     let so_far =
     goes_on c.args.bytes.now (map rule_of c.args.rules.now) c.args.dim c.loop-seen.reader c.take.new.self c.in-Some.seen.token (rest_of c.next_seen.new.lexer) c.loop-seen.compared c.end_stat.new.compared
     (rw c.loop-seen.invariant.text at next.inside) (rw next.items at c.loop-seen.invariant.so_far) (rw seen at taken) (rw seen at c.in_ok-end_stat.ensures.added) in
-    rw (p.1, p.2) (hooks_fail c.args.bytes.now (map rule_of c.args.rules.now) c.args.dim c.take.new.self c.next_seen.new.lexer text c.end_stat.new.compared so_far c.in_err-read_hooks_there.field-0.0 c.in_err-read_hooks_there.ensures.err)
+    rw (p.1, p.2) (hooks_fail c.args.bytes.now (map rule_of c.args.rules.now) c.args.dim c.take.new.self c.next_seen.new.lexer text c.end_stat.new.compared so_far c.in_err-read_on.field-0.0 c.in_err-read_on.ensures.err)
 
 pub loop-seen-preserved : goal.loop-seen-preserved
 loop-seen-preserved c =
@@ -49,13 +49,13 @@ loop-seen-preserved c =
     let seen : c.in-Some.seen.sight ≡ sight_of (symbol_at c.args.bytes.now c.in-Some.seen.token) = rw c.loop-seen.invariant.text at next.seen in
     let by_top : taken_at c.top-top.result c.in-Some.seen.sight c.in-Some.seen.token c.loop-seen.reader ≡ Ok c.take.new.self = sym (c.end_stat.ensures.next c.top-top.result c.in-Some.seen.token) ∙ c.in_ok-take.ensures in
     let taken : taken_at c.args.dim c.in-Some.seen.sight c.in-Some.seen.token c.loop-seen.reader ≡ Ok c.take.new.self = rw c.top-top.ensures.value at by_top in
-    let further = c.in_ok-read_hooks_there.ensures.ok in
+    let further = c.in_ok-read_on.ensures.ok in
     record {
       text = further.text ∙ text;
       so_far =
           reads_on c.args.bytes.now (map rule_of c.args.rules.now) c.args.dim c.take.new.self c.next_seen.new.lexer text c.end_stat.new.compared (
           goes_on c.args.bytes.now (map rule_of c.args.rules.now) c.args.dim c.loop-seen.reader c.take.new.self c.in-Some.seen.token (rest_of c.next_seen.new.lexer) c.loop-seen.compared c.end_stat.new.compared
-          (rw c.loop-seen.invariant.text at next.inside) (rw next.items at c.loop-seen.invariant.so_far) (rw seen at taken) (rw seen at c.in_ok-end_stat.ensures.added)) c.read_hooks_there.new.reader c.read_hooks_there.new.lexer further;
+          (rw c.loop-seen.invariant.text at next.inside) (rw next.items at c.loop-seen.invariant.so_far) (rw seen at taken) (rw seen at c.in_ok-end_stat.ensures.added)) c.read_on.new.reader c.read_on.new.lexer further;
     }
 
 pub returns-clause-so_far : goal.returns-clause-so_far
