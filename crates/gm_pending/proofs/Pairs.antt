@@ -1,7 +1,10 @@
 -- How an orbit of two labels is followed from one of its darts, along one label and then along the other.
-use Rattle.std.proofs.Common.{◌≡◌, ◌≢◌, ℕ, ◌+◌, ◌*◌, ◌<◌, ◌≤◌, ◌⊎◌, false, List, [], ◌∷◌, length, Option, None, Some, slice_get, IsTrue, refl, sym, ◌∙◌, ap, subst, inl, inr, arith, length-append}
+use Rattle.std.proofs.Common.{◌≡◌, ◌≢◌, ℕ, ◌+◌, ◌*◌, ◌%◌, ◌^◌, ◌==◌, bit_and, w8, ◌<◌, ◌≤◌, ◌⊎◌, false, List, [], ◌∷◌, length, Option, None, Some, slice_get, IsTrue, refl, sym, ◌∙◌, ap, subst, inl, inr, arith, length-append}
 use Rattle.std.proofs.lemmas.Bool.{cases_lt, false≢true}
+use Rattle.std.proofs.lemmas.Nat.{and_le_l}
+use Rattle.std.proofs.lemmas.Nat.Bits.{bit_at_clear_same}
 use Rattle.std.proofs.lemmas.Option.{slice_get_within}
+use Rattle.std.specs.Int.{bit_not}
 use Rattle.gm_model.specs.declared.schema.Embed.{Embed}
 use Rattle.gm_model.specs.declared.word.Mask.{Mask}
 use Rattle.gm_model.specs.Maps.{IsEmbedAt, type_of}
@@ -29,6 +32,15 @@ pair_turned labels one other pair = record {
     | inr h ↦ inl h
   ];
 }
+
+-- a set without one of its labels has a lesser number
+pub fewer_bits : (bits label : ℕ) → label < 8 → IsTrue (has (record { bits = bits }) label) → bit_and bits (bit_not w8 (1 * 2 ^ label % 256)) < bits
+fewer_bits bits label few set = elim (cases_lt (bit_and bits (bit_not w8 (1 * 2 ^ label % 256))) bits) [
+  | inl h ↦ h
+  | inr h ↦
+      let same : bit_and bits (bit_not w8 (1 * 2 ^ label % 256)) ≡ bits = omega (arith, h, and_le_l bits (bit_not w8 (1 * 2 ^ label % 256))) in
+      absurd (false≢true (sym (ap (λ b. b == 1) (bit_at_clear_same w8 bits label few)) ∙ ap (λ n. has (record { bits = n }) label) same ∙ set))
+]
 
 -- a set of which nothing is left without these two
 pub pair_found : (labels rest left : Mask) (one other : ℕ) → other < 8 → IsTrue (has labels one) → IsTrue (has rest other) → ((i : ℕ) → i < 8 → IsTrue (has rest i) → IsTrue (has labels i)) → ((i : ℕ) → i < 8 → has rest i ≡ false → (Some one ≡ Some i) ⊎ (has labels i ≡ false)) →

@@ -266,8 +266,8 @@ impl Pending<'_, '_> {
         Ok(())
     }
 
-    /// Marks the darts to which two labels lead in turns from a dart where a walk began, the first of
-    /// them first, up to one that is marked already.
+    /// Marks the darts to which two labels lead in turns from the dart where a walk began, the first
+    /// of them first, up to one that is marked.
     fn follow<L: Ledger>(
         &self,
         from: At,
@@ -309,7 +309,7 @@ impl Pending<'_, '_> {
         }
     }
 
-    /// Marks the neighbours of a reached dart. That from which it was reached is marked.
+    /// Marks the neighbours of a reached dart, but that from which it was reached, which is marked.
     fn spread<L: Ledger>(
         &self,
         from: Mark,
@@ -330,12 +330,13 @@ impl Pending<'_, '_> {
         ensures cost { steps.new ≤ steps.old + (self.now.map.schema.dim + 1) }
         ensures least { steps.old ≤ steps.new }
     {
-        let asked = without(declared.mask, from.over);
-        for label in 0..self.labels() {
-            if asked.has(label) {
-                let to = self.neighbour(from.at, label, made.has(label), steps);
-                marks.mark(to, from.instance, Some(label))?;
-            }
+        // The application tells here what its type keeps.
+        prove!(self.labels() <= 8);
+        let mut asked = without(declared.mask, from.over);
+        while let Some(label) = lowest(asked) {
+            asked = without(asked, Some(label));
+            let to = self.neighbour(from.at, label, made.has(label), steps);
+            marks.mark(to, from.instance, Some(label))?;
         }
         Ok(())
     }
@@ -371,6 +372,7 @@ fn without(labels: Mask, one: Option<u8>) -> Mask
     ensures among { (i : ℕ) → i < 8 → IsTrue (has result i) → IsTrue (has labels i) }
     ensures others { (i : ℕ) → i < 8 → has result i ≡ false → (one ≡ Some i) ⊎ (has labels i ≡ false) }
     ensures gone { (i : ℕ) → i < 8 → one ≡ Some i → has result i ≡ false }
+    ensures fewer { (i : ℕ) → i < 8 → one ≡ Some i → IsTrue (has labels i) → result.bits < labels.bits }
 {
     match one {
         Some(label) if label < 8 => Mask {

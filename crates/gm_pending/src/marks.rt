@@ -14,7 +14,7 @@ use std::marker::Model;
 pub(crate) struct Mark {
     pub(crate) at: At,
     pub(crate) instance: u32,
-    /// The label of the arc over which the dart was reached, if it was. Back over it lies a marked dart.
+    /// A label along which a marked dart lies, where one is known: a walk needn't go there.
     pub(crate) over: Option<u8>,
     /// The key of the dart. It is kept, so that a search only compares numbers.
     key: u64,
@@ -28,11 +28,10 @@ const FEW: usize = 16;
 pub(crate) struct Marks {
     alloc: Global,
     reached: Vec<Mark>,
-    /// The index of the deciding instance, by the key of a dart, where there are more than a few. In
-    /// a box it leaves the marks of a few darts small, which are moved more than once.
+    /// The index of the deciding instance, by the key of a dart. It is made where a search would
+    /// look through more than a few darts. In a box, so that marks without it are cheap to move.
     by_key: Option<Box<HashMap<u64, u32>>>,
-    /// The bits of the darts, by their keys. A dart whose bit isn't set is not marked, and needs no
-    /// search.
+    /// The bits of all marked darts. A dart whose bit isn't set is not marked, and needs no search.
     bits: u64,
 }
 
@@ -148,7 +147,7 @@ impl Marks {
     }
 
     /// Adds a mark to the marks and to their index, where there is one.
-    // Cold, it leaves `mark` small enough to be inlined, which saves 25 instructions a mark.
+    // Cold, so that `mark` stays small enough to be inlined where darts are walked.
     #[cold]
     fn add_to_index(&mut self, mark: Mark) -> Result<(), OutOfMemory>
         requires key { mark.key ≡ key_of mark.at }
@@ -206,7 +205,7 @@ fn put(
 }
 
 /// The index of the deciding instance of the dart with this key. It begins with the last dart, since
-/// a walk comes back to those that it found late.
+/// a walk mostly ends at a dart that was marked just before.
 fn instance_among(reached: &[Mark], wanted: u64) -> Option<u32>
     requires { AreKeyed reached.now }
     ensures { MatchOption result (HasKey reached.now wanted → ⊥) (IsMarkedBy reached.now wanted) }

@@ -2,6 +2,7 @@ use Rattle.std.proofs.Common.{◌≡◌, ◌==◌, IsTrue, Some, w8, sym, ap, �
 use Rattle.std.proofs.lemmas.Bool.{cases_eq, false≢true}
 use Rattle.std.proofs.lemmas.Nat.Bits.{bit_at_clear_same, bit_at_clear_other}
 use Rattle.gm_theory.proofs.Lists.{some_same}
+use Rattle.gm_pending.proofs.Pairs.{fewer_bits}
 use Rattle.gm_pending.proofs.deciding.without.Goals as goal
 
 pub returns-in-Some-clause-among : goal.returns-in-Some-clause-among
@@ -20,3 +21,8 @@ pub returns-in-Some-clause-gone : goal.returns-in-Some-clause-gone
 returns-in-Some-clause-gone c i h is =
     let same : c.in-Some.label ≡ i = some_same c.in-Some.label i (sym c.in-Some.is ∙ is) in
     rw (← same) (ap (λ b. b == 1) (bit_at_clear_same w8 c.args.labels.bits c.in-Some.label c.if-label-lt8.true))
+
+pub returns-in-Some-clause-fewer : goal.returns-in-Some-clause-fewer
+returns-in-Some-clause-fewer c i h is set =
+    let same : c.in-Some.label ≡ i = some_same c.in-Some.label i (sym c.in-Some.is ∙ is) in
+    fewer_bits c.args.labels.bits c.in-Some.label c.if-label-lt8.true (rw (← same) at set)
