@@ -93,21 +93,21 @@ pub(crate) fn vec3_of(x: Option<i64>, y: Option<i64>, z: Option<i64>) -> Option<
 pub(crate) fn int(x: i128) -> Option<Value>
     ensures { MatchOption result (IsNone (IsMade Int (x ∷ []))) (IsMade Int (x ∷ [])) }
 {
-    Some(Value::Int(narrowed(x)?))
+    int_of(narrowed(x))
 }
 
 /// A vector of two numbers, where both are in their range.
 pub(crate) fn vec2(x: i128, y: i128) -> Option<Value>
     ensures { MatchOption result (IsNone (IsMade Vec2 (x ∷ y ∷ []))) (IsMade Vec2 (x ∷ y ∷ [])) }
 {
-    Some(Value::Vec2(narrowed(x)?, narrowed(y)?))
+    vec2_of(narrowed(x), narrowed(y))
 }
 
 /// A vector of three numbers, where all are in their range.
 pub(crate) fn vec3(x: i128, y: i128, z: i128) -> Option<Value>
     ensures { MatchOption result (IsNone (IsMade Vec3 (x ∷ y ∷ z ∷ []))) (IsMade Vec3 (x ∷ y ∷ z ∷ [])) }
 {
-    Some(Value::Vec3(narrowed(x)?, narrowed(y)?, narrowed(z)?))
+    vec3_of(narrowed(x), narrowed(y), narrowed(z))
 }
 
 /// A colour, where its parts are in their range.
