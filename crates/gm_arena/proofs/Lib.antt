@@ -11,7 +11,6 @@ pub mod RevalueLemmas
 pub mod NewLemmas
 pub mod ValueLemmas
 pub mod AddLemmas
-pub mod RisingLemmas
 pub mod DenseLemmas
 pub mod SlotNameLemmas
 pub mod NameLemmas

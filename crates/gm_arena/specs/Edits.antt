@@ -1,5 +1,5 @@
 -- What the calls that change an arena make of it.
-use Rattle.std.specs.Prelude.{◌≡◌, ◌≢◌, ℕ, zero, suc, ◌+◌, ◌-◌, ◌≤◌, max, List, [], ◌∷◌, take, drop, Option, Some, None, replicate, slice_index_or, slice_set}
+use Rattle.std.specs.Prelude.{◌≢◌, ℕ, zero, suc, ◌+◌, ◌-◌, ◌≤◌, max, List, [], ◌∷◌, take, drop, Option, Some, None, replicate, slice_set}
 use Rattle.std.specs.Option.{option_map}
 use Rattle.std.specs.Ordering.{nat_cmp}
 use Rattle.std.specs.FinMap.{FinMap, get, empty, insert, remove}
@@ -35,13 +35,6 @@ with_dart m slot name values = record m {
   spare = m.spare - 1;
   bound = max m.bound (slot + 1);
 }
-
--- one dart after another was added without values: those of so many lines, each of so many numbers, of which the first is the dart's name
-abbrev pub IsWithDarts : ℕ → ℕ → List ℕ → ArenaMap → ArenaMap → Type 0
-IsWithDarts size zero numbers old new = new ≡ old
-IsWithDarts size (suc count) numbers old new =
-    let name = slice_index_or numbers 0 0 in
-    (slot : ℕ) × (get old.slots slot ≡ None) × (get old.darts name ≡ None) × IsWithDarts size count (drop size numbers) (with_dart old slot name []) new
 
 -- the dart with another neighbour along this label
 abbrev pub turned : Dart → ℕ → ℕ → Dart

@@ -51,11 +51,6 @@ abbrev pub linked : ℕ → ℕ → List (Slot × Slot) → List Slot → List S
 linked labels label [] neighbours = neighbours
 linked labels label (two ∷ more) neighbours = linked labels label more (slice_set neighbours (two.0.at * labels + label) two.1)
 
--- of so many lines the first numbers rise, each of them from the one number on and below the other
-abbrev pub AreRising : ℕ → ℕ → List ℕ → ℕ → ℕ → Type 0
-AreRising size zero lines from end = Unit {0}
-AreRising size (suc count) lines from end = (from ≤ slice_index_or lines 0 0) × (slice_index_or lines 0 0 < end) × AreRising size count (drop size lines) (slice_index_or lines 0 0 + 1) end
-
 -- the slot of this number
 abbrev pub slot_numbered : ℕ → Slot
 slot_numbered at = record { at = at }

@@ -1,11 +1,11 @@
-ghost use Rattle.std.specs.Prelude.{◌≡◌, ℕ, ◌+◌, ◌*◌, ◌/◌, ◌<◌, ◌≤◌, ◌-◌, ◌++◌, ◌∷◌, [], length, replicate, take, max, map, Some, None, All, MatchOption, IfOk, IsSome, IsTrue, IsFalse, OnOk, OnErr, []};
+ghost use Rattle.std.specs.Prelude.{◌≡◌, ℕ, ◌+◌, ◌*◌, ◌/◌, ◌<◌, ◌≤◌, ◌-◌, ◌++◌, ◌∷◌, [], length, replicate, take, max, map, Some, None, All, MatchOption, IfOk, IsSome, IsTrue, OnOk, OnErr};
 ghost use Rattle.std.specs.FinMap.{get, keys};
 ghost use Rattle.std.specs.List.{zip};
 ghost use Rattle.slab.specs.Slab.{HasRoomFor, slab_len};
 ghost use Rattle.gm_model.specs.Limits.{most_darts, most_names};
 ghost use Rattle.std.specs.Vec.{vec_capacity};
 ghost use Rattle.slab.specs.Slab as slab;
-ghost use Rattle.gm_arena.specs.Inside.{no_slot, names_in, name_in, linked, slot_numbered, lines_written, AreRising, IsWritten, HasParts, AreNamesSlots};
+ghost use Rattle.gm_arena.specs.Inside.{no_slot, names_in, name_in, linked, slot_numbered, lines_written, IsWritten, HasParts, AreNamesSlots};
 
 use crate::slot::Slot;
 use crate::steps::Steps;
@@ -83,7 +83,7 @@ impl Arena {
     ghost use Rattle.gm_model.specs.Values.{IsValueOf};
     ghost use Rattle.gm_arena.specs.ArenaAsMap.{value};
     ghost use Rattle.gm_arena.specs.Lawful.{IsLawful, AreGoodValues};
-    ghost use Rattle.gm_arena.specs.Edits.{empty_map, IsWithDarts, with_dart, with_alpha, with_alphas, with_lines, with_value, without_dart, IsAlone};
+    ghost use Rattle.gm_arena.specs.Edits.{empty_map, with_dart, with_alpha, with_alphas, with_lines, with_value, without_dart, IsAlone};
 
     /// An arena without darts, whose next name is 0. It takes no memory.
     pub fn new(alloc: Global, schema: Schema) -> Arena
@@ -321,44 +321,6 @@ impl Arena {
         own
     }
 
-    /// Adds the dart of each line, free for every label, to a map without embeddings. The first number
-    /// of a line is its dart's name. None is added, and the answer is no, where there are embeddings,
-    /// where the names don't rise from the next one on, or where the room or the names weren't
-    /// reserved. It counts a step for each dart that it adds, and looks none up.
-    pub fn add_lines<L: Ledger>(&mut self, lines: &[u32], steps: &mut Steps<L>) -> bool
-        ensures plain { IsTrue result → self.old.schema.embeds ≡ [] }
-        ensures added { IsTrue result → IsWithDarts (self.old.schema.dim + 2) (length lines.now / (self.old.schema.dim + 2)) lines.now self.old self.new }
-        ensures unchanged { IsFalse result → self.new ≡ self.old }
-        ensures cost { IsTrue result → steps.new ≡ steps.old + length lines.now / (self.old.schema.dim + 2) }
-        ensures no_cost { IsFalse result → steps.new ≡ steps.old }
-    {
-        let size = self.labels + 1;
-        let count = lines.len() / size;
-        if self.width > 0 || count > self.spare as usize {
-            return false;
-        }
-        if !are_rising(lines, size, self.next, self.table.len()) {
-            return false;
-        }
-        steps.tick_times(count as u64);
-        let (mut next, mut bound, mut named) = (self.next, self.bound, self.names_are_slots);
-        for line in lines.chunks_exact(size) {
-            let name = line[0];
-            let key = self.places.insert_reserved(Place { name });
-            let own = Slot { at: key as u32 };
-            free(&mut self.neighbours, self.labels, own);
-            self.table.set(name, own.at);
-            next = name + 1;
-            bound = bound.max(key + 1);
-            named &= own.at == name;
-        }
-        self.next = next;
-        self.spare -= count as u32;
-        self.bound = bound;
-        self.names_are_slots = named;
-        true
-    }
-
     /// Makes the dart at `to` the neighbour of the dart at `slot`, and changes nothing at `to`.
     pub fn set_alpha<L: Ledger>(&mut self, slot: Slot, label: u8, to: Slot, steps: &mut Steps<L>)
         requires live { IsLiveSlot self.old slot.at }
@@ -459,23 +421,6 @@ fn read_name(places: &Slab<Place>, names_are_slots: bool, slot: Slot) -> u32
         return slot.at;
     }
     places[slot.at as usize].name
-}
-
-/// Whether the names of the lines rise, the first of them at least `from`, and lie below the end. A line
-/// has so many numbers, its name first.
-fn are_rising(lines: &[u32], size: usize, from: u32, end: usize) -> bool
-    requires { 0 < size }
-    ensures { IsTrue result → AreRising size (length lines.now / size) lines.now from end }
-{
-    let mut least = from as usize;
-    for line in lines.chunks_exact(size) {
-        let name = line[0] as usize;
-        if name < least || end <= name {
-            return false;
-        }
-        least = name + 1;
-    }
-    true
 }
 
 /// Makes each neighbour of the slot the slot itself. It takes no memory.

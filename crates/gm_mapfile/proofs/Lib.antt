@@ -40,7 +40,6 @@ pub mod WorkedMap
 pub mod Chunks
 pub mod Adding
 pub mod AddedDarts
-pub mod AddedLines
 pub mod NextName
 pub mod Linking
 pub mod LinkedLine

@@ -144,34 +144,9 @@ fn fill<L: Ledger>(
 
 /// Adds the dart of each line with its values, free for every label. The answer is the least name
 /// that two lines have.
-fn add_darts<L: Ledger>(
-    arena: &mut Arena,
-    numbers: &[u32],
-    words: &[i64],
-    steps: &mut Steps<L>,
-) -> Option<u32>
-    requires fresh { IsFresh arena.old }
-    requires embeds { length arena.old.schema.embeds ≤ 8 }
-    requires room { AreInRoom arena.old.schema numbers.now words.now }
-    requires spare { length numbers.now / (arena.old.schema.dim + 2) ≤ arena.old.spare }
-    requires reserved { AreBelow (rows_in arena.old.schema.dim numbers.now) arena.old.reserved }
-    ensures schema { arena.new.schema ≡ arena.old.schema }
-    ensures added { AreAdded arena.old.schema.dim (rows_in arena.old.schema.dim numbers.now) arena.new result }
-    ensures values { AreValued (darts_in arena.old.schema numbers.now words.now) arena.new }
-    ensures next { IsNextLeast arena.new }
-    ensures most { steps.new ≤ steps.old + 2 * length (rows_in arena.old.schema.dim numbers.now) }
-    ensures least { steps.old + length (rows_in arena.old.schema.dim numbers.now) ≤ steps.new }
-{
-    if arena.add_lines(numbers, steps) {
-        return None;
-    }
-    add_each(arena, numbers, words, steps)
-}
-
-/// The same, a dart after another.
 // By itself, it keeps in registers what it would not among all that reads a map.
 #[inline(never)]
-fn add_each<L: Ledger>(
+fn add_darts<L: Ledger>(
     arena: &mut Arena,
     numbers: &[u32],
     words: &[i64],

@@ -6,7 +6,7 @@ use Rattle.gm_mapfile.specs.MapText.{DartRow}
 use Rattle.gm_mapfile.specs.Packed.{size_of_line}
 use Rattle.gm_mapfile.specs.Rows.{darts_in}
 use Rattle.gm_mapfile.proofs.AddedDarts.{HasDarts}
-use Rattle.gm_mapfile.proofs.building.add_each.Given as goal
+use Rattle.gm_mapfile.proofs.building.add_darts.Given as goal
 
 abbrev pub invariant-loop-line : goal.invariant-loop-line
 invariant-loop-line g l = record {
