@@ -120,7 +120,7 @@ module _ (reached : List Mark) (kept : HasDistinctKeys reached) (entry : Mark) (
 
 -- the bit of one more key is set
 abbrev pub with_bit : ℕ → ℕ → ℕ
-with_bit bits key = bit_or bits (1 * 2 ^ (key / 2 % 64) % 18446744073709551616)
+with_bit bits key = bit_or bits (1 * 2 ^ bit_of key % 18446744073709551616)
 
 module _ (bits key : ℕ) where
   low : bit_of key < 64

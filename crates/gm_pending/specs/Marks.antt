@@ -16,7 +16,7 @@ key_of (New x p) = p * 64 + x * 2 + 1
 
 -- the bit, of 64, that stands for the dart of a key; others may have the same one
 abbrev pub bit_of : ℕ → ℕ
-bit_of key = key / 2 % 64
+bit_of key = (key / 2 + key / 128) % 64
 
 -- reached over an arc of this label, if over any
 abbrev pub reached_by : At → ℕ → Option ℕ → Mark

@@ -116,10 +116,11 @@ impl Pending<'_, '_> {
         ensures least { steps.old ≤ steps.new }
         ensures prepared { IsPrepared self.now }
     {
+        let made = self.made_labels(declared.mask);
         let nodes = self.nodes();
         for node in 0..nodes {
             if self.assigns(embed, node) {
-                self.decide_node(embed, declared, node, orbits, steps)?;
+                self.decide_node(embed, declared, made, node, orbits, steps)?;
             }
         }
         Ok(())
@@ -130,11 +131,13 @@ impl Pending<'_, '_> {
         &self,
         embed: u8,
         declared: &Embed,
+        made: Mask,
         node: u8,
         orbits: &mut DecidedOrbits,
         steps: &mut Steps<L>,
     ) -> Result<(), OutOfMemory>
         requires embed { IsEmbedAt self.now.map.schema embed declared.now }
+        requires made { AreMadeLabels self.now declared.now.mask made }
         requires assigned { IsAssigned (rule_in self.now) embed node }
         requires earlier { IsDecidedUpTo self.now embed declared.now orbits.old.instances.items orbits.old.marks node 0 }
         ensures decided { OnOk result (IsDecidedUpTo self.now embed declared.now orbits.new.instances.items orbits.new.marks (node + 1) 0) }
@@ -150,7 +153,7 @@ impl Pending<'_, '_> {
             return self.decide_orbit(embed, declared, node, orbits);
         }
         for position in 0..self.positions() {
-            self.decide_instance(embed, declared, node, position, orbits, steps)?;
+            self.decide_instance(embed, declared, made, node, position, orbits, steps)?;
         }
         Ok(())
     }
@@ -203,12 +206,14 @@ impl Pending<'_, '_> {
         &self,
         embed: u8,
         declared: &Embed,
+        made: Mask,
         node: u8,
         position: u32,
         orbits: &mut DecidedOrbits,
         steps: &mut Steps<L>,
     ) -> Result<(), OutOfMemory>
         requires embed { IsEmbedAt self.now.map.schema embed declared.now }
+        requires made { AreMadeLabels self.now declared.now.mask made }
         requires assigned { IsAssigned (rule_in self.now) embed node }
         requires position { position < self.now.placed.positions }
         requires earlier { IsDecidedUpTo self.now embed declared.now orbits.old.instances.items orbits.old.marks node position }
@@ -225,7 +230,7 @@ impl Pending<'_, '_> {
             return Ok(());
         }
         let index = add_instance(&mut orbits.instances, node, position)?;
-        self.reach(at, index, embed, declared, &mut orbits.marks, steps)
+        self.reach(at, index, made, embed, declared, &mut orbits.marks, steps)
     }
 
     /// Walks the orbit of an instance, and marks its darts.
@@ -233,12 +238,14 @@ impl Pending<'_, '_> {
         &self,
         at: At,
         index: u32,
+        made: Mask,
         embed: u8,
         declared: &Embed,
         marks: &mut Marks,
         steps: &mut Steps<L>,
     ) -> Result<(), OutOfMemory>
         requires embed { IsEmbedAt self.now.map.schema embed declared.now }
+        requires made { AreMadeLabels self.now declared.now.mask made }
         requires dart { IsResultDart self.now at }
         requires darts { AreResultDarts self.now marks.old }
         requires absent { HasKey marks.old (key_of at) → ⊥ }
@@ -250,7 +257,6 @@ impl Pending<'_, '_> {
     {
         // The application tells here what its type keeps.
         prove!(self.labels() <= 8);
-        let made = self.made_labels(declared.mask);
         let mut next = marks.len();
         marks.mark(at, index, None)?;
         // An orbit over two labels is a path or a ring, of which the dart is one place.

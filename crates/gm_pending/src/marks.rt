@@ -230,9 +230,10 @@ fn key(at: At) -> u64
     }
 }
 
-/// The bit, of 64, that stands for the dart of a key. Each dart has one, and may share it.
+/// The bit, of 64, that stands for the dart of a key. Others may have the same one; the two digits
+/// that are added keep it seldom so among darts of faces that lie side by side.
 fn bit(key: u64) -> u64
     ensures { result ≡ bit_of key }
 {
-    key / 2 % 64
+    (key / 2 + key / 128) % 64
 }
