@@ -231,8 +231,9 @@ fn key(at: At) -> u64
     }
 }
 
-/// The bit, of 64, that stands for the dart of a key. Others may have the same one; the two digits
-/// that are added keep it seldom so among darts of faces that lie side by side.
+/// The bit, of 64, that stands for the dart of a key; others may have the same one. By the second
+/// summand it tells darts apart whose numbers differ by a multiple of 64, as those of the faces of a
+/// grid may.
 fn bit(key: u64) -> u64
     ensures { result ≡ bit_of key }
 {
