@@ -274,6 +274,8 @@ impl Pending<'_, '_> {
 
     /// Marks the darts to which two labels lead in turns from the dart where a walk began, the first
     /// of them first, up to one that is marked.
+    // Inlined with what it calls, since at a call darts and results pass through memory.
+    #[inline(always)]
     fn follow<L: Ledger>(
         &self,
         from: At,

@@ -78,7 +78,7 @@ impl Marks {
     }
 
     /// The index of the instance that decides the dart's orbit; none where it isn't reached.
-    #[inline]
+    #[inline(always)]
     pub(crate) fn decided_by(&self, at: At) -> Option<u32>
         ensures instance { MatchOption result (HasKey self.now (key_of at) → ⊥) (IsMarkedBy self.now (key_of at)) }
         ensures distinct { HasDistinctKeys self.now }
@@ -95,7 +95,7 @@ impl Marks {
 
     /// Marks a dart, unless it is marked, and answers whether it wasn't. Where memory was wanting,
     /// nothing is marked.
-    #[inline]
+    #[inline(always)]
     pub(crate) fn mark(
         &mut self,
         at: At,
@@ -120,7 +120,7 @@ impl Marks {
     /// Marks a dart that isn't marked. Where memory was wanting, nothing is marked. It makes no index,
     /// so that darts that need no search are marked without one; and where there is no room, it makes
     /// room for so many at once.
-    #[inline]
+    #[inline(always)]
     pub(crate) fn mark_new(
         &mut self,
         at: At,
@@ -164,6 +164,7 @@ impl Marks {
 }
 
 /// Puts an entry behind the others. Where there is no room, it makes room for so many at once.
+#[inline(always)]
 pub(crate) fn push<T: Copy>(entries: &mut Vec<T>, entry: T, room: usize) -> Result<(), OutOfMemory>
     ensures ok { OnOk result (entries.new.items ≡ entries.old.items ++ entry ∷ []) }
     ensures err { OnErr result (entries.new.items ≡ entries.old.items) }
@@ -230,8 +231,9 @@ fn key(at: At) -> u64
     }
 }
 
-/// The bit, of 64, that stands for the dart of a key. Others may have the same one; the two digits
-/// that are added keep it seldom so among darts of faces that lie side by side.
+/// The bit, of 64, that stands for the dart of a key; others may have the same one. By the second
+/// summand it tells darts apart whose numbers differ by a multiple of 64, as those of the faces of a
+/// grid may.
 fn bit(key: u64) -> u64
     ensures { result ≡ bit_of key }
 {

@@ -93,7 +93,7 @@ impl<'a, 'm> Pending<'a, 'm> {
 
     /// The neighbour along a label, where `made` tells whether the rule makes arcs at the label that
     /// the old map doesn't have.
-    #[inline]
+    #[inline(always)]
     pub(crate) fn neighbour<L: Ledger>(
         &self,
         at: At,
