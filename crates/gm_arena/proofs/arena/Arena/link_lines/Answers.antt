@@ -1,8 +1,7 @@
-use Rattle.std.proofs.Common.{◌≡◌, ◌+◌, ◌*◌, ◌/◌, ◌≤◌, length, Some, sym, ap, subst, ◌∙◌, All, arith}
+use Rattle.std.proofs.Common.{◌≡◌, ◌+◌, ◌*◌, ◌/◌, ◌≤◌, length, Some, ap, ◌∙◌, All, arith}
 use Rattle.std.proofs.Math.Nat.{div-mul-le_self}
 use Rattle.std.specs.FinMap as map
 use Rattle.std.proofs.lemmas.List.Elements.{All-weaker}
-use Rattle.gm_arena.specs.ArenaMap.{ArenaMap, IsAt}
 use Rattle.gm_arena.specs.Edits.{with_lines}
 use Rattle.gm_arena.specs.Inside.{slots_in, map_of}
 use Rattle.gm_arena.proofs.InsideLemmas.{is_some_at}
