@@ -15,7 +15,6 @@ use Rattle.gm_arena.proofs.MapLemmas.{get-with_neighbours_same, get-with_neighbo
 use Rattle.gm_mapfile.specs.MapFaults.{AreNamedOnce}
 use Rattle.gm_mapfile.specs.Rows.{row_in, rows_in, rows_from}
 use Rattle.gm_mapfile.specs.Building.{values_at, AreWhole, AreSlotsLive, AreAdded, IsRelinked, IsDartLinked, AreLinked}
-use Rattle.gm_mapfile.proofs.Chunks.{alphas_long}
 use Rattle.gm_mapfile.proofs.Darts.{is_some-map}
 use Rattle.gm_mapfile.proofs.Named.{none_beside}
 use Rattle.gm_mapfile.proofs.Linking.{none_relinked, relinked_twice, step_linked}

@@ -1,4 +1,4 @@
-use Rattle.std.proofs.Common.{ℕ, ◌<◌, All, IsTrue, take}
+use Rattle.std.proofs.Common.{◌<◌, All, IsTrue, take}
 use Rattle.gm_mapfile.proofs.building.are_below.Given as goal
 
 abbrev pub invariant-loop-number : goal.invariant-loop-number

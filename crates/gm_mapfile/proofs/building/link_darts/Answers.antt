@@ -1,4 +1,4 @@
-use Rattle.std.proofs.Common.{◌≡◌, ℕ, ◌+◌, ◌*◌, ◌/◌, ◌<◌, [], length, All, refl, sym, ap, ◌∙◌, arith}
+use Rattle.std.proofs.Common.{◌+◌, ◌/◌, length, All, refl, sym, ◌∙◌, arith}
 use Rattle.gm_arena.specs.ArenaMap.{IsLiveName}
 use Rattle.gm_mapfile.proofs.LinkedLines.{all_lines_linked, live_below, length_rows}
 use Rattle.gm_mapfile.proofs.building.link_darts.Goals as goal
