@@ -3,10 +3,7 @@ use Rattle.std.proofs.Common.{◌≡◌, ◌^◌, ◌<◌, ◌≤◌, ◌++◌, 
 use Rattle.std.specs.Prelude.{decimal}
 use Rattle.std.proofs.lemmas.Fmt.{length-decimal-le}
 
--- a count of darts has ten digits at most, and the number of a line twenty
-pub short_count : (n : ℕ) → n < 2 ^ 32 → length (decimal n) ≤ 10
-short_count n small = length-decimal-le 10 n (omega arith) (omega (arith, small)) (omega (arith, small))
-
+-- the number of a line has twenty digits at most
 pub short_number : (n : ℕ) → n < 2 ^ 64 → length (decimal n) ≤ 20
 short_number n small = length-decimal-le 20 n (omega arith) (omega (arith, small)) (omega (arith, small))
 

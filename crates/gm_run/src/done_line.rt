@@ -3,7 +3,7 @@ ghost use Rattle.std.specs.Prelude.{◌≡◌, ◌+◌, ◌++◌, ◌≤◌, OnO
 
 use gm_apply::Applied;
 use gm_model::OutOfMemory;
-use gm_text::Text;
+use gm_text::{Text, write_number, write_word};
 use itoa::write_digits;
 
 /// No more bytes are the line: its number of twenty digits, a name of 32 bytes, two counts of ten
@@ -26,7 +26,7 @@ pub(crate) fn put_done_line(
     let named = write_word(&mut line, name, done);
     let blank = write_word(&mut line, b" ", named);
     let start = write_digits(number as u64, &mut line, blank);
-    text.put(&line[start..])
+    text.put_from(&line, start)
 }
 
 /// Writes what is told of the application, so that the line ends at `end`. The answer is where it
@@ -40,23 +40,8 @@ fn write_done(line: &mut [u8], applied: Applied, end: usize) -> usize
     ensures written { drop result line.new ≡ codes " " ++ (codes "done added " ++ decimal applied.added ++ codes " removed " ++ decimal applied.removed ++ codes "\n" ++ drop end line.old) }
 {
     let feed = write_word(line, b"\n", end);
-    let removed = write_digits(u64::from(applied.removed), line, feed);
+    let removed = write_number(line, applied.removed, feed);
     let words = write_word(line, b" removed ", removed);
-    let added = write_digits(u64::from(applied.added), line, words);
+    let added = write_number(line, applied.added, words);
     write_word(line, b" done added ", added)
-}
-
-/// Writes the bytes of a word, so that they end at `end`. The answer is where they begin.
-// Inlined, a word of a known length takes a few stores.
-#[inline(always)]
-fn write_word(bytes: &mut [u8], word: &[u8], end: usize) -> usize
-    requires room { length word.now ≤ end }
-    requires within { end ≤ length bytes.old }
-    ensures before { result + length word.now ≡ end }
-    ensures long { length bytes.new ≡ length bytes.old }
-    ensures written { drop result bytes.new ≡ word.now ++ drop end bytes.old }
-{
-    let start = end - word.len();
-    bytes[start..end].copy_from_slice(word);
-    start
 }

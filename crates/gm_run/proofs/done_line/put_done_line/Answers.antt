@@ -1,6 +1,6 @@
-use Rattle.std.proofs.Common.{◌≡◌, ◌++◌, ◌-◌, drop, ap, codes, subst, ◌∙◌, arith}
+use Rattle.std.proofs.Common.{◌≡◌, ◌++◌, ap, codes, subst, ◌∙◌, arith}
 use Rattle.std.specs.Prelude.{OnOk, decimal}
-use Rattle.std.proofs.lemmas.List.{append-nil, length-drop, take_all}
+use Rattle.std.proofs.lemmas.List.{append-nil}
 use Rattle.gm_run.proofs.DoneLine.{joined, short_number}
 use Rattle.gm_run.proofs.done_line.put_done_line.Goals as goal
 
@@ -17,9 +17,7 @@ returns c =
     let done = codes "done added " ++ decimal c.args.applied.added ++ codes " removed " ++ decimal c.args.applied.removed in
     let number = decimal c.args.number in
     let name = c.args.name.now in
-    let digits = c.write_digits-start in
-    let behind = drop digits.result digits.new.buf in
-    subst (λ line. OnOk c.put.result (c.put.new.self ≡ c.args.text.now ++ line))
-    (take_all (96 - digits.result) behind (omega (arith, length-drop digits.result digits.new.buf, digits.auto.buf, c.write_done-done.ensures.long, c.write_word-named.ensures.long, c.write_word-blank.ensures.long)) ∙ digits.ensures.written ∙ ap (λ xs. number ++ xs) (c.write_word-blank.ensures.written ∙ ap (λ xs. codes " " ++ xs) (c.write_word-named.ensures.written ∙ ap (λ xs. name ++ xs) (c.write_done-done.ensures.written ∙ ap (λ xs. codes " " ++ xs) (append-nil (done ++ codes "\n")))))
+    subst (λ line. OnOk c.put_from.result (c.put_from.new.self ≡ c.args.text.now ++ line))
+    (c.write_digits-start.ensures.written ∙ ap (λ xs. number ++ xs) (c.write_word-blank.ensures.written ∙ ap (λ xs. codes " " ++ xs) (c.write_word-named.ensures.written ∙ ap (λ xs. name ++ xs) (c.write_done-done.ensures.written ∙ ap (λ xs. codes " " ++ xs) (append-nil (done ++ codes "\n")))))
     ∙ joined number (codes " ") name (codes " ") done (codes "\n"))
-    c.put.ensures.ok
+    c.put_from.ensures.ok
