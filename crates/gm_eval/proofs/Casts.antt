@@ -1,5 +1,5 @@
 -- What a number of 64 bits, or one computed from such, is after its casts: itself.
-use Rattle.std.proofs.Common.{◌≡◌, ◌≢◌, ◌≤◌, ◌^◌, unsigned_abs, ℤ, pos, negsuc, ◌*ℤ◌, ◌-ℤ◌, ◌<ℤ◌, ◌≤ℤ◌, neg_ℤ, int_lt, true, false, FitsSigned, Option, sym, subst, ap, ap₂, ◌∙◌, arith, w64, to_z, of_z}
+use Rattle.std.proofs.Common.{◌≡◌, ◌≢◌, ◌≤◌, ◌^◌, unsigned_abs, ℤ, pos, negsuc, ◌*ℤ◌, ◌-ℤ◌, ◌<ℤ◌, ◌≤ℤ◌, neg_ℤ, int_lt, false, FitsSigned, Option, sym, subst, ap, ap₂, ◌∙◌, arith, w64, to_z, of_z}
 use Rattle.std.specs.Int.{w128}
 use Rattle.gm_eval.specs.Made.{IsExact}
 use Rattle.std.proofs.lemmas.Int.{fits_signed_mul, ints, to_z-of_z}
@@ -29,9 +29,6 @@ pub exactly : (op : ℤ → ℤ → ℤ) (a b : ℤ) (r : Option ℤ) → FitsSi
 exactly op a b r fits_a fits_b h = subst (IsExact r) (ap₂ op (to_z-of_z w64 a fits_a) (to_z-of_z w64 b fits_b)) h
 
 -- the sign of a divisor
-pub above : (y : ℤ) → FitsSigned w64 y → int_lt (pos 0) (passed y) ≡ true → pos 0 <ℤ y
-above y fits h = let same : int_lt (pos 0) y ≡ true = ap (int_lt (pos 0)) (sym (to_z-of_z w64 y fits)) ∙ h in grind (arith, ints)
-
 pub below : (y : ℤ) → FitsSigned w64 y → y ≢ pos 0 → int_lt (pos 0) (passed y) ≡ false → y <ℤ pos 0
 below y fits nonzero h = let same : int_lt (pos 0) y ≡ false = ap (int_lt (pos 0)) (sym (to_z-of_z w64 y fits)) ∙ h in grind (arith, ints)
 

@@ -5,22 +5,11 @@ use Rattle.std.proofs.lemmas.Int.{ints}
 use Rattle.std.proofs.lemmas.Nat.{div-add-mod', mod_below}
 use Rattle.gm_model.specs.Expressions.{floor}
 
-pub floor_above : (x y : ℤ) → pos 0 <ℤ y → int_div_euclid x y ≡ floor x y
-floor_above (pos a) (pos b) h = refl
-floor_above (negsuc a) (pos b) h = refl
-floor_above x (negsuc b) h = absurd h.lt
-
 pub floor_below : (x y : ℤ) → y <ℤ pos 0 → int_div_euclid (neg_ℤ x) (neg_ℤ y) ≡ floor x y
 floor_below (pos zero) (negsuc b) h = omega (arith, ints, div-add-mod' 0 (suc b))
 floor_below (pos (suc a)) (negsuc b) h = refl
 floor_below (negsuc a) (negsuc b) h = refl
 floor_below x (pos b) h = absurd (omega (arith, ints))
-
-pub rest_above : (x y : ℤ) → pos 0 <ℤ y → int_rem_euclid x y ≡ x -ℤ (y *ℤ floor x y)
-rest_above (pos a) (pos b) h = omega (arith, ints, div-add-mod' a b)
-rest_above (negsuc a) (pos (suc b)) h = omega (arith, ints, div-add-mod' a (suc b), mod_below a (suc b))
-rest_above (negsuc a) (pos zero) h = absurd h.lt
-rest_above x (negsuc b) h = absurd h.lt
 
 pub rest_below : (x y : ℤ) → y <ℤ pos 0 → neg_ℤ (int_rem_euclid (neg_ℤ x) (neg_ℤ y)) ≡ x -ℤ (y *ℤ floor x y)
 rest_below (pos zero) (negsuc b) h = omega (arith, ints, div-add-mod' 0 (suc b))

@@ -49,6 +49,8 @@ pub fn eval<L: Ledger>(
 
 /// The value of the expression at a position, as `eval` gives it. What is collected over an orbit that
 /// holds a node at all positions is kept for the next reading in the same map, at the same instances.
+// Inlined, it gives a value where its caller wants it, and the outermost form is read without a call.
+#[inline(always)]
 pub fn eval_keeping<L: Ledger>(
     arena: &Arena,
     found: &Instances,

@@ -1,6 +1,6 @@
 //! Values that were collected over the orbit of a node, kept for all positions at which the node lies
 //! in it.
-ghost use Rattle.std.specs.Prelude.{◌≡◌, ◌≢◌, ◌≤◌, [], ◌∷◌, ◌++◌, ◌⊎◌, IfSome, IsSome, IsTrue, ◌↔◌, List, MatchOption, None, Option, Some};
+ghost use Rattle.std.specs.Prelude.{◌≡◌, ◌≢◌, ◌≤◌, [], ◌∷◌, ◌++◌, ◌⊎◌, IfSome, IsSome, IsTrue, ◌↔◌, List, MatchOption, None, Option, Some, cond};
 ghost use Rattle.std.specs.List.{Contains};
 ghost use Rattle.gm_model.specs.declared.value.Value.{Value as ValueOf};
 ghost use Rattle.gm_model.specs.Maps.{IsGeneralised};
@@ -101,34 +101,40 @@ impl Model for Kept {
 
 impl Kept {
     /// Nothing, and nothing is ever kept: for what is read once.
+    #[inline(always)]
     pub(crate) fn closed() -> Kept
         ensures entries { result.entries ≡ None }
         ensures reader { result.reader ≡ None }
     {
-        Kept {
-            entries: Entries {
-                open: false,
-                list: None,
-            },
-            reader: None,
-        }
+        Kept::empty(false)
     }
 
     /// What is kept between so many readings before the first of them: nothing, and where there is
     /// one, nothing ever.
+    #[inline(always)]
     pub fn between(readings: u32) -> Kept
         ensures kept { (m : ArenaMap) (placed : Placed) (params : List ValueOf) → IsGeneralised (as_map m) → AreKept m placed params result.entries }
         ensures open { 2 ≤ readings → result.entries ≡ Some [] }
         ensures closed { readings ≤ 1 → result.entries ≡ None }
         ensures reader { result.reader ≡ None }
     {
-        if readings > 1 {
-            Kept {
-                entries: Entries::open(),
-                reader: None,
-            }
-        } else {
-            Kept::closed()
+        Kept::empty(readings > 1)
+    }
+
+    /// Nothing yet, and whether values are kept at all.
+    // It is inlined with its callers, so that the room for the values is laid out where it stays: to
+    // move it takes as long as to read a short expression.
+    #[inline(always)]
+    fn empty(is_open: bool) -> Kept
+        ensures entries { result.entries ≡ cond is_open (Some []) None }
+        ensures reader { result.reader ≡ None }
+    {
+        Kept {
+            entries: Entries {
+                open: is_open,
+                list: None,
+            },
+            reader: None,
         }
     }
 
@@ -149,16 +155,6 @@ impl Kept {
 }
 
 impl Entries {
-    /// Nothing yet.
-    fn open() -> Entries
-        ensures { result ≡ Some [] }
-    {
-        Entries {
-            open: true,
-            list: None,
-        }
-    }
-
     fn clear(&mut self)
         ensures { MatchOption self.old (self.new ≡ None) (λ _. self.new ≡ Some []) }
     {

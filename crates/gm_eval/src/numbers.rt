@@ -1,6 +1,6 @@
 //! Whole numbers: the exact quotient, rounded down, and values that are made of exact numbers.
 
-ghost use Rattle.std.specs.Prelude.{◌≡◌, ◌≢◌, ℤ, neg_ℤ, ◌+ℤ◌, ◌-ℤ◌, ◌*ℤ◌, pos, [], ◌∷◌, MatchOption};
+ghost use Rattle.std.specs.Prelude.{◌≡◌, ◌≢◌, ℤ, neg_ℤ, ◌+ℤ◌, ◌-ℤ◌, ◌*ℤ◌, ◌<ℤ◌, pos, [], ◌∷◌, MatchOption};
 ghost use Rattle.gm_model.specs.Expressions.{IsMade, floor};
 ghost use Rattle.gm_model.specs.declared.value.Kind.TheVariants.{Int, Vec2, Vec3, Rgb};
 ghost use Rattle.gm_eval.specs.Made.{IsExact, IsNone};
@@ -8,17 +8,55 @@ ghost use Rattle.gm_eval.specs.Made.{IsExact, IsNone};
 use gm_model::Value;
 
 /// The greatest whole number not above the quotient, where it is in the range of 64 bits.
+#[inline(always)]
 pub(crate) fn quotient(number: i64, divisor: i64) -> Option<i64>
     requires divisor { divisor ≢ pos 0 }
     ensures { IsExact result (floor number divisor) }
 {
-    // By a positive divisor the remainder of Euclid's quotient has the divisor's sign, and the quotient
-    // is in the range of what is divided.
     if divisor > 0 {
-        Some(number.div_euclid(divisor))
+        Some(quotient_by_positive(number, divisor))
     } else {
-        narrowed((-(number as i128)).div_euclid(-(divisor as i128)))
+        quotient_by_negative(number, divisor)
     }
+}
+
+/// The greatest whole number not above the quotient by a positive number. It is always in range.
+// A processor divides many times as slowly as it shifts.
+#[inline(always)]
+fn quotient_by_positive(number: i64, divisor: i64) -> i64
+    requires divisor { pos 0 <ℤ divisor }
+    ensures { result ≡ floor number divisor }
+{
+    let bits = divisor.trailing_zeros() % 64;
+    if divisor as u64 == 1 << bits {
+        number >> bits
+    } else {
+        quotient_by_division(number, divisor)
+    }
+}
+
+/// The same by a division, which takes a processor half the time or less where both numbers are
+/// short. By a positive divisor the remainder of Euclid's quotient has the divisor's sign.
+#[inline(never)]
+fn quotient_by_division(number: i64, divisor: i64) -> i64
+    requires divisor { pos 0 <ℤ divisor }
+    ensures { result ≡ floor number divisor }
+{
+    if let (Ok(short), Ok(by)) = (i32::try_from(number), i32::try_from(divisor)) {
+        short.div_euclid(by) as i64
+    } else {
+        number.div_euclid(divisor)
+    }
+}
+
+/// The greatest whole number not above the quotient by a negative number, where it is in the range of
+/// 64 bits.
+#[inline(never)]
+fn quotient_by_negative(number: i64, divisor: i64) -> Option<i64>
+    requires divisor { divisor <ℤ pos 0 }
+    ensures { IsExact result (floor number divisor) }
+{
+    narrowed((-(number as i128)).div_euclid(-(divisor as i128)))
 }
 
 /// The number, where it is in the range of 64 bits.
@@ -34,7 +72,7 @@ pub(crate) fn remainder(number: i64, divisor: i64) -> i128
     ensures { result ≡ number -ℤ (divisor *ℤ floor number divisor) }
 {
     if divisor > 0 {
-        number.rem_euclid(divisor) as i128
+        number as i128 - product(divisor, quotient_by_positive(number, divisor))
     } else {
         -(-(number as i128)).rem_euclid(-(divisor as i128))
     }
@@ -48,6 +86,7 @@ pub(crate) fn opposite(number: i64) -> i128
 }
 
 /// The sum, where it is in the range of 64 bits.
+#[inline(always)]
 pub(crate) fn sum(left: i64, right: i64) -> Option<i64>
     ensures { IsExact result (left +ℤ right) }
 {
@@ -55,6 +94,7 @@ pub(crate) fn sum(left: i64, right: i64) -> Option<i64>
 }
 
 /// The difference, where it is in the range of 64 bits.
+#[inline(always)]
 pub(crate) fn difference(left: i64, right: i64) -> Option<i64>
     ensures { IsExact result (left -ℤ right) }
 {
@@ -69,6 +109,7 @@ pub(crate) fn product(left: i64, right: i64) -> i128
 }
 
 /// A number, where there is one.
+#[inline(always)]
 pub(crate) fn int_of(x: Option<i64>) -> Option<Value>
     ensures { (a : ℤ) → IsExact x a → MatchOption result (IsNone (IsMade Int (a ∷ []))) (IsMade Int (a ∷ [])) }
 {
@@ -76,6 +117,7 @@ pub(crate) fn int_of(x: Option<i64>) -> Option<Value>
 }
 
 /// A vector of two numbers, where there are both.
+#[inline(always)]
 pub(crate) fn vec2_of(x: Option<i64>, y: Option<i64>) -> Option<Value>
     ensures { (a b : ℤ) → IsExact x a → IsExact y b → MatchOption result (IsNone (IsMade Vec2 (a ∷ b ∷ []))) (IsMade Vec2 (a ∷ b ∷ [])) }
 {
@@ -83,6 +125,7 @@ pub(crate) fn vec2_of(x: Option<i64>, y: Option<i64>) -> Option<Value>
 }
 
 /// A vector of three numbers, where there are all.
+#[inline(always)]
 pub(crate) fn vec3_of(x: Option<i64>, y: Option<i64>, z: Option<i64>) -> Option<Value>
     ensures { (a b c : ℤ) → IsExact x a → IsExact y b → IsExact z c → MatchOption result (IsNone (IsMade Vec3 (a ∷ b ∷ c ∷ []))) (IsMade Vec3 (a ∷ b ∷ c ∷ [])) }
 {

@@ -29,7 +29,7 @@ pub(crate) fn unary(op: UnOp, part: Value) -> Option<Value>
 }
 
 /// The value of an operator of two parts.
-// Inlined, it takes the values where they were read.
+// Inlined, it takes the values where they were read. So do the operators that are most met.
 #[inline(always)]
 pub(crate) fn binary(op: BinOp, left: Value, right: Value) -> Option<Value>
     requires kind { IsSome (binary_kind op (kind_of left) (kind_of right)) }
@@ -38,8 +38,26 @@ pub(crate) fn binary(op: BinOp, left: Value, right: Value) -> Option<Value>
     match op {
         BinOp::Add => added(left, right),
         BinOp::Sub => subtracted(left, right),
-        BinOp::Mul => multiplied(left, right),
         BinOp::Div => divided(left, right),
+        _ => other(op, (left, right)),
+    }
+}
+
+/// The value of an operator of two parts that is met less.
+// The parts are a pair, which is made for this call alone: else they would lie in memory for all
+// operators, where they stay in registers.
+#[inline(never)]
+fn other(op: BinOp, parts: (Value, Value)) -> Option<Value>
+    requires kind { IsSome (binary_kind op (kind_of parts.0) (kind_of parts.1)) }
+    requires added { op ≢ Add }
+    requires subtracted { op ≢ Sub }
+    requires divided { op ≢ Div }
+    ensures { MatchOption result (IsNone (IsBinary op parts.0 parts.1)) (IsBinary op parts.0 parts.1) }
+{
+    let (left, right) = parts;
+    match op {
+        BinOp::Add | BinOp::Sub | BinOp::Div => unreachable!(),
+        BinOp::Mul => multiplied(left, right),
         BinOp::Rem => rest(left, right),
         BinOp::Eq => Some(Value::Bool(are_same(left, right))),
         BinOp::Ne => Some(Value::Bool(!are_same(left, right))),
@@ -116,6 +134,7 @@ fn third(part: Value) -> Option<Value>
 }
 
 /// The sum, component by component.
+#[inline(always)]
 fn added(left: Value, right: Value) -> Option<Value>
     requires kind { IsSome (binary_kind Add (kind_of left) (kind_of right)) }
     ensures { MatchOption result (IsNone (IsBinary Add left right)) (IsBinary Add left right) }
@@ -129,6 +148,7 @@ fn added(left: Value, right: Value) -> Option<Value>
 }
 
 /// The difference, component by component.
+#[inline(always)]
 fn subtracted(left: Value, right: Value) -> Option<Value>
     requires kind { IsSome (binary_kind Sub (kind_of left) (kind_of right)) }
     ensures { MatchOption result (IsNone (IsBinary Sub left right)) (IsBinary Sub left right) }
@@ -171,6 +191,7 @@ fn scaled(number: i64, value: Value) -> Option<Value>
 }
 
 /// The quotient of each component, rounded down; none by 0.
+#[inline(always)]
 fn divided(left: Value, right: Value) -> Option<Value>
     requires kind { IsSome (binary_kind Div (kind_of left) (kind_of right)) }
     ensures { MatchOption result (IsNone (IsQuotient left right)) (IsQuotient left right) }
@@ -182,6 +203,7 @@ fn divided(left: Value, right: Value) -> Option<Value>
 }
 
 /// The quotient of each component.
+#[inline(always)]
 fn quotients(value: Value, divisor: i64) -> Option<Value>
     requires kind { IsSome (numeric (kind_of value)) }
     requires divisor { divisor ≢ pos 0 }

@@ -4,8 +4,7 @@ use Rattle.std.specs.List.{range_with_len}
 use Rattle.gm_model.specs.declared.expr.DartTerm.{DartTerm}
 use Rattle.gm_model.specs.declared.expr.BinOp.TheVariants.{Div}
 use Rattle.gm_model.specs.declared.rule.Book.{Book}
-use Rattle.gm_model.specs.declared.script.Stat.{Stat}
-use Rattle.gm_model.specs.declared.script.Stat.TheVariants.{Apply}
+use Rattle.gm_model.specs.Statements.{Stat, Apply}
 use Rattle.gm_model.specs.declared.script.Script.{Script}
 use Rattle.gm_model.specs.declared.word.Letter.TheVariants.{At, Gone}
 use Rattle.gm_model.specs.declared.word.Mask.{Mask}

@@ -28,6 +28,7 @@ pub(crate) fn do_laws_hold<L: Ledger>(arena: &Arena, steps: &mut Steps<L>) -> bo
 }
 
 /// Whether all laws hold, where each slot has a dart.
+// The compiler is told the labels of a surface and of a solid, and goes over them without a loop.
 fn do_slots_hold<L: Ledger>(arena: &Arena, bound: usize, steps: &mut Steps<L>) -> bool
     requires lawful { IsLawful arena.now }
     requires bound { bound ≡ arena.now.bound }
@@ -37,23 +38,51 @@ fn do_slots_hold<L: Ledger>(arena: &Arena, bound: usize, steps: &mut Steps<L>) -
     ensures cost { let labels = arena.now.schema.dim + 1 in steps.new ≤ steps.old + (labels * labels + 1) * arena.now.count }
     ensures least { steps.old ≤ steps.new }
 {
+    let labels = arena.schema().dim.top() as usize + 1;
+    match labels {
+        3 => do_slots_hold_along(arena, bound, 3, steps),
+        4 => do_slots_hold_along(arena, bound, 4, steps),
+        _ => do_slots_hold_along(arena, bound, labels, steps),
+    }
+}
+
+/// The same for labels of which the caller may tell how many there are.
+#[inline(always)]
+fn do_slots_hold_along<L: Ledger>(
+    arena: &Arena,
+    bound: usize,
+    labels: usize,
+    steps: &mut Steps<L>,
+) -> bool
+    requires lawful { IsLawful arena.now }
+    requires bound { bound ≡ arena.now.bound }
+    requires labels { labels ≡ arena.now.schema.dim + 1 }
+    requires live { (at : ℕ) → at < arena.now.bound → IsLiveSlot arena.now at }
+    requires count { arena.now.bound ≡ arena.now.count }
+    ensures laws { IsTrue result → KeepsLaws arena.now }
+    ensures cost { let labels = arena.now.schema.dim + 1 in steps.new ≤ steps.old + (labels * labels + 1) * arena.now.count }
+    ensures least { steps.old ≤ steps.new }
+{
     let embeds = arena.schema().embeds.as_slice();
     let mut hold = true;
     for at in 0..bound {
-        hold &= does_dart_hold(arena, embeds, Slot { at: at as u32 }, steps);
+        hold &= does_dart_hold(arena, embeds, labels, Slot { at: at as u32 }, steps);
     }
     hold
 }
 
 /// Whether the laws hold at the dart along each label.
+#[inline(always)]
 fn does_dart_hold<L: Ledger>(
     arena: &Arena,
     embeds: &[Embed],
+    labels: usize,
     slot: Slot,
     steps: &mut Steps<L>,
 ) -> bool
     requires lawful { IsLawful arena.now }
     requires embeds { embeds.now ≡ arena.now.schema.embeds }
+    requires labels { labels ≡ arena.now.schema.dim + 1 }
     requires live { IsLiveSlot arena.now slot.at }
     ensures holds { IsTrue result → (i : ℕ) → IsLabel arena.now i → Holds arena.now slot.at (name_at arena.now slot.at) i }
     ensures cost { let labels = arena.now.schema.dim + 1 in steps.new ≤ steps.old + (labels * labels + 1) }
@@ -61,16 +90,20 @@ fn does_dart_hold<L: Ledger>(
 {
     let own = arena.row(slot, steps);
     let mut hold = true;
-    for label in 0..own.alphas.len() {
-        hold &= does_label_hold(arena, embeds, slot, own.alphas, own.values, label, steps);
+    for label in 0..labels {
+        hold &= does_label_hold(
+            arena, embeds, labels, slot, own.alphas, own.values, label, steps,
+        );
     }
     hold
 }
 
 /// Whether the laws hold at the dart along the label, where these are its neighbours and its values.
+#[inline(always)]
 fn does_label_hold<L: Ledger>(
     arena: &Arena,
     embeds: &[Embed],
+    labels: usize,
     slot: Slot,
     alphas: &[Slot],
     values: &[Value],
@@ -79,6 +112,7 @@ fn does_label_hold<L: Ledger>(
 ) -> bool
     requires lawful { IsLawful arena.now }
     requires embeds { embeds.now ≡ arena.now.schema.embeds }
+    requires labels { labels ≡ arena.now.schema.dim + 1 }
     requires row { IsRowAt arena.now slot.at alphas.now values.now }
     requires live { All (λ (s : declared.Slot). IsLiveSlot arena.now s.at) alphas.now }
     requires label { IsLabel arena.now label }
@@ -90,7 +124,7 @@ fn does_label_hold<L: Ledger>(
     let row = arena.row(to, steps);
     let leads_back = is_same_slot(row.alphas[label], slot);
     let shares = does_share(embeds, label as u8, slot, to, values, row.values);
-    let commutes = does_commute(arena, label, alphas, row.alphas, steps);
+    let commutes = does_commute(arena, labels, label, alphas, row.alphas, steps);
     leads_back & shares & commutes
 }
 
@@ -103,14 +137,17 @@ fn is_same_slot(slot: Slot, other: Slot) -> bool
 
 /// Whether the label commutes with each distant label above it, where these are the neighbours of a
 /// dart and those of its neighbour along the label.
+#[inline(always)]
 fn does_commute<L: Ledger>(
     arena: &Arena,
+    labels: usize,
     label: usize,
     alphas: &[Slot],
     across: &[Slot],
     steps: &mut Steps<L>,
 ) -> bool
     requires lawful { IsLawful arena.now }
+    requires labels { labels ≡ arena.now.schema.dim + 1 }
     requires label { IsLabel arena.now label }
     requires alphas { length alphas.now ≡ arena.now.schema.dim + 1 }
     requires across { length across.now ≡ arena.now.schema.dim + 1 }
@@ -120,7 +157,7 @@ fn does_commute<L: Ledger>(
     ensures least { steps.old ≤ steps.new }
 {
     let mut meet = true;
-    for above in label + 2..alphas.len() {
+    for above in label + 2..labels {
         meet &= across[above] == arena.alpha(alphas[above], label as u8, steps);
     }
     meet

@@ -2,7 +2,7 @@
 //!
 //! `read_text` knows the grammar, its limits and the schema's declarations alone. Whether the darts
 //! that it lists are a map is tested afterwards.
-ghost use Rattle.std.specs.Prelude.{◌≡◌, ℕ, ◌+◌, ◌*◌, ◌≤◌, List, [], ◌∷◌, length, pos, replicate, Bool, IfOk, IfErr, IfSome, OnOk};
+ghost use Rattle.std.specs.Prelude.{◌≡◌, ℕ, ◌+◌, ◌*◌, ◌≤◌, List, [], ◌∷◌, length, pos, replicate, Bool, IfOk, IfErr, IfSome, IfNone, OnOk};
 ghost use Rattle.gm_model.specs.declared.schema.Schema.{Schema};
 ghost use Rattle.gm_model.specs.Limits.{most_darts, most_names};
 ghost use Rattle.gm_model.specs.Maps.{IsSchema, IsSound};
@@ -23,7 +23,7 @@ use crate::fault::{MapFault, NoMap};
 use crate::packed::line_size;
 use crate::values::read_values;
 use crate::version::MapVersion;
-use crate::words::{Numeral, read_number, read_word};
+use crate::words::{Numeral, read_number, read_word, small_numeral};
 use gm_arena::{Arena, Steps};
 use gm_laws::{LawFault, MapBreach, check_map};
 use gm_model::{Embed, LimitKind, MOST_DARTS, MOST_NAMES, Name, Schema};
@@ -134,6 +134,46 @@ fn read_name(lexer: &mut Lexer<'_>) -> Result<u32, SchemaFault>
     Ok(value as u32)
 }
 
+/// A name that stands next and is small, or else the lexer stays.
+// Inlined, as `read_number` is.
+#[inline(always)]
+fn small_name(lexer: &mut Lexer<'_>) -> Option<u32>
+    ensures takes { IfSome result (λ name. Takes (TheNumber DartName ∷ []) (pos name ∷ []) lexer.old lexer.new) }
+    ensures none { IfNone result (lexer.new ≡ lexer.old) }
+{
+    let mut ahead = lexer.fork();
+    let Numeral { value, .. } = small_numeral(&mut ahead)?;
+    if value >= u64::from(MOST_NAMES) {
+        return None;
+    }
+    *lexer = ahead;
+    Some(value as u32)
+}
+
+/// Names that are small, up to so many, behind those before them. The answer is how many; none are
+/// read where there is no room for all.
+// Inlined, as `read_number` is. The lexer is copied, so that the copy stays in registers.
+#[inline(always)]
+fn read_small_names(lexer: &mut Lexer<'_>, count: usize, names: &mut Vec<u32>) -> usize
+    ensures reads { ReadsNames result lexer.old lexer.new names.old.items names.new.items }
+    ensures few { result ≤ count }
+{
+    if names.capacity() - names.len() < count {
+        return 0;
+    }
+    let mut ahead = lexer.fork();
+    let mut done = 0;
+    while done < count {
+        let Some(name) = small_name(&mut ahead) else {
+            break;
+        };
+        names.push_reserved(name);
+        done += 1;
+    }
+    *lexer = ahead;
+    done
+}
+
 /// So many names, behind those before them.
 // Inlined, as `read_number` is.
 #[inline(always)]
@@ -141,7 +181,8 @@ fn read_names(lexer: &mut Lexer<'_>, count: usize, names: &mut Vec<u32>) -> Resu
     ensures reads { OnOk result (ReadsNames count lexer.old lexer.new names.old.items names.new.items) }
     ensures stops { IfErr result (Misses (replicate count (TheNumber DartName)) lexer.old) }
 {
-    for _ in 0..count {
+    let first = read_small_names(lexer, count, names);
+    for _ in first..count {
         names.push(read_name(lexer)?)?;
     }
     Ok(())
@@ -169,10 +210,13 @@ fn read_darts(
     let room = count.min(bytes / (2 * width) + 1);
     let mut numbers = Vec::with_capacity(alloc, room * width)?;
     let mut words = Vec::with_capacity(alloc, room * line_size(embeds))?;
+    // The copy stays in registers.
+    let mut ahead = lexer.fork();
     for _ in 0..count {
-        read_names(lexer, width, &mut numbers)?;
-        read_values(lexer, embeds, &mut words)?;
+        read_names(&mut ahead, width, &mut numbers)?;
+        read_values(&mut ahead, embeds, &mut words)?;
     }
+    *lexer = ahead;
     Ok(Lines { numbers, words })
 }
 

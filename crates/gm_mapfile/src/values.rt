@@ -81,8 +81,22 @@ fn read_component(lexer: &mut Lexer<'_>, colour: bool) -> Result<i64, SchemaFaul
 }
 
 /// A component that isn't small, or has a minus before it.
-#[cold]
+// By a copy of the lexer, so that only the copy goes by memory.
+#[inline(always)]
 fn read_other_component(lexer: &mut Lexer<'_>, colour: bool) -> Result<i64, SchemaFault>
+    ensures takes { IfOk result (λ n. Takes (Component colour ∷ []) (n ∷ []) lexer.old lexer.new) }
+    ensures channel { IfOk result (λ n. IsTrue colour → IsTrue (is_channel n)) }
+    ensures misses { IfErr result (Misses (Component colour ∷ []) lexer.old) }
+{
+    let mut copy = lexer.fork();
+    let read = read_any_component(&mut copy, colour);
+    *lexer = copy;
+    read
+}
+
+/// A component of any size, with a minus before it or without.
+#[cold]
+fn read_any_component(lexer: &mut Lexer<'_>, colour: bool) -> Result<i64, SchemaFault>
     ensures takes { IfOk result (λ n. Takes (Component colour ∷ []) (n ∷ []) lexer.old lexer.new) }
     ensures channel { IfOk result (λ n. IsTrue colour → IsTrue (is_channel n)) }
     ensures misses { IfErr result (Misses (Component colour ∷ []) lexer.old) }
@@ -127,6 +141,8 @@ fn read_triple(lexer: &mut Lexer<'_>, colour: bool) -> Result<(i64, i64, i64), S
     Ok((x, y, z))
 }
 
+// Inlined, as `read_triple` is.
+#[inline(always)]
 fn read_pair(lexer: &mut Lexer<'_>) -> Result<Value, SchemaFault>
     ensures takes { IfOk result (λ value. Takes (value_wants kinds.Vec2) (components value) lexer.old lexer.new) }
     ensures kind { IfOk result (λ value. kind_of value ≡ kinds.Vec2) }
@@ -140,6 +156,8 @@ fn read_pair(lexer: &mut Lexer<'_>) -> Result<Value, SchemaFault>
 }
 
 /// A truth has no components. No embedding is one of truths.
+// Inlined, as `read_triple` is.
+#[inline(always)]
 fn read_truth(lexer: &mut Lexer<'_>) -> Result<Value, SchemaFault>
     ensures takes { IfOk result (λ value. Takes (value_wants kinds.Bool) (components value) lexer.old lexer.new) }
     ensures kind { IfOk result (λ value. kind_of value ≡ kinds.Bool) }

@@ -7,6 +7,7 @@ ghost use Rattle.gm_mapfile.specs.Words.{StandsNext, IsNumberNext, IsOtherNext, 
 use gm_text::{Lexer, SchemaFault, SmallNumber, TokenKind, next_token};
 
 /// A number of the text, and where it stands.
+#[derive(Clone, Copy)]
 pub(crate) struct Numeral {
     /// The greatest `u64` stands for a number that is greater.
     pub value: u64,
@@ -40,9 +41,22 @@ pub(crate) fn read_sign(lexer: &mut Lexer<'_>, sign: u8) -> Result<(), SchemaFau
     read_sign_token(lexer, &[sign])
 }
 
-/// A sign of the format by its token.
-#[cold]
+/// The same by its token.
+// By a copy of the lexer, so that only the copy goes by memory.
+#[inline(always)]
 fn read_sign_token(lexer: &mut Lexer<'_>, sign: &[u8]) -> Result<(), SchemaFault>
+    ensures next { IfOk result (λ _. StandsNext (Sign sign.now) lexer.old lexer.new) }
+    ensures other { IfErr result (IsOtherNext (Sign sign.now) lexer.old) }
+{
+    let mut copy = lexer.fork();
+    let read = read_longest_sign(&mut copy, sign);
+    *lexer = copy;
+    read
+}
+
+/// A sign of the format, where no longer one stands.
+#[cold]
+fn read_longest_sign(lexer: &mut Lexer<'_>, sign: &[u8]) -> Result<(), SchemaFault>
     ensures next { IfOk result (λ _. StandsNext (Sign sign.now) lexer.old lexer.new) }
     ensures other { IfErr result (IsOtherNext (Sign sign.now) lexer.old) }
 {
@@ -82,8 +96,21 @@ pub(crate) fn small_numeral(lexer: &mut Lexer<'_>) -> Option<Numeral>
 }
 
 /// A number by its token.
-#[cold]
+// By a copy, as `read_sign_token` is.
+#[inline(always)]
 fn read_numeral(lexer: &mut Lexer<'_>) -> Result<Numeral, SchemaFault>
+    ensures next { IfOk result (λ found. IsNumberNext lexer.old found.value found.place lexer.new) }
+    ensures none { IfErr result (IsNoNumberNext lexer.old) }
+{
+    let mut copy = lexer.fork();
+    let read = read_any_numeral(&mut copy);
+    *lexer = copy;
+    read
+}
+
+/// A number of any size.
+#[cold]
+fn read_any_numeral(lexer: &mut Lexer<'_>) -> Result<Numeral, SchemaFault>
     ensures next { IfOk result (λ found. IsNumberNext lexer.old found.value found.place lexer.new) }
     ensures none { IfErr result (IsNoNumberNext lexer.old) }
 {

@@ -223,19 +223,19 @@ module _ (m : ArenaMap) (rule : Rule) (hooks : List ℕ) (begun : IsBegun m rule
   some_position params k has = let w = positions_are params k has in omega (arith, w.2, slice_get_within w.0 0 (slice_index hooks 0) w.1.starts)
 
   -- the steps so far, from what the look-up of the hooks took, and what the candidate took
-  module _ (start looked found_at : ℕ) (look : looked ≤ start + length hooks) (make : (walk : List ℕ) → IsWalk (along_hook (as_map m) rule) (width rule) (slice_index hooks 0) walk → found_at ≤ looked + 6 * (m.schema.dim + 1) * (length rule.nodes * length walk)) where
+  module _ (start looked found_at : ℕ) (look : looked ≤ start + length hooks) (make : (walk : List ℕ) → IsWalk (along_hook (as_map m) rule) (width rule) (slice_index hooks 0) walk → found_at ≤ looked + 5 * (m.schema.dim + 1) * (length rule.nodes * length walk)) where
     few_looks : looked ≤ start + length rule.nodes
     few_looks = omega (arith, look, begun.count, begun.sound.few)
 
-    made : (params : List Value) (k : ℕ) → HasPositions (application_of m rule hooks params) k → found_at ≤ looked + 6 * (m.schema.dim + 1) * (length rule.nodes * k)
-    made params k has = let w = positions_are params k has in subst (λ n. found_at ≤ looked + 6 * (m.schema.dim + 1) * (length rule.nodes * n)) w.2 (make w.0 w.1)
+    made : (params : List Value) (k : ℕ) → HasPositions (application_of m rule hooks params) k → found_at ≤ looked + 5 * (m.schema.dim + 1) * (length rule.nodes * k)
+    made params k has = let w = positions_are params k has in subst (λ n. found_at ≤ looked + 5 * (m.schema.dim + 1) * (length rule.nodes * n)) w.2 (make w.0 w.1)
 
     made_cost : (params : List Value) (k : ℕ) → HasPositions (application_of m rule hooks params) k → found_at ≤ start + 8 * (m.schema.dim + 1) * (length rule.nodes * k + 1)
     made_cost params k has = found_cost (m.schema.dim + 1) (length rule.nodes) k start looked found_at (omega arith) (some_position params k has) few_looks (made params k has)
 
   -- what the candidate took, by the names of the hooks' slots
   abbrev pub IsMadeWithin : List ℕ → ℕ → ℕ → Type 0
-  IsMadeWithin names looked found_at = (walk : List ℕ) → IsWalk (along_hook (as_map m) rule) (width rule) (slice_index names 0) walk → found_at ≤ looked + 6 * (m.schema.dim + 1) * (length rule.nodes * length walk)
+  IsMadeWithin names looked found_at = (walk : List ℕ) → IsWalk (along_hook (as_map m) rule) (width rule) (slice_index names 0) walk → found_at ≤ looked + 5 * (m.schema.dim + 1) * (length rule.nodes * length walk)
 
   pub named_cost : (names : List ℕ) → names ≡ hooks → (start looked found_at : ℕ) → looked ≤ start + length hooks → IsMadeWithin names looked found_at → (params : List Value) (k : ℕ) → HasPositions (application_of m rule hooks params) k → found_at ≤ start + 8 * (m.schema.dim + 1) * (length rule.nodes * k + 1)
   named_cost names same start looked found_at look make = made_cost start looked found_at look (subst (λ hs. IsMadeWithin hs looked found_at) same make)
@@ -247,14 +247,14 @@ module _ (m : ArenaMap) (rule : Rule) (hooks : List ℕ) (begun : IsBegun m rule
         let theirs = positions_are params found.positions (Candidate (place_of m found) (live_hooks params) at.candidate) in
         sym ours.2 ∙ ap length (walk_unique (along_hook (as_map m) rule) (width rule) (slice_index hooks 0) ours.0 theirs.0 ours.1 theirs.1) ∙ theirs.2
 
-    tested_cost : (start looked found_at met : ℕ) → looked ≤ start + length hooks → ((walk : List ℕ) → IsWalk (along_hook (as_map m) rule) (width rule) (slice_index hooks 0) walk → found_at ≤ looked + 6 * (m.schema.dim + 1) * (length rule.nodes * length walk)) →
-        met ≤ found_at + (m.schema.dim + 1) * (length rule.nodes * found.positions) → (params : List Value) (k : ℕ) → HasPositions (application_of m rule hooks params) k → met ≤ start + 8 * (m.schema.dim + 1) * (length rule.nodes * k + 1)
+    tested_cost : (start looked found_at met : ℕ) → looked ≤ start + length hooks → ((walk : List ℕ) → IsWalk (along_hook (as_map m) rule) (width rule) (slice_index hooks 0) walk → found_at ≤ looked + 5 * (m.schema.dim + 1) * (length rule.nodes * length walk)) →
+        met ≤ found_at + 2 * (m.schema.dim + 1) * (length rule.nodes * found.positions) → (params : List Value) (k : ℕ) → HasPositions (application_of m rule hooks params) k → met ≤ start + 8 * (m.schema.dim + 1) * (length rule.nodes * k + 1)
     tested_cost start looked found_at met look make test params k has =
         met_cost (m.schema.dim + 1) (length rule.nodes) k start looked found_at met (omega arith) (some_position params k has) (few_looks start looked found_at look make) (made start looked found_at look make params k has)
-        (subst (λ n. met ≤ found_at + (m.schema.dim + 1) * (length rule.nodes * n)) (sym (positions_found params k has)) test)
+        (subst (λ n. met ≤ found_at + 2 * (m.schema.dim + 1) * (length rule.nodes * n)) (sym (positions_found params k has)) test)
 
     pub named_tested_cost : (names : List ℕ) → names ≡ hooks → (start looked found_at met : ℕ) → looked ≤ start + length hooks → IsMadeWithin names looked found_at →
-        met ≤ found_at + (m.schema.dim + 1) * (length rule.nodes * found.positions) → (params : List Value) (k : ℕ) → HasPositions (application_of m rule hooks params) k → met ≤ start + 8 * (m.schema.dim + 1) * (length rule.nodes * k + 1)
+        met ≤ found_at + 2 * (m.schema.dim + 1) * (length rule.nodes * found.positions) → (params : List Value) (k : ℕ) → HasPositions (application_of m rule hooks params) k → met ≤ start + 8 * (m.schema.dim + 1) * (length rule.nodes * k + 1)
     named_tested_cost names same start looked found_at met look make = tested_cost start looked found_at met look (subst (λ hs. IsMadeWithin hs looked found_at) same make)
 
     like : (place : Placement) → IsMatch (as_map m) rule hooks place → IsLike rule (place_of m found) place

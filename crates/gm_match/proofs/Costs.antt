@@ -16,18 +16,18 @@ module _ (labels nodes k places : ℕ) (some : 1 ≤ nodes) (label : 1 ≤ label
   slot_part : nodes * k ≤ labels * (nodes * k)
   slot_part = omega (arith, mul-le-mul_right (nodes * k) label)
 
-  pub candidate_cost : (start walked placed : ℕ) → walked ≤ start + k * places → placed ≤ walked + k * nodes → placed ≤ start + 6 * labels * (nodes * k)
+  pub candidate_cost : (start walked placed : ℕ) → walked ≤ start + k * places → placed ≤ walked + k * nodes → placed ≤ start + 5 * labels * (nodes * k)
   candidate_cost start walked placed a b = omega (arith, walk_part, turn_part, slot_part)
 
 look_part : (labels nodes k : ℕ) → 1 ≤ labels → 1 ≤ k → nodes ≤ labels * (nodes * k)
 look_part labels nodes k label some = omega (arith, mul-le-mul_left nodes some, mul-le-mul_right (nodes * k) label)
 
 -- the look-ups of the hooks, and the candidate
-pub found_cost : (labels nodes k start looked found : ℕ) → 1 ≤ labels → 1 ≤ k → looked ≤ start + nodes → found ≤ looked + 6 * labels * (nodes * k) → found ≤ start + 8 * labels * (nodes * k + 1)
+pub found_cost : (labels nodes k start looked found : ℕ) → 1 ≤ labels → 1 ≤ k → looked ≤ start + nodes → found ≤ looked + 5 * labels * (nodes * k) → found ≤ start + 8 * labels * (nodes * k + 1)
 found_cost labels nodes k start looked found label some a b = omega (arith, look_part labels nodes k label some, b)
 
 -- and the tests
-pub met_cost : (labels nodes k start looked found met : ℕ) → 1 ≤ labels → 1 ≤ k → looked ≤ start + nodes → found ≤ looked + 6 * labels * (nodes * k) → met ≤ found + labels * (nodes * k) → met ≤ start + 8 * labels * (nodes * k + 1)
+pub met_cost : (labels nodes k start looked found met : ℕ) → 1 ≤ labels → 1 ≤ k → looked ≤ start + nodes → found ≤ looked + 5 * labels * (nodes * k) → met ≤ found + 2 * labels * (nodes * k) → met ≤ start + 8 * labels * (nodes * k + 1)
 met_cost labels nodes k start looked found met label some a b c = omega (arith, look_part labels nodes k label some, b, c)
 
 -- without a hook nothing is looked up

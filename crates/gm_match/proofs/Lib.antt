@@ -5,6 +5,7 @@ pub mod Apart
 pub mod Column
 pub mod Costs
 pub mod Paths
+pub mod EdgeWalks
 pub mod FirstBroken
 pub mod FirstTurns
 pub mod ForcedMet
@@ -13,3 +14,4 @@ pub mod OneNode
 pub mod Placing
 pub mod Stepping
 pub mod Taking
+pub mod TestsMet

@@ -215,7 +215,7 @@ module _ (m : ArenaMap) (plan : PlanOf) (able : AreMatchable m plan) (has : 0 < 
   -- the steps of the walk, and of what is made along it
   pub walk_cost : (d start walked : ℕ) → ((walk : List ℕ) → IsWalk (along m word) (length word) d walk → walked ≤ start + length walk * length word) →
       (placed : ℕ) (walk : List ℕ) → IsWalk (along_hook (as_map m) (rule_of plan.table)) (width (rule_of plan.table)) d walk → placed ≤ walked + length walk * length (rule_of plan.table).nodes →
-      placed ≤ start + 6 * (m.schema.dim + 1) * (length (rule_of plan.table).nodes * length walk)
+      placed ≤ start + 5 * (m.schema.dim + 1) * (length (rule_of plan.table).nodes * length walk)
   walk_cost d start walked walking placed walk is_walk placing =
       candidate_cost (m.schema.dim + 1) (length (rule_of plan.table).nodes) (length walk) (length word) some_nodes (omega arith) few start walked placed
       (walking walk (subst (λ w. IsWalk (along m w) (length w) d walk) (sym is_hook) is_walk)) placing

@@ -1,12 +1,14 @@
-ghost use Rattle.std.specs.Prelude.{◌≡◌, ℕ, List, ◌+◌, ◌*◌, ◌<◌, ◌≤◌, ◌↔◌, length, MatchOption, MatchResult, IsTrue};
+ghost use Rattle.std.specs.Prelude.{◌≡◌, ◌≢◌, ℕ, List, ◌+◌, ◌*◌, ◌<◌, ◌≤◌, ◌↔◌, length, MatchOption, MatchResult, IsTrue};
 ghost use Rattle.gm_arena.specs.ArenaAsMap.{as_map};
 ghost use Rattle.gm_arena.specs.ArenaMap.{IsLiveSlot, name_at, alpha};
 ghost use Rattle.gm_arena.specs.Lawful.{IsLawful};
-ghost use Rattle.gm_model.specs.declared.step.Step.TheVariants.{Exp, Imp};
+ghost use Rattle.gm_model.specs.declared.step.Step.TheVariants.{Absent, Exp, Imp};
 ghost use Rattle.gm_model.specs.Maps.{IsGeneralised};
 ghost use Rattle.gm_model.specs.Matches.{IsMetAt, IsStepMet};
-ghost use Rattle.gm_model.specs.Rules.{rule_of};
+ghost use Rattle.gm_model.specs.declared.rule.Side.TheVariants.{Left};
+ghost use Rattle.gm_model.specs.Rules.{rule_of, step};
 ghost use Rattle.gm_model.specs.Structure.{AreGood, IsFirstBad};
+ghost use Rattle.gm_plan.specs.Tested.{IsForcedStep};
 ghost use Rattle.gm_walk.specs.Walks.{AreLive};
 ghost use Rattle.gm_match.specs.Outcome.{place_of};
 ghost use Rattle.gm_match.specs.Layout.{AreMatchable, IsCandidateAt};
@@ -15,11 +17,55 @@ ghost use Rattle.gm_match.specs.Firsts.{AreMetBy, AreMet, IsFirstAt, IsFirstStep
 use crate::fault::MatchFault;
 use gm_arena::{Arena, Slot, Steps};
 use gm_model::Step;
-use gm_plan::{Instances, Plan};
+use gm_plan::{Instances, Plan, Test};
 use std::sync::ledger::Ledger;
 
 /// Tests the left steps of the candidate, but for those that it meets as it is made.
 pub(crate) fn meet_steps<L: Ledger>(
+    plan: &Plan<'_>,
+    arena: &Arena,
+    found: &Instances,
+    steps: &mut Steps<L>,
+) -> Result<(), MatchFault>
+    requires matchable { AreMatchable arena.now plan.now }
+    requires candidate { (hooks : List ℕ) × IsCandidateAt arena.now (rule_of plan.now.table) hooks found.now }
+    ensures steps { MatchResult result
+        (λ _. AreMet arena.now (rule_of plan.now.table) found.now)
+        (IsFirstStep arena.now (rule_of plan.now.table) found.now) }
+    ensures cost { steps.new ≤ steps.old + 2 * (arena.now.schema.dim + 1) * (length (rule_of plan.now.table).nodes * found.now.positions) }
+    ensures least { steps.old ≤ steps.new }
+{
+    if meets_all(plan, arena, found, steps) {
+        return Ok(());
+    }
+    // Only where a step is broken it matters which is the first.
+    meet_in_order(plan, arena, found, steps)
+}
+
+/// Whether the candidate meets each left step that needs a test.
+fn meets_all<L: Ledger>(
+    plan: &Plan<'_>,
+    arena: &Arena,
+    found: &Instances,
+    steps: &mut Steps<L>,
+) -> bool
+    requires matchable { AreMatchable arena.now plan.now }
+    requires candidate { (hooks : List ℕ) × IsCandidateAt arena.now (rule_of plan.now.table) hooks found.now }
+    ensures met { IsTrue result → AreMet arena.now (rule_of plan.now.table) found.now }
+    ensures cost { steps.new ≤ steps.old + (arena.now.schema.dim + 1) * (length (rule_of plan.now.table).nodes * found.now.positions) }
+    ensures least { steps.old ≤ steps.new }
+{
+    let positions = found.positions();
+    for test in plan.tests() {
+        if first_broken(plan, arena, found, *test, positions, steps).is_some() {
+            return false;
+        }
+    }
+    true
+}
+
+/// Tests the left steps by node, position and label, so that the first that is broken is named.
+fn meet_in_order<L: Ledger>(
     plan: &Plan<'_>,
     arena: &Arena,
     found: &Instances,
@@ -71,7 +117,9 @@ fn broken_position<L: Ledger>(
     let mut first = None;
     let mut end = found.positions();
     for label in 0..arena.schema().dim.top() + 1 {
-        if let Some(position) = first_broken(plan, arena, found, node, label, end, steps) {
+        let step = plan.tested_step(node, label);
+        let test = Test { node, label, step };
+        if let Some(position) = first_broken(plan, arena, found, test, end, steps) {
             first = Some((position, label));
             end = position;
         }
@@ -79,29 +127,31 @@ fn broken_position<L: Ledger>(
     first
 }
 
-/// The first position before `end` at which the left step of the node at the label is broken. One
-/// that needs no test is met at each.
+/// The first position before `end` at which the left step of the node at the label is broken. Where
+/// the test has none, the step is met at each.
 fn first_broken<L: Ledger>(
     plan: &Plan<'_>,
     arena: &Arena,
     found: &Instances,
-    node: u8,
-    label: u8,
+    test: Test,
     end: u32,
     steps: &mut Steps<L>,
 ) -> Option<u32>
     requires matchable { AreMatchable arena.now plan.now }
     requires candidate { (hooks : List ℕ) × IsCandidateAt arena.now (rule_of plan.now.table) hooks found.now }
-    requires node { node < found.now.nodes }
-    requires label { label ≤ arena.now.schema.dim }
+    requires node { test.node < found.now.nodes }
+    requires label { test.label ≤ arena.now.schema.dim }
+    requires forced { test.step ≡ Absent → IsForcedStep (rule_of plan.now.table) test.node test.label }
+    requires kept { test.step ≢ Absent → test.step ≡ step (rule_of plan.now.table) Left test.node test.label }
     requires end { end ≤ found.now.positions }
     ensures first { MatchOption result
-        (AreGood (λ p. IsMetAt (as_map arena.now) (rule_of plan.now.table) (place_of arena.now found.now) node p label) end)
-        (IsFirstBad (λ p. IsMetAt (as_map arena.now) (rule_of plan.now.table) (place_of arena.now found.now) node p label) end) }
+        (AreGood (λ p. IsMetAt (as_map arena.now) (rule_of plan.now.table) (place_of arena.now found.now) test.node p test.label) end)
+        (IsFirstBad (λ p. IsMetAt (as_map arena.now) (rule_of plan.now.table) (place_of arena.now found.now) test.node p test.label) end) }
     ensures cost { steps.new ≤ steps.old + end }
     ensures least { steps.old ≤ steps.new }
 {
-    match plan.tested_step(node, label) {
+    let Test { node, label, step } = test;
+    match step {
         Step::Absent => None,
         Step::Exp(other) => first_unlinked(arena, found, node, label, other, end, steps),
         Step::Imp(place) => first_unturned(arena, found, node, label, place, end, steps),

@@ -12,11 +12,12 @@ ghost use Rattle.gm_match.specs.Layout.{AreMatchable, AreRows, HaveFirstTurns, I
 ghost use Rattle.gm_match.specs.Taken.{AreSlotsOf};
 
 use crate::columns::fill_columns;
+use crate::hook_walk::walk_hook;
 use crate::rows::{first_row, later_row};
 use gm_arena::{Arena, Slot, Steps};
 use gm_model::{MOST_NODES, OutOfMemory, Word};
 use gm_plan::{Instances, Plan};
-use gm_walk::{Scratch, walk_turns};
+use gm_walk::Scratch;
 use std::alloc::Global;
 use std::sync::ledger::Ledger;
 
@@ -38,13 +39,13 @@ pub(crate) fn candidate<L: Ledger>(
     ensures walked { IfOk result (λ found. (h : ℕ) → first_hook (rule_of plan.now.table) ≡ Some h → AreSlotsOf found h scratch.new.walked) }
     ensures cost { let rule = rule_of plan.now.table in (walk : List ℕ)
         → IsWalk (along_hook (as_map arena.now) rule) (width rule) (slice_index (names_of arena.now darts.now) 0) walk
-        → steps.new ≤ steps.old + 6 * (arena.now.schema.dim + 1) * (length rule.nodes * length walk) }
+        → steps.new ≤ steps.old + 5 * (arena.now.schema.dim + 1) * (length rule.nodes * length walk) }
     ensures least { steps.old ≤ steps.new }
     ensures room { scratch.new.bound ≡ scratch.old.bound }
 {
     let word = plan.rule().hook_word().unwrap();
     let (slots, mut turns) = scratch.lend_rows(alloc);
-    walk_turns(arena, darts[0], &word, scratch, &mut turns, steps)?;
+    walk_hook(arena, darts[0], &word, scratch, &mut turns, steps)?;
     along_walk(
         plan,
         arena,
@@ -86,7 +87,13 @@ fn along_walk<L: Ledger>(
 {
     fill_slots(plan, arena, darts, walk, &turns, &mut slots, steps)?;
     let positions = walk.len() as u32;
-    Ok(Instances::new(slots, turns, positions, word.len()))
+    Ok(Instances::with_nodes(
+        slots,
+        turns,
+        positions,
+        plan.left_nodes() as usize,
+        word.len(),
+    ))
 }
 
 /// Puts the slots of the left nodes, by position and node, into the empty vector. The turns are those

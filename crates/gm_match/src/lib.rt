@@ -12,6 +12,7 @@ mod candidates;
 mod columns;
 mod darts;
 mod fault;
+mod hook_walk;
 mod matching;
 mod repeats;
 mod rows;

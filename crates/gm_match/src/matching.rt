@@ -54,7 +54,7 @@ pub fn find<L: Ledger>(
     let mut darts = [Slot { at: 0 }; MOST_NODES];
     hook_darts(arena, hooks, &mut darts, steps)?;
     if hooks.is_empty() {
-        return Ok(Instances::new(Vec::new(alloc), Vec::new(alloc), 1, 0));
+        return Ok(Instances::with_nodes(Vec::new(alloc), Vec::new(alloc), 1, 0, 0));
     }
     prove!((darts[0].at as usize) < arena.bound());
     let darts = &darts[..hooks.len()];

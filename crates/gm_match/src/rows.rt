@@ -1,4 +1,4 @@
-ghost use Rattle.std.specs.Prelude.{◌≡◌, ℕ, ◌+◌, ◌<◌, ◌≤◌, length, slice_get, slice_index, Some};
+ghost use Rattle.std.specs.Prelude.{◌≡◌, ℕ, ◌+◌, ◌/◌, ◌%◌, ◌<◌, ◌≤◌, length, slice_get, slice_index, Some};
 ghost use Rattle.std.specs.List.{Contains};
 ghost use Rattle.gm_arena.specs.ArenaMap.{IsLiveSlot, name_at};
 ghost use Rattle.gm_model.specs.Rules.{rule_of, first_hook};
@@ -89,13 +89,26 @@ fn step_hook<L: Ledger>(
 {
     let nodes = plan.left_nodes() as usize;
     let word = plan.rule().word(Side::Left, hook).unwrap();
-    let places = word.len() as usize;
-    let Letter::At(label) = word.letter((turn % places) as u8) else {
+    let (position, place) = parts_of(turn, word.len());
+    let Letter::At(label) = word.letter(place) else {
         unreachable!()
     };
-    let position = turn / places;
     let from = slots[position * nodes + hook as usize];
     arena.alpha(from, label, steps)
+}
+
+/// The position and the place of the turn with this index, where each position has so many turns.
+fn parts_of(turn: usize, places: u8) -> (usize, u8)
+    requires { 0 < places }
+    ensures position { result.0 ≡ turn / places }
+    ensures place { result.1 ≡ turn % places }
+{
+    // Hooks mostly turn at one place or two, where nothing has to be divided.
+    match places {
+        1 => (turn, 0),
+        2 => (turn / 2, (turn % 2) as u8),
+        _ => (turn / places as usize, (turn % places as usize) as u8),
+    }
 }
 
 /// Leads the nodes along their least paths from the hooks, which keep their slots.

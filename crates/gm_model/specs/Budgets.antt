@@ -1,8 +1,7 @@
 -- How many steps a run of a script takes, at least and at most.
 use Rattle.std.specs.Prelude.{◌≡◌, ℕ, zero, suc, ◌+◌, ◌*◌, if◌then◌else◌, List, [], ◌∷◌, Option, Some, None, slice_get}
-use Rattle.gm_model.specs.declared.script.Line.{Line}
-use Rattle.gm_model.specs.declared.script.Stat.{Stat}
-use Rattle.gm_model.specs.declared.script.Stat.TheVariants as statements
+use Rattle.gm_model.specs.Statements.{Line, Stat}
+use Rattle.gm_model.specs.Statements as statements
 use Rattle.gm_model.specs.declared.value.Value.{Value}
 use Rattle.gm_model.specs.declared.word.Mask.{Mask}
 use Rattle.gm_model.specs.Applications.{Cause, IsBudget}

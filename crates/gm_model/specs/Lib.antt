@@ -22,6 +22,8 @@ pub mod Expressions
 pub mod Acceptance
 pub mod NewValues
 pub mod Applications
+pub mod Statements
+pub mod Entries
 pub mod Runs
 pub mod Budgets
 pub mod Reports

@@ -3,8 +3,8 @@ use Rattle.std.specs.Prelude.{ℕ, ◌+◌, List, [], ◌∷◌, ◌++◌, map, 
 use Rattle.std.specs.Option.{option_map, unwrap_or}
 use Rattle.gm_model.specs.declared.schema.Embed.{Embed}
 use Rattle.gm_model.specs.declared.schema.Schema.{Schema}
-use Rattle.gm_model.specs.declared.script.Stat.{Stat}
-use Rattle.gm_model.specs.declared.script.Stat.TheVariants as statements
+use Rattle.gm_model.specs.Statements.{Stat}
+use Rattle.gm_model.specs.Statements as statements
 use Rattle.gm_model.specs.Applications.{Cause, NoDart, Arc, Same, PreNoValue, PreFalse, FullDarts, FullNames, NoValue}
 use Rattle.gm_model.specs.Rules.{name_at, Rule, RuleNode}
 use Rattle.gm_model.specs.Runs.{Outcome, Done, Refused, Skipped, Undone, Redone, NothingToUndo, NothingToRedo, Begun, Kept, Dropped, Each}

@@ -6,7 +6,6 @@
 
 mod dim;
 mod expr;
-mod hooks;
 mod items;
 mod limit;
 mod memory;
@@ -23,14 +22,13 @@ mod word;
 
 pub use dim::Dim;
 pub use expr::{BinOp, DartTerm, Expr, Path, UnOp};
-pub use hooks::Hooks;
 pub use items::Items;
 pub use limit::{LimitKind, MOST_DARTS, MOST_EMBEDS, MOST_NAMES};
 pub use memory::OutOfMemory;
 pub use name::Name;
 pub use rule::{Book, Link, Node, Param, RuleFault, RuleTable, Set, Side};
 pub use schema::{Embed, Schema};
-pub use script::{Line, Script, Stat};
+pub use script::{LineRef, Script, StatRef};
 pub use sides::{MOST_LABELS, MOST_NODES};
 pub use step::Step;
 pub use token::{Token, TokenKind};

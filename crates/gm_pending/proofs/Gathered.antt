@@ -1,5 +1,5 @@
 -- The new values of old darts, gathered embedding by embedding and dart by dart.
-use Rattle.std.proofs.Common.{◌≡◌, ℕ, ◌+◌, ◌<◌, ◌≤◌, List, [], ◌∷◌, ◌++◌, length, take, drop, get_or, Some, slice_get, refl, sym, ap, ◌∙◌, subst, inl, inr, arith}
+use Rattle.std.proofs.Common.{◌≡◌, ℕ, ◌+◌, ◌<◌, ◌≤◌, ◌⊎◌, List, [], ◌∷◌, ◌++◌, length, take, drop, get_or, Some, slice_get, refl, sym, ap, ◌∙◌, subst, inl, inr, arith}
 use Rattle.std.specs.List.{Contains, sum}
 use Rattle.std.proofs.lemmas.Bool.{cases_eq}
 use Rattle.std.proofs.lemmas.List.{length_push, take_all, take-append-drop}
@@ -8,6 +8,7 @@ use Rattle.std.proofs.lemmas.Option.{same_Some, slice_get-get_or, slice_get_case
 use Rattle.gm_model.specs.declared.schema.Embed.{Embed}
 use Rattle.gm_model.specs.declared.value.Value.{Value}
 use Rattle.gm_model.specs.Maps.{IsDart, IsEmbedAt}
+use Rattle.gm_model.specs.Orbits.{HasCount}
 use Rattle.gm_arena.specs.declared.slot.Slot.{Slot}
 use Rattle.gm_arena.specs.ArenaAsMap.{as_map}
 use Rattle.gm_arena.specs.ArenaMap.{name_at}
@@ -20,7 +21,6 @@ use Rattle.gm_pending.specs.declared.at.At.TheVariants.{Old, New}
 use Rattle.gm_pending.specs.declared.changes.ValueAt.{ValueAt}
 use Rattle.gm_pending.specs.declared.marks.Mark.{Mark}
 use Rattle.gm_pending.specs.EditLists.{AreNewValues, IsNewValue, IsReachedSumIn, IsValueOfDart}
-use Rattle.gm_pending.specs.Gathered.{AreAllReached, AreGathered, AreGatheredBelow, AreGatheredFrom, HasReached}
 use Rattle.gm_pending.specs.Reached.{AreReached}
 use Rattle.gm_pending.specs.Results.{PendingOf, IsPrepared, IsReachedIn, IsResultDart, IsUnfoldedIn, IsValueIn, name_of, rule_in, place_in}
 use Rattle.gm_pending.specs.declared.deciding_instance.DecidingInstance.{DecidingInstance}
@@ -31,6 +31,40 @@ use Rattle.gm_pending.proofs.Whole.{contains_none}
 
 abbrev pub value_at : Slot → ℕ → Value → ValueAt
 value_at slot e v = record { slot = slot; embed = e; value = v }
+
+-- ---- what is gathered
+
+module _ (app : PendingOf) where
+  -- so many darts of the result are reached for the embedding
+  abbrev pub HasReached : ℕ → ℕ → Type 0
+  HasReached e count = (result : Unfolded) × (embed : Embed) × IsUnfoldedIn app result × IsEmbedAt app.map.schema e embed × HasCount (IsReachedIn app result e embed) count
+
+  -- the entries are the darts of the result that are reached for the embedding, no more of them than there are
+  pub record AreAllReached (e : ℕ) (reached : List Mark) : Type 0 where
+    pub dart : (entry : Mark) → Contains reached entry → IsResultDart app entry.at
+    pub in_orbit : (embed : Embed) → IsEmbedAt app.map.schema e embed → (result : Unfolded) → IsUnfoldedIn app result → (entry : Mark) → Contains reached entry → IsReachedIn app result e embed (name_of app entry.at)
+    pub all : (embed : Embed) → IsEmbedAt app.map.schema e embed → (result : Unfolded) → IsUnfoldedIn app result → (d : ℕ) → IsReachedIn app result e embed d → (entry : Mark) × Contains reached entry × (name_of app entry.at ≡ d)
+    pub few : (count : ℕ) → HasReached e count → length reached ≤ count
+
+  -- the values of the darts that are reached for the embedding came to those that were there
+  pub record AreGathered (e : ℕ) (old new : List ValueAt) : Type 0 where
+    pub kept : (at : ValueAt) → Contains old at → Contains new at
+    pub only : (at : ValueAt) → Contains new at → Contains old at ⊎ IsNewValue app at
+    pub all : (result : Unfolded) → IsUnfoldedIn app result → (d : ℕ) (embed : Embed) → IsEmbedAt app.map.schema e embed → IsDart (as_map app.map) d → IsReachedIn app result e embed d → (at : ValueAt) × Contains new at × IsValueOfDart app at e d
+    pub few : (count : ℕ) → HasReached e count → length new ≤ length old + count
+
+  -- the values of the first of the reached darts came to those that were there, where they are old
+  pub record AreGatheredFrom (e : ℕ) (reached : List Mark) (count : ℕ) (old new : List ValueAt) : Type 0 where
+    pub kept : (at : ValueAt) → Contains old at → Contains new at
+    pub only : (at : ValueAt) → Contains new at → Contains old at ⊎ IsNewValue app at
+    pub all : (k : ℕ) (entry : Mark) (slot : Slot) → k < count → slice_get reached k ≡ Some entry → entry.at ≡ Old slot → (at : ValueAt) × Contains new at × (at.embed ≡ e) × (at.slot ≡ slot)
+    pub few : length new ≤ length old + count
+
+  -- the list has the new values of the first embeddings
+  pub record AreGatheredBelow (count : ℕ) (values : List ValueAt) : Type 0 where
+    pub new : (at : ValueAt) → Contains values at → IsNewValue app at
+    pub all : (result : Unfolded) → IsUnfoldedIn app result → (e d : ℕ) (embed : Embed) → e < count → IsEmbedAt app.map.schema e embed → IsDart (as_map app.map) d → IsReachedIn app result e embed d → (at : ValueAt) × Contains values at × IsValueOfDart app at e d
+    pub few : (reached : ℕ) (s : IsReachedSumIn app reached) → length values ≤ sum (take count s.counts)
 
 -- ---- what was answered
 

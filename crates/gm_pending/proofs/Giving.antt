@@ -1,7 +1,8 @@
 -- A value that is given to a deciding instance leaves all else.
-use Rattle.std.proofs.Common.{◌≡◌, ℕ, zero, suc, ◌<◌, ◌⊎◌, List, [], ◌∷◌, length, set, Contains, Option, Some, slice_get, refl, sym, ◌∙◌, ap, subst, inl, inr, arith}
-use Rattle.std.proofs.lemmas.List.{length-map}
-use Rattle.std.proofs.lemmas.Option.{slice_get_within}
+use Rattle.std.proofs.Common.{◌≡◌, ℕ, zero, suc, ◌<◌, ◌⊎◌, List, [], ◌∷◌, ◌++◌, length, set, get_or, take, append-nil, drop_of_length-le, Contains, Option, Some, slice_get, refl, sym, ◌∙◌, ap, subst, inl, inr, arith}
+use Rattle.std.proofs.lemmas.List.{length-map, length-set, take_all}
+use Rattle.std.specs.List.{refill}
+use Rattle.std.proofs.lemmas.Option.{slice_get-get_or, slice_get_within}
 use Rattle.std.specs.Prelude.{unwrap_or}
 use Rattle.gm_model.specs.declared.schema.Embed.{Embed}
 use Rattle.gm_model.specs.declared.rule.RuleTable.{RuleTable}
@@ -30,6 +31,14 @@ pub given_set : (instances : List DecidingInstance) (k : ℕ) (instance : Decidi
 given_set [] k instance v e = none_some instance e
 given_set (d ∷ instances) zero instance v e = ap (λ c. with_value c v ∷ instances) (sym (some_same d instance e))
 given_set (d ∷ instances) (suc k) instance v e = ap (λ rest. d ∷ rest) (given_set instances k instance v e)
+
+-- all elements of a list, written over it
+pub refilled : {A : Type 0} (xs ws : List A) → length ws ≡ length xs → refill (length xs) xs ws ≡ ws
+refilled xs ws long = ap (λ rest. take (length xs) (ws ++ rest)) (drop_of_length-le xs (omega arith)) ∙ ap (take (length xs)) (append-nil ws) ∙ take_all (length xs) ws (omega arith)
+
+-- the instances of which one got its value, as a slice that was lent
+pub written_back : (instances lent : List DecidingInstance) (k : ℕ) (v : Value) (d : DecidingInstance) → lent ≡ instances → k < length instances → refill (length instances) instances (set lent k (with_value (get_or lent k d) v)) ≡ given_at instances k v
+written_back instances lent k v d e h = rw e (refilled instances (set instances k (with_value (get_or instances k d) v)) (length-set instances k (with_value (get_or instances k d) v)) ∙ given_set instances k (get_or instances k d) v (slice_get-get_or instances k d h))
 
 -- two deciders at one instance
 abbrev pub LieTogether : DecidingInstance → DecidingInstance → Type 0

@@ -19,7 +19,6 @@ pub mod NewValues
 pub mod WithoutDarts
 pub mod Extended
 pub mod Numbers
-pub mod RemovedBits
 pub mod OneOrbit
 pub mod AddedDarts
 pub mod AddedValues
@@ -39,6 +38,5 @@ pub mod ManyArcs
 pub mod Collected
 pub mod Told
 pub mod KeptArcs
-pub mod MadeLabels
 pub mod Taken
 pub mod ToldValues

@@ -1,15 +1,16 @@
 -- One more reached dart.
-use Rattle.std.proofs.Common.{◌≡◌, ◌≢◌, ℕ, zero, suc, ◌*◌, ◌%◌, ◌^◌, ◌<◌, ◌⊎◌, bit_or, w64, false, List, [], ◌∷◌, ◌++◌, length, take, get_or, Option, Some, None, is_some, slice_get, MatchOption, Contains, refl, sym, ◌∙◌, ap, subst, inl, inr, arith}
-use Rattle.std.specs.Prelude.{Result, Ok, Err, OnOk, OnErr, IfSome, nat_eq}
+use Rattle.std.proofs.Common.{◌≡◌, ◌≢◌, ℕ, zero, suc, ◌*◌, ◌%◌, ◌^◌, ◌<◌, ◌⊎◌, bit_or, w64, Bool, true, false, List, [], ◌∷◌, ◌++◌, length, take, get_or, Option, Some, None, is_some, slice_get, MatchOption, Contains, refl, sym, ◌∙◌, ap, subst, inl, inr, arith}
+use Rattle.std.specs.Prelude.{Result, Ok, Err, OnOk, OnErr, nat_eq}
 use Rattle.std.specs.HashMap.{HashMap, Updates, get}
 use Rattle.std.specs.Int.{bit_at}
 use Rattle.std.specs.Option.{option_map}
-use Rattle.std.proofs.lemmas.Bool.{cases_eq}
+use Rattle.std.proofs.lemmas.Bool.{cases_eq, false≢true}
 use Rattle.std.proofs.lemmas.Nat.Bits.{bit_at_set_same, bit_at_set_other}
 use Rattle.std.proofs.lemmas.Option.{slice_get_within, slice_get-get_or}
 use Rattle.gm_theory.proofs.Lists.{some_same, none_some, contained_at, get_contained}
 use Rattle.gm_pending.specs.declared.marks.Mark.{Mark}
-use Rattle.gm_pending.specs.Marks.{ByKey, key_of, bit_of, HasKey, AreKeyed, AreMarked, AreSeen, IsIndex, IsMarkedBy, HasDistinctKeys}
+use Rattle.gm_pending.specs.declared.at.At.{At}
+use Rattle.gm_pending.specs.Marks.{ByKey, key_of, bit_of, reached_by, HasKey, AreKeyed, AreMarked, AreSeen, IsIndex, IsMarkedBy, IsMarkedMore, IsPut, HasDistinctKeys}
 use Rattle.gm_pending.proofs.Whole.{contains_none}
 
 -- ---- a list with one more element
@@ -106,6 +107,20 @@ module _ (reached : List Mark) (old new : ByKey) (kept : IsIndex reached old) (e
           go (inl f) = (entry, last_among reached entry, sym f, some_same entry.instance j (sym here ∙ subst (λ q. get nat_eq new q ≡ Some j) f e))
           go (inr f) = let m : IsMarkedBy reached key j = kept.only key j (sym (other key f) ∙ e) in (m.0, kept_among reached entry m.0 m.1, m.2, m.3)
 
+-- an index that got another value under a key, and then the one back that it had
+module _ (reached : List Mark) (old mid new : ByKey) (kept : IsIndex reached old) (key k j : ℕ) (was : get nat_eq old key ≡ Some j) (put : Updates nat_eq old mid key (Some k)) (back : Updates nat_eq mid new key (Some j)) where
+  same : (q : ℕ) → get nat_eq new q ≡ get nat_eq old q
+  same q = elim (cases_eq q key) [
+    | inl e ↦ subst (λ p. get nat_eq new p ≡ get nat_eq old p) (sym e) (back.1 ∙ sym was)
+    | inr apart ↦ other_key mid new key j back q apart ∙ other_key old mid key k put q apart
+  ]
+
+  pub indexed_again : IsIndex reached new
+  indexed_again = record {
+    marked = λ entry c. same (key_of entry.at) ∙ kept.marked entry c;
+    only = λ q i e. kept.only q i (sym (same q) ∙ e);
+  }
+
 module _ (reached : List Mark) (kept : HasDistinctKeys reached) (entry : Mark) (absent : HasKey reached (key_of entry.at) → ⊥) where
   pub distinct_more : HasDistinctKeys (reached ++ entry ∷ [])
   distinct_more i j a b h e f = distinct (kept_or_last reached entry i a e) (kept_or_last reached entry j b f)
@@ -153,14 +168,10 @@ indexed_at reached by_key index key None e = none
     none : HasKey reached key → ⊥
     none (entry, c, same) = none_some entry.instance (e ∙ ap (get nat_eq by_key) (sym same) ∙ index.marked entry c)
 
--- what an optional value shows is what it is
-pub shown_within : {A B : Type 0} (o : Option A) (f : A → B) (P : B → Type 0) → IfSome (option_map f o) P → IfSome o (λ x. P (f x))
-shown_within None f P h = tt
-shown_within (Some x) f P h = h
-
-pub within_shown : {A B : Type 0} (before : Option A) (f : A → B) (P : B → Type 0) (o : Option A) → IfSome o (λ x. P (f x)) → IfSome (option_map f o) P
-within_shown before f P None h = tt
-within_shown before f P (Some x) h = h
+-- a dart that is new in an index
+pub put_new : (reached : List Mark) (entry : Mark) (new : Bool) (by_key : ByKey) → IsPut reached entry new by_key → new ≡ true → (HasKey reached (key_of entry.at) → ⊥) × IsIndex (reached ++ entry ∷ []) by_key
+put_new reached entry new by_key (inl (is, absent, index)) yes_new = (absent, index)
+put_new reached entry new by_key (inr (is, there, index)) yes_new = absurd (false≢true (sym is ∙ yes_new))
 
 -- one more dart, where there is no index
 pub marked_few : {E B : Type 0} (view : B → ByKey) (before after : List Mark) (by_key : Option B) (bits : ℕ) (entry : Mark) (pushed : Result Unit E) → is_some by_key ≡ false → AreMarked before (option_map view by_key) bits → entry.key ≡ key_of entry.at → (HasKey before (key_of entry.at) → ⊥) → OnOk pushed (after ≡ before ++ entry ∷ []) → OnErr pushed (after ≡ before) → AreMarked after (option_map view by_key) (with_bit bits entry.key)
@@ -172,3 +183,12 @@ marked_few view before after None bits entry (Ok x) none kept key absent ok err 
   seen = seen_more bits entry.key before entry key kept.seen;
 })
 marked_few view before after None bits entry (Err x) none kept key absent ok err = rw err (record { keyed = kept.keyed; distinct = kept.distinct; indexed = tt; seen = seen_kept bits entry.key before kept.seen })
+
+-- a key that was there is there still, and that of the dart is there
+pub key_kept : (before after : List Mark) (at : At) (k : ℕ) (over : Option ℕ) (key : ℕ) → IsMarkedMore before after at k over → HasKey before key → HasKey after key
+key_kept before after at k over key (inl (there, same)) had = rw same had
+key_kept before after at k over key (inr (absent, more)) (entry, among, is) = rw more (entry, kept_among before (reached_by at k over) entry among, is)
+
+pub key_marked : (before after : List Mark) (at : At) (k : ℕ) (over : Option ℕ) → IsMarkedMore before after at k over → HasKey after (key_of at)
+key_marked before after at k over (inl (there, same)) = rw same there
+key_marked before after at k over (inr (absent, more)) = rw more (reached_by at k over, last_among before (reached_by at k over), refl)

@@ -23,14 +23,13 @@ use Rattle.gm_pending.specs.declared.deciding_instance.DecidingInstance.{Decidin
 use Rattle.gm_pending.specs.declared.marks.Mark.{Mark}
 use Rattle.gm_pending.specs.Answered.{AreDecidedOrbits, pending_as}
 use Rattle.gm_pending.specs.EditLists.{AllGiven, AreNewValues}
-use Rattle.gm_pending.specs.Gathered.{AreAllReached, AreGathered, AreGatheredBelow, AreGatheredFrom}
 use Rattle.gm_pending.specs.Reached.{AreReached}
 use Rattle.gm_pending.specs.Results.{PendingOf, AreAllGiven, IsPrepared, IsValueIn, instances_of, name_of}
 use Rattle.gm_pending.specs.Sources.{given_of}
 use Rattle.gm_pending.specs.ToldEdits.{told_at, told_from, told_in, told_of, values_told}
 use Rattle.gm_pending.specs.Written.{with_values}
 use Rattle.gm_pending.proofs.Answered.{answered_at, answered_reached, unanswered_at}
-use Rattle.gm_pending.proofs.Gathered.{all_below, all_gathered, all_reached, more_below, new_passed, none_below, none_gathered, old_gathered, value_at}
+use Rattle.gm_pending.proofs.Gathered.{AreAllReached, AreGathered, AreGatheredBelow, AreGatheredFrom, all_below, all_gathered, all_reached, more_below, new_passed, none_below, none_gathered, old_gathered, value_at}
 use Rattle.gm_pending.proofs.GivenValues.{entry_given, entry_value}
 use Rattle.gm_pending.proofs.Whole.{contains_first}
 

@@ -1,6 +1,5 @@
 -- The edits of an application, node by node, label by label and position by position: they are told by what its rule changes and its instances alone. No public clause cites this module.
-use Rattle.std.specs.Prelude.{◌≡◌, ℕ, zero, suc, ◌+◌, ◌-◌, ◌*◌, ◌<◌, ◌≤◌, ◌==◌, if◌then◌else◌, nat_lt, Bool, false, IsTrue, slice_get, List, [], ◌∷◌, ◌++◌, drop, length, Option, Some, None, slice_index_or}
-use Rattle.std.specs.Int.{bit_at}
+use Rattle.std.specs.Prelude.{◌≡◌, ℕ, zero, suc, ◌+◌, ◌-◌, ◌*◌, ◌<◌, ◌≤◌, if◌then◌else◌, nat_lt, Bool, false, IsTrue, slice_get, List, [], ◌∷◌, ◌++◌, drop, length, Option, Some, None, slice_index_or}
 use Rattle.std.specs.Option.{option_map}
 use Rattle.gm_model.specs.declared.step.Step.{Step}
 use Rattle.gm_model.specs.declared.step.Step.TheVariants.{Absent, Exp, Imp}
@@ -54,10 +53,6 @@ rewrite_of app = record {
   placed = app.placed;
 }
 
--- whether bit x of the number is set
-abbrev pub has_bit : ℕ → ℕ → Bool
-has_bit bits x = bit_at bits x == 1
-
 -- the same in rows, with a row of steps for each node
 pub record RewriteRows : Type 0 where
   pub dim : ℕ
@@ -76,7 +71,7 @@ abbrev pub told_by : RewriteRows → RewriteOf
 told_by rows = record {
   dim = rows.dim;
   nodes = length rows.made;
-  goes = has_bit rows.goes;
+  goes = changes.has_bit rows.goes;
   freed_step = row_step rows.freed;
   made_step = row_step rows.made;
   placed = rows.placed;
@@ -99,10 +94,10 @@ pub record IsFitted (rows : RewriteRows) : Type 0 where
   pub freed_rows : (x : ℕ) (row : List Step) → slice_get rows.freed x ≡ Some row → length row ≡ 8
   pub made_rows : (x : ℕ) (row : List Step) → slice_get rows.made x ≡ Some row → length row ≡ 8
   -- the nodes that are removed have slots, and steps turn at places
-  pub left : (x : ℕ) → x < length rows.made → IsTrue (has_bit rows.goes x) → x < rows.placed.nodes
+  pub left : (x : ℕ) → x < length rows.made → IsTrue (changes.has_bit rows.goes x) → x < rows.placed.nodes
   pub places : (x i m : ℕ) → x < length rows.made → i ≤ rows.dim → row_step rows.made x i ≡ Imp m → m < rows.placed.places
   -- where no node is removed, nothing is freed
-  pub none_goes : rows.removes ≡ false → (x : ℕ) → x < length rows.made → has_bit rows.goes x ≡ false
+  pub none_goes : rows.removes ≡ false → (x : ℕ) → x < length rows.made → changes.has_bit rows.goes x ≡ false
   pub none_freed : rows.removes ≡ false → (x i : ℕ) → x < length rows.made → i ≤ rows.dim → row_step rows.freed x i ≡ Absent
 
 -- ---- the edits

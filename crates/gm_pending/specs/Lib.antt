@@ -4,7 +4,6 @@ pub mod Collected
 pub mod EditLists
 pub mod Gathered
 pub mod Lookup
-pub mod MadeLabels
 pub mod Marks
 pub mod Pairs
 pub mod Reached

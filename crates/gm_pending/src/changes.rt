@@ -1,6 +1,5 @@
 ghost use Rattle.std.specs.Prelude.{◌≡◌, ℕ, ◌+◌, ◌*◌, ◌<◌, ◌≤◌, length, IfOk};
-ghost use Rattle.gm_model.specs.Rules.{rule_of, is_removed};
-ghost use Rattle.gm_pending.specs.Collected.{AreAlike, has_bit, told_by, rewrite_of};
+ghost use Rattle.gm_pending.specs.Collected.{AreAlike, told_by, rewrite_of};
 ghost use Rattle.gm_pending.specs.EditLists.{AllGiven, AreEditsOf, IsReachedSumIn};
 ghost use Rattle.gm_pending.specs.Results.{rule_in};
 
@@ -8,8 +7,7 @@ use crate::decided_orbits::OrbitsByEmbed;
 use crate::pending::Pending;
 use crate::rewrite::Rewrite;
 use gm_arena::{Slot, Steps};
-use gm_model::{OutOfMemory, RuleTable, Side, Value};
-use gm_plan::Plan;
+use gm_model::{OutOfMemory, Value};
 use std::marker::Model;
 use std::sync::ledger::Ledger;
 
@@ -94,33 +92,10 @@ impl<'a> Pending<'a, '_> {
         Rewrite {
             dim: self.plan.schema().dim.top(),
             removes: self.plan.removed() > 0,
-            goes: nodes_that_go(self.plan),
+            goes: self.plan.nodes_that_go(),
             freed: self.plan.freed_rows(),
             made: self.plan.made_rows(),
             found: self.found,
         }
     }
-}
-
-/// Which nodes of the plan's rule are removed: bit `x` stands for node `x`.
-fn nodes_that_go(plan: &Plan<'_>) -> u32
-    ensures { (x : ℕ) → x < length (rule_of plan.now.table).nodes → has_bit result x ≡ is_removed (rule_of plan.now.table) x }
-{
-    let rule = plan.rule();
-    let mut goes = 0;
-    if plan.removed() == 0 {
-        return goes;
-    }
-    for node in 0..rule.node_count() {
-        if is_removed(rule, node) {
-            goes |= 1 << node;
-        }
-    }
-    goes
-}
-
-fn is_removed(rule: &RuleTable, node: u8) -> bool
-    ensures { result ≡ is_removed (rule_of rule.now) node }
-{
-    rule.word(Side::Left, node).is_some() && rule.word(Side::Right, node).is_none()
 }

@@ -15,6 +15,7 @@ ghost use Rattle.gm_pending.specs.declared.rewrite.Arcs.TheVariants.{Freed, Made
 ghost use Rattle.gm_pending.specs.Collected.{told_by, written_step, arc_between, arcs_to, arcs_at, arcs_in, all_arcs, removed_in, all_removed, left_slots, made_in, AreSlots};
 ghost use Rattle.gm_pending.specs.EditLists.{AreEditsHere, AreEditsOf, HasSameRows, IsReachedSumIn, IsResultOf, IsUntouched, cost_of};
 ghost use Rattle.gm_pending.specs.Results.{PendingOf, rule_in};
+ghost use Rattle.gm_pending.specs.Sources.{given_of};
 ghost use Rattle.gm_pending.specs.ToldEdits.{told_of, values_told};
 ghost use Rattle.gm_pending.specs.Written.{IsWritable, IsSettable, CanRemove, IsExtended, end_at, with_arcs, with_values, without_darts};
 
@@ -277,11 +278,27 @@ fn set_values_of<L: Ledger>(
     ensures map { arena.new ≡ with_values arena.old (told_of embed instances.now marks.now) }
     ensures cost { steps.new ≡ steps.old + length (told_of embed instances.now marks.now) }
 {
+    let (mut last, mut value) = (0, given(instances, 0));
     for mark in marks {
+        look_at(instances, mark.instance, &mut last, &mut value);
         if let At::Old(slot) = mark.at {
-            if let Some(value) = given(instances, mark.instance) {
+            if let Some(value) = value {
                 arena.set_value(slot, embed, value, steps);
             }
         }
+    }
+}
+
+/// Looks up the value that was given to an instance, unless it is the one that was looked up last:
+/// the marks of an instance mostly stand one behind another.
+#[inline(always)]
+fn look_at(instances: &[DecidingInstance], index: u32, last: &mut u32, value: &mut Option<Value>)
+    requires { value.old ≡ given_of instances.now last.old }
+    ensures last { last.new ≡ index }
+    ensures value { value.new ≡ given_of instances.now index }
+{
+    if *last != index {
+        *last = index;
+        *value = given(instances, index);
     }
 }

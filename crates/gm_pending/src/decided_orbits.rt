@@ -4,13 +4,18 @@ ghost use Rattle.std.specs.Prelude.{◌≡◌, ◌<◌, length, replicate, slice
 use crate::deciding_instance::DecidingInstance;
 use crate::marks::Marks;
 use gm_model::OutOfMemory;
+use smallvec::SmallVec;
 use std::alloc::Global;
+
+/// The instances that decide. Most applications have one or two for each embedding, and those need no
+/// memory of their own.
+pub(crate) type DecidingInstances = SmallVec<DecidingInstance, 2>;
 
 /// The orbits of one embedding that instances decide: these instances, and marks of the darts in
 /// the orbits.
 #[derive(Drop)]
 pub(crate) struct DecidedOrbits {
-    pub(crate) instances: Vec<DecidingInstance>,
+    pub(crate) instances: DecidingInstances,
     pub(crate) marks: Marks,
 }
 

@@ -10,14 +10,13 @@ ghost use Rattle.gm_model.specs.Rules.{has_word};
 ghost use Rattle.gm_theory.specs.Theorem.{Unfolded};
 ghost use Rattle.gm_pending.specs.declared.deciding_instance.DecidingInstance.{DecidingInstance};
 ghost use Rattle.gm_pending.specs.declared.marks.Mark.{Mark};
-ghost use Rattle.gm_pending.specs.MadeLabels.{AreMadeLabels};
 ghost use Rattle.gm_pending.specs.Marks.{key_of, HasKey};
 ghost use Rattle.gm_pending.specs.Pairs.{IsPair};
 ghost use Rattle.gm_pending.specs.Reached.{AreReached, AreResultDarts, AreSomeReached, IsClosed, IsGrown, IsSpreadTo, IsFollowedTo, IsFollowed, IsFollowedAlong, IsGrownAlong, IsDecidedUpTo, IsAlwaysOneOrbit, IsUnmarked, AreMarkedTo, ungiven};
 ghost use Rattle.gm_pending.specs.Results.{IsPrepared, AreDecidingInstances, IsAsked, IsResultDart, IsUnfoldedIn, IsWithinReach, instances_of, with_instances, name_of, rule_in};
 
 use crate::at::At;
-use crate::decided_orbits::{DecidedOrbits, put_orbits};
+use crate::decided_orbits::{DecidedOrbits, DecidingInstances, put_orbits};
 use crate::deciding_instance::DecidingInstance;
 use crate::lookup::Lookup;
 use crate::marks::{Mark, Marks};
@@ -66,7 +65,7 @@ impl Pending<'_, '_> {
         if self.lookup.is_none()
             && instances > FEW
             && self.walks(embed)
-            && self.made_labels(mask).bits != 0
+            && self.made_labels().bits & mask.bits != 0
         {
             self.lookup = Some(Lookup::build(self.alloc, self.found, nodes)?);
         }
@@ -90,8 +89,8 @@ impl Pending<'_, '_> {
     {
         let declared = &self.arena.schema().embeds.as_slice()[embed as usize];
         let mut orbits = DecidedOrbits {
-            instances: Vec::new(self.alloc),
-            marks: Marks::new(self.alloc),
+            instances: DecidingInstances::new(self.alloc),
+            marks: Marks::new(self.alloc, self.positions() as usize),
         };
         let outcome = self.decide_nodes(embed, declared, &mut orbits, steps);
         // The marks tell here that no dart comes twice.
@@ -116,11 +115,10 @@ impl Pending<'_, '_> {
         ensures least { steps.old ≤ steps.new }
         ensures prepared { IsPrepared self.now }
     {
-        let made = self.made_labels(declared.mask);
         let nodes = self.nodes();
         for node in 0..nodes {
             if self.assigns(embed, node) {
-                self.decide_node(embed, declared, made, node, orbits, steps)?;
+                self.decide_node(embed, declared, node, orbits, steps)?;
             }
         }
         Ok(())
@@ -131,13 +129,11 @@ impl Pending<'_, '_> {
         &self,
         embed: u8,
         declared: &Embed,
-        made: Mask,
         node: u8,
         orbits: &mut DecidedOrbits,
         steps: &mut Steps<L>,
     ) -> Result<(), OutOfMemory>
         requires embed { IsEmbedAt self.now.map.schema embed declared.now }
-        requires made { AreMadeLabels self.now declared.now.mask made }
         requires assigned { IsAssigned (rule_in self.now) embed node }
         requires earlier { IsDecidedUpTo self.now embed declared.now orbits.old.instances.items orbits.old.marks node 0 }
         ensures decided { OnOk result (IsDecidedUpTo self.now embed declared.now orbits.new.instances.items orbits.new.marks (node + 1) 0) }
@@ -153,7 +149,7 @@ impl Pending<'_, '_> {
             return self.decide_orbit(embed, declared, node, orbits);
         }
         for position in 0..self.positions() {
-            self.decide_instance(embed, declared, made, node, position, orbits, steps)?;
+            self.decide_instance(embed, declared, node, position, orbits, steps)?;
         }
         Ok(())
     }
@@ -206,14 +202,12 @@ impl Pending<'_, '_> {
         &self,
         embed: u8,
         declared: &Embed,
-        made: Mask,
         node: u8,
         position: u32,
         orbits: &mut DecidedOrbits,
         steps: &mut Steps<L>,
     ) -> Result<(), OutOfMemory>
         requires embed { IsEmbedAt self.now.map.schema embed declared.now }
-        requires made { AreMadeLabels self.now declared.now.mask made }
         requires assigned { IsAssigned (rule_in self.now) embed node }
         requires position { position < self.now.placed.positions }
         requires earlier { IsDecidedUpTo self.now embed declared.now orbits.old.instances.items orbits.old.marks node position }
@@ -230,7 +224,7 @@ impl Pending<'_, '_> {
             return Ok(());
         }
         let index = add_instance(&mut orbits.instances, node, position)?;
-        self.reach(at, index, made, embed, declared, &mut orbits.marks, steps)
+        self.reach(at, index, embed, declared, &mut orbits.marks, steps)
     }
 
     /// Walks the orbit of an instance, and marks its darts.
@@ -238,14 +232,12 @@ impl Pending<'_, '_> {
         &self,
         at: At,
         index: u32,
-        made: Mask,
         embed: u8,
         declared: &Embed,
         marks: &mut Marks,
         steps: &mut Steps<L>,
     ) -> Result<(), OutOfMemory>
         requires embed { IsEmbedAt self.now.map.schema embed declared.now }
-        requires made { AreMadeLabels self.now declared.now.mask made }
         requires dart { IsResultDart self.now at }
         requires darts { AreResultDarts self.now marks.old }
         requires absent { HasKey marks.old (key_of at) → ⊥ }
@@ -261,12 +253,12 @@ impl Pending<'_, '_> {
         marks.mark(at, index, None)?;
         // An orbit over two labels is a path or a ring, of which the dart is one place.
         if let Some((one, other)) = pair_of(declared.mask) {
-            self.follow(at, index, one, other, made, embed, declared, marks, steps)?;
-            return self.follow(at, index, other, one, made, embed, declared, marks, steps);
+            self.follow(at, index, one, other, embed, declared, marks, steps)?;
+            return self.follow(at, index, other, one, embed, declared, marks, steps);
         }
         while next < marks.len() {
             let from = marks.as_slice()[next];
-            self.spread(from, made, embed, declared, marks, steps)?;
+            self.spread(from, embed, declared, marks, steps)?;
             next += 1;
         }
         Ok(())
@@ -282,7 +274,6 @@ impl Pending<'_, '_> {
         index: u32,
         first: u8,
         second: u8,
-        made: Mask,
         embed: u8,
         declared: &Embed,
         marks: &mut Marks,
@@ -292,8 +283,9 @@ impl Pending<'_, '_> {
         requires pair { IsPair declared.now.mask first second }
         requires from { IsResultDart self.now from }
         requires darts { AreResultDarts self.now marks.old }
-        requires made { AreMadeLabels self.now declared.now.mask made }
+        requires here { HasKey marks.old (key_of from) }
         ensures darts { AreResultDarts self.now marks.new }
+        ensures here { OnOk result (HasKey marks.new (key_of from)) }
         ensures followed { OnOk result (IsFollowedAlong self.now declared.now index (name_of self.now from) first marks.old marks.new) }
         ensures grown { IsGrownAlong self.now declared.now index (name_of self.now from) first marks.old marks.new }
         ensures cost { steps.new + length marks.old ≤ steps.old + 1 + length marks.new }
@@ -302,10 +294,11 @@ impl Pending<'_, '_> {
     {
         // The application tells here what its type keeps.
         prove!(self.labels() <= 8);
+        let made = self.made_labels();
         let (mut at, mut label, mut other) = (from, first, second);
         loop {
             let to = self.neighbour(at, label, made.has(label), steps);
-            let is_new = marks.mark(to, index, None)?;
+            let is_new = marks.mark_beside(at, to, index, None)?;
             // The marks tell here that they have an end.
             prove!(marks.len() <= usize::MAX);
             if !is_new {
@@ -321,7 +314,6 @@ impl Pending<'_, '_> {
     fn spread<L: Ledger>(
         &self,
         from: Mark,
-        made: Mask,
         embed: u8,
         declared: &Embed,
         marks: &mut Marks,
@@ -330,7 +322,6 @@ impl Pending<'_, '_> {
         requires embed { IsEmbedAt self.now.map.schema embed declared.now }
         requires darts { AreResultDarts self.now marks.old }
         requires from { Contains marks.old from }
-        requires made { AreMadeLabels self.now declared.now.mask made }
         ensures darts { AreResultDarts self.now marks.new }
         ensures followed { OnOk result (IsFollowedTo self.now declared.now from marks.old marks.new (self.now.map.schema.dim + 1)) }
         ensures grown { IsFollowed self.now declared.now from marks.old marks.new }
@@ -340,11 +331,12 @@ impl Pending<'_, '_> {
     {
         // The application tells here what its type keeps.
         prove!(self.labels() <= 8);
+        let made = self.made_labels();
         let mut asked = without(declared.mask, from.over);
         while let Some(label) = lowest(asked) {
             asked = without(asked, Some(label));
             let to = self.neighbour(from.at, label, made.has(label), steps);
-            marks.mark(to, from.instance, Some(label))?;
+            marks.mark_beside(from.at, to, from.instance, Some(label))?;
         }
         Ok(())
     }
@@ -392,7 +384,7 @@ fn without(labels: Mask, one: Option<u8>) -> Mask
 
 /// Adds a deciding instance, which has no value yet, and answers its index.
 fn add_instance(
-    instances: &mut Vec<DecidingInstance>,
+    instances: &mut DecidingInstances,
     node: u8,
     position: u32,
 ) -> Result<u32, OutOfMemory>

@@ -1,5 +1,5 @@
 //! Which instance lies at a slot.
-ghost use Rattle.std.specs.Prelude.{◌≡◌, ◌≢◌, ℕ, ◌+◌, ◌<◌, MatchOption, IfOk, OnOk};
+ghost use Rattle.std.specs.Prelude.{◌≡◌, ◌≢◌, ℕ, ◌+◌, ◌/◌, ◌%◌, ◌<◌, ◌≤◌, MatchOption, IfOk, OnOk};
 ghost use Rattle.gm_plan.specs.InArena.{slot_number};
 ghost use Rattle.gm_pending.specs.Lookup.{IsWithin, IsAtSlot, IsLookupUpTo, IsLookup};
 
@@ -31,6 +31,8 @@ impl Lookup {
     }
 
     /// The left node and the position that lie at the slot; none where no instance does.
+    // A call of its own, so that the search of a few slots stays small where darts are walked.
+    #[inline(never)]
     pub(crate) fn find(&self, found: &Instances, slot: Slot) -> Option<(u8, u32)>
         requires { IsLookup found.now self.now.instances.value }
         ensures { MatchOption result
@@ -60,6 +62,7 @@ fn add_node(
 /// The left node and the position that lie at the slot; none where no instance does.
 ///
 /// It looks through what is matched, so that an application that asks for no old dart pays nothing.
+#[inline(always)]
 pub(crate) fn instance_at(found: &Instances, nodes: u8, slot: Slot) -> Option<(u8, u32)>
     requires { nodes ≡ found.now.nodes }
     ensures { MatchOption result
@@ -71,9 +74,24 @@ pub(crate) fn instance_at(found: &Instances, nodes: u8, slot: Slot) -> Option<(u
     let slots = found.slots();
     for place in 0..slots.len() {
         if slots[place].at == slot.at {
-            let nodes = nodes as usize;
-            return Some(((place % nodes) as u8, (place / nodes) as u32));
+            let (position, node) = divided(place, nodes as usize);
+            return Some((node as u8, position as u32));
         }
     }
     None
+}
+
+/// The quotient and the rest. It subtracts, since a division takes longer where the quotient is
+/// small, and otherwise as many steps were gone before.
+#[inline(always)]
+fn divided(number: usize, by: usize) -> (usize, usize)
+    requires { 1 ≤ by }
+    ensures { (result.0 ≡ number / by) × (result.1 ≡ number % by) }
+{
+    let (mut quotient, mut rest) = (0, number);
+    while rest >= by {
+        rest -= by;
+        quotient += 1;
+    }
+    (quotient, rest)
 }

@@ -1,7 +1,7 @@
 //! The darts of a result that are reached from deciding instances.
 ghost use Rattle.std.specs.Prelude.{◌≡◌, List, ◌∷◌, ◌++◌, ◌<◌, [], length, slice_get, Some, MatchOption, ◌↔◌, IsTrue, IfOk, IfSome, OnOk, OnErr};
 ghost use Rattle.gm_pending.specs.declared.marks.Mark.{Mark};
-ghost use Rattle.gm_pending.specs.Marks.{key_of, bit_of, reached_by, HasKey, AreKeyed, IsIndex, IsMarkedBy, IsMarkedMore, HasDistinctKeys};
+ghost use Rattle.gm_pending.specs.Marks.{key_of, bit_of, reached_by, HasKey, AreKeyed, IsIndex, IsMarkedBy, IsMarkedMore, IsPut, HasDistinctKeys};
 
 use crate::at::At;
 use gm_model::OutOfMemory;
@@ -33,6 +33,8 @@ pub(crate) struct Marks {
     by_key: Option<Box<HashMap<u64, u32>>>,
     /// The bits of all marked darts. A dart whose bit isn't set is not marked, and needs no search.
     bits: u64,
+    /// The index is made with room for so many darts.
+    room: usize,
 }
 
 impl Model for Marks {
@@ -49,8 +51,8 @@ impl Model for Marks {
 }
 
 impl Marks {
-    /// No darts. It takes no memory.
-    pub(crate) fn new(alloc: Global) -> Marks
+    /// No darts. It takes no memory; but where an index is needed, it is made with room for so many.
+    pub(crate) fn new(alloc: Global, room: usize) -> Marks
         ensures { result ≡ [] }
     {
         Marks {
@@ -58,6 +60,7 @@ impl Marks {
             reached: Vec::new(alloc),
             by_key: None,
             bits: 0,
+            room,
         }
     }
 
@@ -107,14 +110,41 @@ impl Marks {
         ensures err { OnErr result (self.new ≡ self.old) }
         ensures distinct { HasDistinctKeys self.old }
     {
+        if self.by_key.is_some() {
+            return self.put(at, instance, over);
+        }
         if self.decided_by(at).is_some() {
             return Ok(false);
         }
-        if self.by_key.is_none() && self.reached.len() >= FEW {
-            self.by_key = Some(index(self.alloc, &self.reached)?);
+        if self.reached.len() >= FEW {
+            return self.put(at, instance, over);
         }
         self.mark_new(at, instance, over, FEW)?;
         Ok(true)
+    }
+
+    /// Marks a neighbour of a marked dart, as `mark` does.
+    #[inline(always)]
+    pub(crate) fn mark_beside(
+        &mut self,
+        from: At,
+        at: At,
+        instance: u32,
+        over: Option<u8>,
+    ) -> Result<bool, OutOfMemory>
+        requires from { HasKey self.old (key_of from) }
+        ensures ok { OnOk result (IsMarkedMore self.old self.new at instance over) }
+        ensures new { IfOk result (λ new. IsTrue new ↔ (HasKey self.old (key_of at) → ⊥)) }
+        ensures err { OnErr result (self.new ≡ self.old) }
+        ensures distinct { HasDistinctKeys self.old }
+    {
+        // A dart that is free at a label is its own neighbour: a walk mostly ends there.
+        if key(at) == key(from) {
+            // The marks tell here that no dart comes twice.
+            prove!(self.len() <= usize::MAX);
+            return Ok(false);
+        }
+        self.mark(at, instance, over)
     }
 
     /// Marks a dart that isn't marked. Where memory was wanting, nothing is marked. It makes no index,
@@ -142,24 +172,37 @@ impl Marks {
             self.bits |= 1 << bit(mark.key);
             push(&mut self.reached, mark, room)
         } else {
-            self.add_to_index(mark)
+            self.put(at, instance, over)?;
+            Ok(())
         }
     }
 
-    /// Adds a mark to the marks and to their index, where there is one.
+    /// Marks a dart, unless it is marked, as `mark` does. It goes by the index, and makes one where
+    /// there is none.
     // Cold, so that `mark` stays small enough to be inlined where darts are walked.
     #[cold]
-    fn add_to_index(&mut self, mark: Mark) -> Result<(), OutOfMemory>
-        requires key { mark.key ≡ key_of mark.at }
-        requires absent { HasKey self.old (key_of mark.at) → ⊥ }
-        ensures ok { OnOk result (self.new ≡ self.old ++ mark ∷ []) }
+    fn put(&mut self, at: At, instance: u32, over: Option<u8>) -> Result<bool, OutOfMemory>
+        ensures ok { OnOk result (IsMarkedMore self.old self.new at instance over) }
+        ensures new { IfOk result (λ new. IsTrue new ↔ (HasKey self.old (key_of at) → ⊥)) }
         ensures err { OnErr result (self.new ≡ self.old) }
+        ensures distinct { HasDistinctKeys self.old }
     {
+        let mark = Mark {
+            at,
+            instance,
+            over,
+            key: key(at),
+        };
         self.reached.reserve(1)?;
-        self.by_key = put(self.by_key.take(), mark)?;
+        let by_key = index(self.alloc, self.by_key.take(), &self.reached, self.room)?;
+        let (by_key, is_new) = put(by_key, &self.reached, mark)?;
+        self.by_key = Some(by_key);
+        if !is_new {
+            return Ok(false);
+        }
         self.bits |= 1 << bit(mark.key);
         self.reached.push_reserved(mark);
-        Ok(())
+        Ok(true)
     }
 }
 
@@ -176,33 +219,45 @@ pub(crate) fn push<T: Copy>(entries: &mut Vec<T>, entry: T, room: usize) -> Resu
     Ok(())
 }
 
-/// The index of the deciding instance of each dart, by its key.
-#[cold]
-fn index(alloc: Global, reached: &[Mark]) -> Result<Box<HashMap<u64, u32>>, OutOfMemory>
+/// The index of the deciding instance of each dart, by its key: the one that there is, or a new one
+/// with room for so many darts.
+fn index(
+    alloc: Global,
+    by_key: Option<Box<HashMap<u64, u32>>>,
+    reached: &[Mark],
+    room: usize,
+) -> Result<Box<HashMap<u64, u32>>, OutOfMemory>
     requires keyed { AreKeyed reached.now }
     requires distinct { HasDistinctKeys reached.now }
+    requires index { IfSome by_key (λ by_key. IsIndex reached.now by_key.value) }
     ensures { IfOk result (λ by_key. IsIndex reached.now by_key.value) }
 {
-    let mut by_key = HashMap::new(alloc);
+    if let Some(by_key) = by_key {
+        return Ok(by_key);
+    }
+    let mut by_key = HashMap::with_capacity(alloc, room)?;
     for entry in reached {
         by_key.insert(entry.key, entry.instance)?;
     }
     Ok(Box::new(alloc, by_key)?)
 }
 
-/// The index with one more dart, where there is one.
+/// The index with one more dart, and whether it is new there. A dart that isn't keeps its instance.
 fn put(
-    by_key: Option<Box<HashMap<u64, u32>>>,
+    mut by_key: Box<HashMap<u64, u32>>,
+    reached: &[Mark],
     entry: Mark,
-) -> Result<Option<Box<HashMap<u64, u32>>>, OutOfMemory>
-    requires { entry.key ≡ key_of entry.at }
-    ensures { IfOk result (λ more. (reached : List Mark) → (HasKey reached (key_of entry.at) → ⊥) → IfSome by_key (λ old. IsIndex reached old.value) → IfSome more (λ new. IsIndex (reached ++ entry ∷ []) new.value)) }
+) -> Result<(Box<HashMap<u64, u32>>, bool), OutOfMemory>
+    requires key { entry.key ≡ key_of entry.at }
+    requires index { IsIndex reached.now by_key.value }
+    ensures { IfOk result (λ put. IsPut reached.now entry put.1 put.0.value) }
 {
-    let Some(mut by_key) = by_key else {
-        return Ok(None);
-    };
-    by_key.insert(entry.key, entry.instance)?;
-    Ok(Some(by_key))
+    // So most darts, which are new, are looked up once.
+    if let Some(instance) = by_key.insert(entry.key, entry.instance)? {
+        by_key.insert(entry.key, instance)?;
+        return Ok((by_key, false));
+    }
+    Ok((by_key, true))
 }
 
 /// The index of the deciding instance of the dart with this key. It begins with the last dart, since

@@ -46,8 +46,8 @@ impl<'a, 'm> Pending<'a, 'm> {
     ghost use Rattle.gm_model.specs.Rules.{rule_of};
     ghost use Rattle.gm_model.specs.Unfolding.{IsArcAfter, IsMadeArc};
     ghost use Rattle.gm_arena.specs.ArenaAsMap.{as_map};
+    ghost use Rattle.gm_plan.specs.Changes.{AreMadeLabels, MakesNone};
     ghost use Rattle.gm_plan.specs.InArena.{AreMatched, slot_number};
-    ghost use Rattle.gm_pending.specs.MadeLabels.{KeepsArcs, AreMadeLabels};
     ghost use Rattle.gm_pending.specs.Lookup.{IsWithin, IsAtSlot};
     ghost use Rattle.gm_pending.specs.Results.{IsPrepared, pending_of, scene_in, rule_in, name_of, IsResultDart, IsRightInstance};
 
@@ -88,7 +88,9 @@ impl<'a, 'm> Pending<'a, 'm> {
         ensures cost { steps.new ≤ steps.old + 1 }
         ensures least { steps.old ≤ steps.new }
     {
-        self.neighbour(at, label, !self.keeps_arcs(label), steps)
+        // The application tells here what its type keeps.
+        prove!(self.labels() <= 8);
+        self.neighbour(at, label, self.made_labels().has(label), steps)
     }
 
     /// The neighbour along a label, where `made` tells whether the rule makes arcs at the label that
@@ -103,7 +105,7 @@ impl<'a, 'm> Pending<'a, 'm> {
     ) -> At
         requires dart { IsResultDart self.now at }
         requires label { label ≤ self.now.map.schema.dim }
-        requires kept { made ≡ false → KeepsArcs self.now label }
+        requires kept { made ≡ false → MakesNone (rule_in self.now) label }
         ensures arc { IsArcAfter (scene_in self.now) (name_of self.now at) label (name_of self.now result) }
         ensures dart { IsResultDart self.now result }
         ensures cost { steps.new ≤ steps.old + 1 }
@@ -124,35 +126,16 @@ impl<'a, 'm> Pending<'a, 'm> {
         }
     }
 
-    /// The labels of a set at which the rule makes arcs that the old map doesn't have.
-    pub(crate) fn made_labels(&self, among: Mask) -> Mask
-        ensures { AreMadeLabels self.now among result }
+    /// The labels at which the rule makes arcs that the old map doesn't have.
+    pub(crate) fn made_labels(&self) -> Mask
+        ensures { AreMadeLabels (rule_in self.now) result }
     {
-        let mut bits = 0;
-        for label in 0..self.labels() {
-            if among.has(label) && !self.keeps_arcs(label) {
-                bits |= 1 << label;
-            }
-        }
-        Mask { bits }
-    }
-
-    /// Whether each arc of a right step at the label is there in the old map.
-    fn keeps_arcs(&self, label: u8) -> bool
-        requires { label ≤ self.now.map.schema.dim }
-        ensures { IsTrue result → KeepsArcs self.now label }
-    {
-        for node in 0..self.nodes() {
-            match self.plan.made_step(node, label) {
-                Step::Absent => {}
-                _ => return false,
-            }
-        }
-        true
+        self.plan.made_labels()
     }
 
     /// Where the right step at the label leads from a dart of the result; none where it has no
     /// such step.
+    #[inline(always)]
     fn made(&self, at: At, label: u8) -> Option<At>
         requires dart { IsResultDart self.now at }
         requires label { label ≤ self.now.map.schema.dim }
@@ -169,6 +152,7 @@ impl<'a, 'm> Pending<'a, 'm> {
     }
 
     /// The right node and the position of a dart of the result; none where no node lies there.
+    #[inline(always)]
     fn instance(&self, at: At) -> Option<(u8, u32)>
         requires { IsResultDart self.now at }
         ensures { MatchOption result
@@ -182,6 +166,7 @@ impl<'a, 'm> Pending<'a, 'm> {
     }
 
     /// The left node and the position that lie at the slot; none where no instance does.
+    #[inline(always)]
     fn left_instance(&self, slot: Slot) -> Option<(u8, u32)>
         ensures prepared { IsPrepared self.now }
         ensures instance { MatchOption result

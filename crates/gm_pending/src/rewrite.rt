@@ -1,7 +1,8 @@
 ghost use Rattle.std.specs.Prelude.{◌≡◌, ℕ, ◌+◌, ◌*◌, ◌<◌, ◌≤◌, ◌++◌, length, slice_index_or, OnOk, IsTrue};
 ghost use Rattle.std.specs.Vec.{vec_capacity};
 ghost use Rattle.gm_model.specs.declared.step.Step.{Step};
-ghost use Rattle.gm_pending.specs.Collected.{told_by, end_of, has_bit, written_step, slot_in, left_slots_of, left_slots, made_in, AreSlots};
+ghost use Rattle.gm_plan.specs.Changes.{has_bit};
+ghost use Rattle.gm_pending.specs.Collected.{told_by, end_of, written_step, slot_in, left_slots_of, left_slots, made_in, AreSlots};
 ghost use Rattle.gm_pending.specs.Written.{HasSlot, slot_of};
 
 use gm_arena::Slot;

@@ -36,7 +36,7 @@ impl Pending<'_, '_> {
         ensures { self.new ≡ with_instances self.old embed (given_at (instances_of self.old embed) index value) }
     {
         match &mut self.orbits[embed as usize] {
-            Some(orbits) => orbits.instances[index as usize].given = Some(value),
+            Some(orbits) => orbits.instances.as_mut_slice()[index as usize].given = Some(value),
             None => unreachable!(),
         }
     }

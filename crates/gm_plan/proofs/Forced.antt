@@ -45,7 +45,7 @@ module _ (rule : Rule) (x i : ℕ) where
       go later false _ rest = later rest
 
   module _ (links : List Link) (paths : ArePaths rule links) where
-    forced_at : tested_step rule links x i ≡ Absent → IsForcedStep rule x i
+    pub forced_at : tested_step rule links x i ≡ Absent → IsForcedStep rule x i
     forced_at e = go (is_walked rule x (step rule Left x i)) refl (list_any (is_end x i) links) refl e
       where
         go : (w : Bool) → is_walked rule x (step rule Left x i) ≡ w → (p : Bool) → list_any (is_end x i) links ≡ p → (if w || p then Absent else step rule Left x i) ≡ Absent → IsForcedStep rule x i
@@ -53,7 +53,7 @@ module _ (rule : Rule) (x i : ℕ) where
         go false here true there e = on_path links paths.ends there
         go false here false there e = Free e
 
-    kept_at : tested_step rule links x i ≢ Absent → tested_step rule links x i ≡ step rule Left x i
+    pub kept_at : tested_step rule links x i ≢ Absent → tested_step rule links x i ≡ step rule Left x i
     kept_at = go (is_walked rule x (step rule Left x i) || list_any (is_end x i) links)
       where
         go : (b : Bool) → (if b then Absent else step rule Left x i) ≢ Absent → (if b then Absent else step rule Left x i) ≡ step rule Left x i

@@ -1,3 +1,4 @@
+pub mod Bits
 pub mod Changed
 pub mod Decided
 pub mod Distinct
@@ -18,3 +19,4 @@ pub mod Rows
 pub mod Search
 pub mod SourcesFound
 pub mod SquaresFound
+pub mod Tests

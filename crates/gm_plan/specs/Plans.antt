@@ -7,16 +7,18 @@ use Rattle.gm_model.specs.declared.rule.Side.{Side}
 use Rattle.gm_model.specs.declared.rule.Side.TheVariants.{Left, Right}
 use Rattle.gm_model.specs.declared.schema.Schema.{Schema}
 use Rattle.gm_model.specs.declared.step.Step.{Step}
+use Rattle.gm_model.specs.declared.word.Mask.{Mask}
 use Rattle.gm_model.specs.Acceptance.{IsAccepted}
 use Rattle.gm_model.specs.Rules.{Rule, has_word, step}
 use Rattle.gm_model.specs.Structure.{IsWithinLimits}
 use Rattle.gm_model.specs.Unfolding.{added_nodes}
 use Rattle.gm_plan.specs.declared.sources.Sources.{Sources}
-use Rattle.gm_plan.specs.Changes.{freed_step, made_step}
+use Rattle.gm_plan.specs.Changes.{freed_step, made_step, AreMadeLabels, AreRemovedNodes}
 use Rattle.gm_plan.specs.Counts.{removed_nodes}
 use Rattle.gm_plan.specs.Paths.{ArePaths}
 use Rattle.gm_plan.specs.Sources.{AreSources}
-use Rattle.gm_plan.specs.Tested.{tested_step}
+use Rattle.gm_plan.specs.declared.tested.Test.{Test}
+use Rattle.gm_plan.specs.Tested.{AreTests, tested_step}
 
 -- a plan is that of a rule over a schema
 pub record PlanOf : Type 0 where
@@ -53,13 +55,16 @@ pub record AreCounts (rule : Rule) (left added removed : ℕ) : Type 0 where
   pub added_is : added ≡ added_nodes rule
   pub removed_is : removed ≡ removed_nodes rule
 
-pub record IsCompiled (schema : Schema) (rule : Rule) (left right made freed tested : List (List Step)) (paths : List Link) (sources : List Sources) (left_nodes added removed : ℕ) : Type 0 where
+pub record IsCompiled (schema : Schema) (rule : Rule) (left right made freed tested : List (List Step)) (tests : List Test) (paths : List Link) (sources : List Sources) (left_nodes added removed goes : ℕ) (made_labels : Mask) : Type 0 where
   pub planned : IsPlanned schema rule
   pub left_steps : AreSteps rule Left (length rule.nodes) left
   pub right_steps : AreSteps rule Right (length rule.nodes) right
   pub made_steps : AreRows (made_step rule) (length rule.nodes) made
   pub freed_steps : AreRows (freed_step rule) (length rule.nodes) freed
   pub tested_steps : AreRows (tested_step rule paths) (length rule.nodes) tested
+  pub are_tests : AreTests schema.dim rule tests
   pub are_paths : ArePaths rule paths
   pub are_sources : AreSources schema rule sources
   pub are_counts : AreCounts rule left_nodes added removed
+  pub are_removed : AreRemovedNodes rule goes
+  pub are_made : AreMadeLabels rule made_labels

@@ -1,11 +1,13 @@
 -- Which left steps of a rule a match has to test: the candidate meets each other one as it is made.
-use Rattle.std.specs.Prelude.{◌≡◌, ℕ, if◌then◌else◌, Bool, true, false, ◌&&◌, ◌||◌, ◌==◌, List, [], ◌∷◌, Some}
+use Rattle.std.specs.Prelude.{◌≡◌, ◌≢◌, ℕ, ◌+◌, ◌*◌, ◌<◌, ◌≤◌, ◌⊎◌, length, slice_get, if◌then◌else◌, Bool, true, false, ◌&&◌, ◌||◌, ◌==◌, List, [], ◌∷◌, Some}
 use Rattle.std.specs.List.{list_any}
 use Rattle.gm_model.specs.declared.rule.Link.{Link}
 use Rattle.gm_model.specs.declared.rule.Side.TheVariants.{Left}
 use Rattle.gm_model.specs.declared.step.Step.{Step}
 use Rattle.gm_model.specs.declared.step.Step.TheVariants.{Absent, Exp, Imp}
 use Rattle.gm_model.specs.Rules.{Rule, first_hook, link_from, step}
+use Rattle.gm_model.specs.Orbits.{IsPairBefore}
+use Rattle.gm_plan.specs.declared.tested.Test.{Test}
 use Rattle.gm_plan.specs.Paths.{IsLastLink}
 
 -- The candidate meets the left step of node x at label i as it is made.
@@ -43,3 +45,34 @@ abbrev pub is_step : Step → Bool
 is_step Absent = false
 is_step (Exp y) = true
 is_step (Imp k) = true
+
+-- ---- the list
+
+abbrev pub test_of : ℕ → ℕ → Step → Test
+test_of x i s = record { node = x; label = i; step = s }
+
+-- the test is one of the steps before the pair of node q and label l, at the first labels
+pub record IsListed (steps : ℕ → ℕ → Step) (labels q l : ℕ) (test : Test) : Type 0 where
+  pub before : IsPairBefore test.node test.label q l
+  pub low : test.label < labels
+  pub is : steps test.node test.label ≡ test.step
+  pub some : test.step ≢ Absent
+
+-- the tests are these steps, but for absent ones
+pub record AreListed (steps : ℕ → ℕ → Step) (labels q l : ℕ) (tests : List Test) : Type 0 where
+  pub each : (t : ℕ) (test : Test) → slice_get tests t ≡ Some test → IsListed steps labels q l test
+  pub all : (x i : ℕ) → IsPairBefore x i q l → i < labels → (steps x i ≡ Absent) ⊎ ((t : ℕ) × (slice_get tests t ≡ Some (test_of x i (steps x i))))
+  pub few : length tests ≤ q * labels + l
+
+-- the test is a left step of the rule, at a label up to n
+pub record IsTest (n : ℕ) (rule : Rule) (test : Test) : Type 0 where
+  pub node : test.node < length rule.nodes
+  pub label : test.label ≤ n
+  pub is : step rule Left test.node test.label ≡ test.step
+  pub some : test.step ≢ Absent
+
+-- so are these tests, and the candidate meets each other left step as it is made
+pub record AreTests (n : ℕ) (rule : Rule) (tests : List Test) : Type 0 where
+  pub each : (t : ℕ) (test : Test) → slice_get tests t ≡ Some test → IsTest n rule test
+  pub all : (x i : ℕ) → x < length rule.nodes → i ≤ n → IsForcedStep rule x i ⊎ ((t : ℕ) × (slice_get tests t ≡ Some (test_of x i (step rule Left x i))))
+  pub few : length tests ≤ length rule.nodes * (n + 1)

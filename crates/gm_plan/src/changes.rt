@@ -1,12 +1,12 @@
-//! The steps of a rule whose arcs an application writes.
-ghost use Rattle.std.specs.Prelude.{◌≡◌, ℕ, ◌<◌, length};
+//! The steps of a rule whose arcs an application writes, and the nodes that it removes.
+ghost use Rattle.std.specs.Prelude.{◌≡◌, ℕ, ◌<◌, ◌≤◌, ◌↔◌, length, IsTrue};
 ghost use Rattle.gm_model.specs.declared.rule.Side.TheVariants.{Left, Right};
 ghost use Rattle.gm_model.specs.Rules.{rule_of, has_word, is_removed};
-ghost use Rattle.gm_plan.specs.Changes.{freed_step, is_steady, made_step};
-ghost use Rattle.gm_plan.specs.Plans.{AreSteps};
+ghost use Rattle.gm_plan.specs.Changes.{AreMadeLabels, AreRemovedNodes, MakesNone, freed_step, is_steady, made_step};
+ghost use Rattle.gm_plan.specs.Plans.{AreRows, AreSteps};
 
 use crate::table::{Row, StepAt};
-use gm_model::{RuleTable, Side, Step};
+use gm_model::{MOST_LABELS, Mask, RuleTable, Side, Step};
 
 /// The steps that an application frees. The rows have the left steps.
 #[derive(Clone, Copy)]
@@ -74,6 +74,51 @@ fn is_steady(rule: &RuleTable, left: &[Row], right: &[Row], node: u8, label: u8)
 {
     has_word(rule, Side::Left, node)
         && left[node as usize][label as usize] == right[node as usize][label as usize]
+}
+
+/// Which nodes are removed: bit `x` stands for node `x`.
+pub fn nodes_removed(rule: &RuleTable) -> u32
+    requires { length (rule_of rule.now).nodes ≤ 32 }
+    ensures { AreRemovedNodes (rule_of rule.now) result }
+{
+    let mut goes = 0;
+    for node in 0..rule.node_count() {
+        if is_removed(rule, node) {
+            goes |= 1 << node;
+        }
+    }
+    goes
+}
+
+/// The labels at which some node has a made step, by the rows of these.
+pub fn labels_made(rule: &RuleTable, made: &[Row]) -> Mask
+    requires few { length (rule_of rule.now).nodes ≤ 32 }
+    requires made { AreRows (made_step (rule_of rule.now)) (length (rule_of rule.now).nodes) made.now }
+    ensures { AreMadeLabels (rule_of rule.now) result }
+{
+    let mut bits = 0;
+    for label in 0..MOST_LABELS as u8 {
+        if !makes_none(rule, made, label) {
+            bits |= 1 << label;
+        }
+    }
+    Mask { bits }
+}
+
+/// Whether no node has a made step at the label.
+fn makes_none(rule: &RuleTable, made: &[Row], label: u8) -> bool
+    requires few { length (rule_of rule.now).nodes ≤ 32 }
+    requires made { AreRows (made_step (rule_of rule.now)) (length (rule_of rule.now).nodes) made.now }
+    requires label { label < 8 }
+    ensures { IsTrue result ↔ MakesNone (rule_of rule.now) label }
+{
+    for node in 0..rule.node_count() {
+        match made[node as usize][label as usize] {
+            Step::Absent => {}
+            _ => return false,
+        }
+    }
+    true
 }
 
 fn is_removed(rule: &RuleTable, node: u8) -> bool

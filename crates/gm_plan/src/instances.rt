@@ -44,6 +44,28 @@ impl Instances {
         ensures nodes { positions * result.nodes ≡ length slots.items }
     {
         let nodes = slots.len() / positions as usize;
+        Instances::with_nodes(slots, turns, positions, nodes, places)
+    }
+
+    /// The same where it is known how many nodes there are.
+    // A processor takes as long to divide as to match a short rule's node.
+    pub fn with_nodes(
+        slots: Vec<Slot>,
+        turns: Vec<u32>,
+        positions: u32,
+        nodes: usize,
+        places: u8,
+    ) -> Instances
+        requires some_position { 1 ≤ positions }
+        requires slots { positions * nodes ≡ length slots.items }
+        requires turns { positions * places ≡ length turns.items }
+        requires turns_within { All (λ q. q < positions) turns.items }
+        ensures slots { result.slots ≡ slots.items }
+        ensures turns { result.turns ≡ turns.items }
+        ensures positions { result.positions ≡ positions }
+        ensures places { result.places ≡ places }
+        ensures nodes { result.nodes ≡ nodes }
+    {
         Instances {
             slots,
             turns,

@@ -19,3 +19,4 @@ pub use existence::{accepted_or_a_first_fault, each_condition_is_met_or_has_a_fa
 pub use instances::Instances;
 pub use laws::{no_fault_of_a_condition_that_is_met, one_fault_at_most};
 pub use plan::Plan;
+pub use tested::Test;

@@ -1,13 +1,13 @@
 ghost use Rattle.std.specs.Prelude.{◌≡◌, ◌≢◌, false, ℕ, ◌<◌, ◌≤◌, ◌↔◌, length, MatchOption, IfOk, IsTrue};
 ghost use Rattle.std.specs.List.{Contains};
 
-use crate::changes::{Freed, Made};
+use crate::changes::{Freed, Made, labels_made, nodes_removed};
 use crate::paths::{Paths, least_paths, link_to};
 use crate::sides::{count_added, count_left, count_removed, side_steps};
 use crate::sources::{Sources, sources_of};
 use crate::table::{Row, rows_of};
-use crate::tested::{Tested, has_step};
-use gm_model::{Link, OutOfMemory, RuleTable, Schema, Side, Step};
+use crate::tested::{Test, Tested, has_step, tests_of};
+use gm_model::{Link, Mask, OutOfMemory, RuleTable, Schema, Side, Step};
 use std::alloc::Global;
 use std::marker::Model;
 
@@ -24,12 +24,17 @@ pub struct Plan<'b> {
     made: Vec<Row>,
     freed: Vec<Row>,
     tested: Vec<Row>,
+    /// The steps of `tested`, one after another.
+    tests: Vec<Test>,
     paths: Paths,
     /// By embedding.
     sources: Vec<Sources>,
     left_nodes: u8,
     added: u8,
     removed: u8,
+    /// Which nodes are removed: bit `x` stands for node `x`.
+    goes: u32,
+    made_labels: Mask,
 }
 
 impl<'b> Model for Plan<'b> {
@@ -44,7 +49,7 @@ impl<'b> Model for Plan<'b> {
 
     ghost view = { λ a. record { schema = a.schema.now; table = a.rule.now } };
 
-    ghost invariant = { λ a. IsCompiled a.schema.now (rule_of a.rule.now) a.left.items a.right.items a.made.items a.freed.items a.tested.items a.paths.items a.sources.items a.left_nodes a.added a.removed };
+    ghost invariant = { λ a. IsCompiled a.schema.now (rule_of a.rule.now) a.left.items a.right.items a.made.items a.freed.items a.tested.items a.tests.items a.paths.items a.sources.items a.left_nodes a.added a.removed a.goes a.made_labels };
 }
 
 impl<'b> Plan<'b> {
@@ -55,12 +60,12 @@ impl<'b> Plan<'b> {
     ghost use Rattle.gm_model.specs.Maps.{IsEmbedAt, type_of};
     ghost use Rattle.gm_model.specs.Rules.{rule_of, has_word, link_from, step};
     ghost use Rattle.gm_model.specs.Unfolding.{added_nodes};
-    ghost use Rattle.gm_plan.specs.Changes.{freed_step, made_step};
+    ghost use Rattle.gm_plan.specs.Changes.{freed_step, made_step, AreMadeLabels, AreRemovedNodes};
     ghost use Rattle.gm_plan.specs.Counts.{removed_nodes};
     ghost use Rattle.gm_plan.specs.Paths.{ArePaths, IsLastLink};
     ghost use Rattle.gm_plan.specs.Plans.{AreRows, IsPlanned, IsLeftCount, plan_of};
     ghost use Rattle.gm_plan.specs.Sources.{HasExactLetters};
-    ghost use Rattle.gm_plan.specs.Tested.{IsForcedStep};
+    ghost use Rattle.gm_plan.specs.Tested.{AreTests, IsForcedStep};
 
     /// The plan of a rule that is accepted.
     pub(crate) fn new(
@@ -81,7 +86,9 @@ impl<'b> Plan<'b> {
         let paths = least_paths(alloc, schema, rule, left)?;
         let links = paths.as_slice();
         let tested = rows_of(alloc, &Tested { rule, left, links }, nodes)?;
+        let tests = tests_of(alloc, tested.as_slice(), schema.dim.top() + 1)?;
         let sources = sources_of(alloc, schema, rule, right)?;
+        let made_labels = labels_made(rule, made.as_slice());
         Ok(Plan {
             schema,
             rule,
@@ -90,11 +97,14 @@ impl<'b> Plan<'b> {
             made,
             freed,
             tested,
+            tests,
             paths,
             sources,
             left_nodes: count_left(rule),
             added: count_added(rule),
             removed: count_removed(rule),
+            goes: nodes_removed(rule),
+            made_labels,
         })
     }
 
@@ -143,6 +153,20 @@ impl<'b> Plan<'b> {
         self.removed
     }
 
+    /// Which nodes the rule removes: bit `x` stands for node `x`.
+    pub fn nodes_that_go(&self) -> u32
+        ensures { AreRemovedNodes (rule_of self.now.table) result }
+    {
+        self.goes
+    }
+
+    /// The labels at which some node has a made step. An application makes no arcs at the others.
+    pub fn made_labels(&self) -> Mask
+        ensures { AreMadeLabels (rule_of self.now.table) result }
+    {
+        self.made_labels
+    }
+
     /// What the node has at the label on the side.
     pub fn step(&self, side: Side, node: u8, label: u8) -> Step
         requires node { node < length (rule_of self.now.table).nodes }
@@ -187,6 +211,13 @@ impl<'b> Plan<'b> {
         ensures { AreRows (freed_step (rule_of self.now.table)) (length (rule_of self.now.table).nodes) result.now }
     {
         &self.freed
+    }
+
+    /// The left steps that a match has to test: the candidate meets each other one as it is made.
+    pub fn tests(&self) -> &[Test]
+        ensures { AreTests self.now.schema.dim (rule_of self.now.table) result.now }
+    {
+        &self.tests
     }
 
     /// Whether a match has to test a left step of the node.

@@ -1,13 +1,52 @@
 //! The left steps of a rule that a match has to test.
-ghost use Rattle.std.specs.Prelude.{◌≡◌, ◌<◌, length};
+ghost use Rattle.std.specs.Prelude.{◌≡◌, ◌+◌, ◌<◌, ◌≤◌, length, IfOk, OnOk};
 ghost use Rattle.std.specs.List.{list_any};
 ghost use Rattle.gm_model.specs.declared.rule.Side.TheVariants.{Left};
 ghost use Rattle.gm_model.specs.Rules.{rule_of};
 ghost use Rattle.gm_plan.specs.Plans.{AreSteps};
-ghost use Rattle.gm_plan.specs.Tested.{is_end, is_step, is_walked, tested_step};
+ghost use Rattle.gm_plan.specs.Searches.{row_step};
+ghost use Rattle.gm_plan.specs.Tested.{AreListed, is_end, is_step, is_walked, tested_step};
 
 use crate::table::{Row, StepAt};
-use gm_model::{Link, RuleTable, Step};
+use gm_model::{Link, OutOfMemory, RuleTable, Step};
+use std::alloc::Global;
+
+/// A left step that a match has to test.
+#[derive(Clone, Copy)]
+pub struct Test {
+    pub node: u8,
+    pub label: u8,
+    pub step: Step,
+}
+
+/// The steps that the rows have at the first labels, by node and label.
+pub fn tests_of(alloc: Global, rows: &[Row], labels: u8) -> Result<Vec<Test>, OutOfMemory>
+    requires few { length rows.now ≤ 32 }
+    requires labels { labels ≤ 8 }
+    ensures { IfOk result (λ tests. AreListed (row_step rows.now) labels (length rows.now) 0 tests.items) }
+{
+    let mut tests = Vec::new(alloc);
+    for node in 0..rows.len() as u8 {
+        list_row(&mut tests, rows, node, labels)?;
+    }
+    Ok(tests)
+}
+
+/// Puts the steps of the node's row behind those of the rows before it.
+fn list_row(tests: &mut Vec<Test>, rows: &[Row], node: u8, labels: u8) -> Result<(), OutOfMemory>
+    requires node { node < length rows.now }
+    requires labels { labels ≤ 8 }
+    requires before { AreListed (row_step rows.now) labels node 0 tests.old.items }
+    ensures { OnOk result (AreListed (row_step rows.now) labels (node + 1) 0 tests.new.items) }
+{
+    for label in 0..labels {
+        match rows[node as usize][label as usize] {
+            Step::Absent => {}
+            step => tests.push(Test { node, label, step })?,
+        }
+    }
+    Ok(())
+}
 
 /// The left steps that a match has to test. The rows have the left steps, and the links are those
 /// that the least paths end with.

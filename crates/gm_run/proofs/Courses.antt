@@ -1,6 +1,6 @@
 -- The course of a run: as a run within its bounds, with what it cost to come to each entry of the history that it leaves. So it can go on.
 use Rattle.std.proofs.Common.{◌≡◌, ℕ, ◌+◌, List, [], ◌∷◌, ◌++◌, refl, sym, ap, ap₂, subst, ◌∙◌, arith}
-use Rattle.gm_model.specs.declared.script.Stat.{Stat}
+use Rattle.gm_model.specs.Statements.{Stat}
 use Rattle.gm_model.specs.Budgets.{Bounds, Entries, HasBounds, IsRunWithin, up_to}
 use Rattle.gm_model.specs.Rules.{Rule}
 use Rattle.gm_model.specs.Runs.{Outcome, State, IsStep, IsRun}

@@ -4,8 +4,8 @@ use Rattle.std.specs.Option.{option_map}
 use Rattle.std.specs.Prelude.{is_some, IfErr, IfOk, MatchResult}
 use Rattle.gm_model.specs.declared.memory.OutOfMemory.{OutOfMemory}
 use Rattle.gm_model.specs.declared.schema.Schema.{Schema}
-use Rattle.gm_model.specs.declared.script.Line.{Line}
-use Rattle.gm_model.specs.declared.script.Stat.TheVariants as statements
+use Rattle.gm_model.specs.Statements.{Line}
+use Rattle.gm_model.specs.Statements as statements
 use Rattle.gm_model.specs.Budgets.{Bounds, Entries, HasBounds, OfDone, OfRefused, OfSkipped, OfUndone, OfNoPast, OfRedone, OfNoFuture, OfBegun, OfKept, OfDropped, IsLineBudget, entered, group_entered, up_to}
 use Rattle.gm_model.specs.Histories.{Group, History, IsRedone, IsUndone, begun_at, changed, done_at, dropped, kept}
 use Rattle.gm_model.specs.Maps.{Map, IsSound}

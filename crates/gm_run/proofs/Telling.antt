@@ -1,7 +1,7 @@
 -- What the lines of a report tell, line by line.
-use Rattle.std.proofs.Common.{◌≡◌, ℕ, ◌+◌, ◌<◌, List, [], ◌∷◌, ◌++◌, length, drop, get_or, map, Some, slice_get, refl, sym, ap, ap₂, ◌∙◌}
+use Rattle.std.proofs.Common.{◌≡◌, ℕ, ◌+◌, ◌<◌, List, [], ◌∷◌, ◌++◌, length, take, drop, get_or, map, Some, slice_get, refl, sym, ap, ap₂, ◌∙◌}
 use Rattle.std.specs.Option.{option_map}
-use Rattle.std.proofs.lemmas.List.{drop_more, length-map, map-append}
+use Rattle.std.proofs.lemmas.List.{drop_more, take_more, length-map, map-append}
 use Rattle.std.proofs.lemmas.Option.{get_or_from_slice_get, slice_get-get_or, slice_get-map, slice_get_within}
 use Rattle.gm_arena.proofs.InsideLemmas.{some_from_map}
 use Rattle.gm_model.specs.Runs as runs
@@ -44,6 +44,10 @@ module _ (lines : List Outcome) (told : List runs.Outcome) (tells : Tells lines 
       found : (outcome : runs.Outcome) × (slice_get told k ≡ Some outcome) × (outcome_of line ≡ Some outcome)
       found = some_from_map Some (slice_get told k) (outcome_of line) mapped
 
--- what stands at a place, and what is behind it
-pub behind : (told : List runs.Outcome) (k : ℕ) (outcome : runs.Outcome) → slice_get told k ≡ Some outcome → drop k told ≡ outcome ∷ drop (k + 1) told
-behind told k outcome at = drop_more told k outcome (slice_get_within told k outcome at) ∙ ap (λ o. o ∷ drop (k + 1) told) (get_or_from_slice_get told k outcome outcome at)
+-- what stands at a place, and what is behind it or before it
+module _ {A : Type 0} (xs : List A) (k : ℕ) (x : A) (at : slice_get xs k ≡ Some x) where
+  pub behind : drop k xs ≡ x ∷ drop (k + 1) xs
+  behind = drop_more xs k x (slice_get_within xs k x at) ∙ ap (λ y. y ∷ drop (k + 1) xs) (get_or_from_slice_get xs k x x at)
+
+  pub last_taken : take (k + 1) xs ≡ take k xs ++ x ∷ []
+  last_taken = take_more xs k x (slice_get_within xs k x at) ∙ ap (λ y. take k xs ++ y ∷ []) (get_or_from_slice_get xs k x x at)

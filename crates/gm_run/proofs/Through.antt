@@ -1,13 +1,12 @@
 -- How far a run has come, statement by statement, and what is known where it ends.
-use Rattle.std.proofs.Common.{◌≡◌, ℕ, zero, suc, ◌+◌, ◌<◌, ◌≤◌, Bool, true, false, ltb, inl, inr, List, [], ◌∷◌, ◌++◌, take, drop, length, get_or, Option, None, Some, refl, sym, ap, subst, ◌∙◌, arith}
+use Rattle.std.proofs.Common.{◌≡◌, ℕ, zero, suc, ◌+◌, ◌≤◌, Bool, true, false, ltb, inl, inr, List, [], ◌∷◌, ◌++◌, take, drop, length, Option, None, Some, refl, sym, ap, subst, ◌∙◌, arith}
 use Rattle.std.proofs.lemmas.Bool.{cases_lt, false≢true, lt-ltb, ltb-true}
 use Rattle.std.specs.List.{AllByRecursion, count_by}
 use Rattle.std.specs.Option.{option_map}
-use Rattle.std.specs.Prelude.{is_some}
-use Rattle.std.proofs.lemmas.List.{drop_more, take_more, take_all, take-append-drop}
-use Rattle.std.proofs.lemmas.Option.{slice_get-get_or}
-use Rattle.gm_model.specs.declared.script.Stat.{Stat}
-use Rattle.gm_model.specs.declared.script.Stat.TheVariants as statements
+use Rattle.std.specs.Prelude.{is_some, slice_get}
+use Rattle.std.proofs.lemmas.List.{take_all, take-append-drop}
+use Rattle.gm_model.specs.Statements.{Stat}
+use Rattle.gm_model.specs.Statements as statements
 use Rattle.gm_model.specs.Budgets.{Bounds, Entries, HasBounds, IsRunWithin, no_entries, up_to}
 use Rattle.gm_model.specs.Histories.{Group, History, changed, no_history}
 use Rattle.gm_model.specs.Maps.{Map, IsSound}
@@ -31,7 +30,7 @@ use Rattle.gm_run.specs.Standing.{HasOpen, HasStep, IsAllowed, IsInGroup, IsStop
 use Rattle.gm_run.proofs.AlikeStates.{states_alike_self}
 use Rattle.gm_run.proofs.Courses.{IsCourse, course_on, run_of, split, together, within_of}
 use Rattle.gm_run.proofs.OneRun.{one_bounds, one_run, one_within}
-use Rattle.gm_run.proofs.Telling.{tells_more, told_once}
+use Rattle.gm_run.proofs.Telling.{last_taken, tells_more, told_once}
 
 -- ---- lists
 
@@ -67,25 +66,18 @@ abbrev pub keeping : Bool → Standing → Standing
 keeping keeps standing = record { keeps = keeps; history = standing.history; group = standing.group; scratch = standing.scratch }
 
 -- so many statements were run, and one that needs the history is at hand or to come
-pub still_kept : (keeps : Bool) (many k needing : ℕ) → many ≡ k → (keeps ≡ false → needing ≤ k) → ltb many needing ≡ true → keeps ≡ true
-still_kept true many k needing same past test = refl
-still_kept false many k needing same past test = let over = past refl in let within = ltb-true many needing test in absurd (omega (arith, same, over, within))
-
-pub is_kept : (many k needing : ℕ) → many ≡ k → k < needing → ltb many needing ≡ true
-is_kept many k needing same within = lt-ltb many needing (omega (arith, same, within))
+pub still_kept : (keeps : Bool) (k needing : ℕ) → (keeps ≡ false → needing ≤ k) → ltb k needing ≡ true → keeps ≡ true
+still_kept true k needing past test = refl
+still_kept false k needing past test = let over = past refl in let within = ltb-true k needing test in absurd (omega (arith, over, within))
 
 -- and none is
-pub past_needing : (many k needing : ℕ) → many ≡ k → ltb many needing ≡ false → needing ≤ k + 1
-past_needing many k needing same test = elim (cases_lt k needing) [
-  | inl within ↦ absurd (false≢true (sym test ∙ is_kept many k needing same within))
+pub past_needing : (k needing : ℕ) → ltb k needing ≡ false → needing ≤ k + 1
+past_needing k needing test = elim (cases_lt k needing) [
+  | inl within ↦ absurd (false≢true (sym test ∙ lt-ltb k needing within))
   | inr past ↦ omega (arith, past)
 ]
 
 -- ---- the order of statements
-
--- a statement, and those behind it
-pub next_of : (stats : List Stat) (k : ℕ) (stat : Stat) → k < length stats → stat ≡ get_or stats k stat → drop k stats ≡ stat ∷ drop (k + 1) stats
-next_of stats k stat within is = drop_more stats k stat within ∙ ap (λ s. s ∷ drop (k + 1) stats) (sym is)
 
 open_as : (opened : Open) (state : State) → HasOpen opened state → is_open opened ≡ is_some state.history.group
 open_as opens.Nothing state has = sym (ap is_some has.0)
@@ -167,7 +159,7 @@ module _ (rules : List Rule) (before : Map) (sound : IsSound before) where
   -- ---- one statement more
 
   module _ (stats : List Stat) (k : ℕ) (lines : List Outcome) (old new : Standing) (m n : ArenaMap) (start middle steps : ℕ) (through : IsThrough rules before (take k stats) lines old m start middle)
-      (stat : Stat) (within : k < length stats) (is : stat ≡ get_or stats k stat) (suited : IsSuited before.schema rules stat) where
+      (stat : Stat) (here : slice_get stats k ≡ Some stat) (suited : IsSuited before.schema rules stat) where
     pub stat_through : (outcome : Outcome) → HasStep rules through.state through.costs stat outcome new n middle steps → IsThrough rules before (take (k + 1) stats) (lines ++ outcome ∷ []) new n start steps
     stat_through outcome has =
         let least = through.least in
@@ -175,7 +167,7 @@ module _ (rules : List Rule) (before : Map) (sound : IsSound before) where
         let last_least = has.least in
         let last_most = has.most in
         let on : GoesOn before.schema rules through.state through.costs stat has.told has.after = goes_on before.schema rules through.state through.costs stat has.told has.after through.sound suited has.step in
-        subst (λ ss. IsThrough rules before ss (lines ++ outcome ∷ []) new n start steps) (ap (λ s. take k stats ++ s ∷ []) is ∙ sym (take_more stats k stat within)) (record {
+        subst (λ ss. IsThrough rules before ss (lines ++ outcome ∷ []) new n start steps) (sym (last_taken stats k stat here)) (record {
           told = through.told ++ has.told ∷ [];
           tells = tells_more lines through.told through.tells outcome has.told has.tells;
           state = has.after;
@@ -239,28 +231,25 @@ module _ (rules : List Rule) (before : Map) (sound : IsSound before) where
     pub most : (os : List runs.Outcome) (end : State) (bounds : Bounds) → IsRunWithin rules (start_of before) no_entries stats os end bounds → steps ≤ start + bounds.most
 
   module _ (stats : List Stat) (k : ℕ) (lines : List Outcome) (standing : Standing) (m : ArenaMap) (after : Map) (start middle steps : ℕ) (through : IsThrough rules before (take k stats) lines standing m start middle)
-      (stat : Stat) (within : k < length stats) (is : stat ≡ get_or stats k stat) (stopped : IsStopped rules through.state stat after middle steps) where
-    front_is : take (k + 1) stats ≡ take k stats ++ stat ∷ []
-    front_is = take_more stats k stat within ∙ ap (λ s. take k stats ++ s ∷ []) (sym is)
-
+      (stat : Stat) (here : slice_get stats k ≡ Some stat) (stopped : IsStopped rules through.state stat after middle steps) where
     cut_most : (os : List runs.Outcome) (end : State) (bounds : Bounds) → IsRunWithin rules (start_of before) no_entries (take (k + 1) stats) os end bounds → steps ≤ start + bounds.most
     cut_most os end bounds run =
-        let s = split rules (start_of before) end no_entries (take k stats) (stat ∷ []) os bounds (subst (λ ss. IsRunWithin rules (start_of before) no_entries ss os end bounds) front_is run) in
+        let s = split rules (start_of before) end no_entries (take k stats) (stat ∷ []) os bounds (subst (λ ss. IsRunWithin rules (start_of before) no_entries ss os end bounds) (last_taken stats k stat here) run) in
         let front = within_of rules (start_of before) s.between no_entries s.costs (take k stats) s.firsts s.first_bounds s.first in
         let one = same_run (take k stats) lines standing m start middle through s.firsts s.between (run_of rules (start_of before) s.between no_entries (take k stats) s.firsts s.first_bounds front) in
         let same : s.first_bounds ≡ through.bounds = same_bounds (take k stats) lines standing m start middle through s.firsts s.between s.first_bounds front in
-        let here = last s.between s.costs s.lasts end s.last_bounds one.1 s.last in
+        let behind = last s.between s.costs s.lasts end s.last_bounds one.1 s.last in
         let sum : bounds.most ≡ s.first_bounds.most + s.last_bounds.most = ap (λ (b : Bounds). b.most) s.sum_is in
         let so_far = through.most in
-        omega (arith, here, sum, ap (λ (b : Bounds). b.most) same, so_far)
+        omega (arith, behind, sum, ap (λ (b : Bounds). b.most) same, so_far)
       where
         last : (other : State) (costs : Entries) (lasts : List runs.Outcome) (end : State) (bounds : Bounds) → AreAlikeStates other through.state → IsRunWithin rules other costs (stat ∷ []) lasts end bounds → steps ≤ middle + bounds.most
         last other costs [] end bounds alike h = absurd h
         last other costs (o ∷ p ∷ lasts) end bounds alike (n, x, first, rest, step, has, run, e) = absurd run
         last other costs (o ∷ []) end bounds alike (n, x, first, rest, step, has, run, e) =
-            let here = stopped.most other n costs x o first alike step has in
+            let one = stopped.most other n costs x o first alike step has in
             let sum : bounds.most ≡ first.most + rest.most = ap (λ (b : Bounds). b.most) e in
-            omega (arith, here, sum)
+            omega (arith, one, sum)
 
     pub stat_cut : IsCut stats after start steps
     stat_cut = record {
@@ -269,7 +258,7 @@ module _ (rules : List Rule) (before : Map) (sound : IsSound before) where
         outcomes = through.told;
         behind = through.state;
         run = run_told (take k stats) lines standing m start middle through;
-        left = subst (λ next. IsLeft rules through.state next after) (sym (slice_get-get_or stats k stat within ∙ ap Some (sym is))) stopped.left;
+        left = subst (λ next. IsLeft rules through.state next after) (sym here) stopped.left;
         most = cut_most;
       };
       most = λ os end bounds run.
@@ -280,6 +269,6 @@ module _ (rules : List Rule) (before : Map) (sound : IsSound before) where
     }
 
   -- who is past the last statement has run all
-  pub through_all : (stats script : List Stat) (lines report : List Outcome) (k : ℕ) (standing : Standing) (m : ArenaMap) (start steps : ℕ) → length stats ≤ k → stats ≡ script → report ≡ lines → IsThrough rules before (take k stats) lines standing m start steps → IsThrough rules before script report standing m start steps
-  through_all stats script lines report k standing m start steps past same told through =
-      subst (λ ls. IsThrough rules before script ls standing m start steps) (sym told) (subst (λ ss. IsThrough rules before ss lines standing m start steps) (take_all k stats past ∙ same) through)
+  pub through_all : (stats : List Stat) (lines report : List Outcome) (k : ℕ) (standing : Standing) (m : ArenaMap) (start steps : ℕ) → length stats ≤ k → report ≡ lines → IsThrough rules before (take k stats) lines standing m start steps → IsThrough rules before stats report standing m start steps
+  through_all stats lines report k standing m start steps past told through =
+      subst (λ ls. IsThrough rules before stats ls standing m start steps) (sym told) (subst (λ ss. IsThrough rules before ss lines standing m start steps) (take_all k stats past) through)

@@ -4,19 +4,19 @@ use Rattle.std.specs.Prelude.{decimal, slice_get}
 use Rattle.std.specs.List.{count_by}
 use Rattle.std.specs.Option.{option_map, unwrap_or}
 use Rattle.std.specs.Prelude.{OnOk}
-use Rattle.std.proofs.lemmas.List.{drop_more, map-append, take_more}
+use Rattle.std.proofs.lemmas.List.{map-append}
 use Rattle.std.proofs.lemmas.List.Sums.{count_by_more_yes, count_by_more_no, sum_by-append}
 use Rattle.std.proofs.lemmas.Option.{get_or_from_slice_get, slice_get-get_or, slice_get_within}
 use Rattle.std.proofs.lemmas.Result.{on_ok_weaker}
 use Rattle.gm_model.specs.declared.schema.Schema.{Schema}
-use Rattle.gm_model.specs.declared.script.Stat.{Stat}
+use Rattle.gm_model.specs.Statements.{Stat}
 use Rattle.gm_model.specs.Reports.{outcome_words, outcome_line, outcome_lines, counts_line, nodes_of, stat_words, done_in, refused_in}
 use Rattle.gm_model.specs.Rules.{Rule}
 use Rattle.gm_model.specs.Runs as runs
 use Rattle.gm_run.specs.declared.outcome.Outcome.{Outcome}
 use Rattle.gm_run.specs.Lines.{outcome_of, Tells}
 use Rattle.gm_run.specs.Printing.{CanBePrinted, IsSayable, SpeaksOf, line_text}
-use Rattle.gm_run.proofs.Telling.{IsToldAt, told_at, behind}
+use Rattle.gm_run.proofs.Telling.{IsToldAt, told_at, behind, last_taken}
 
 -- words, and then more of them
 onto : (start words more whole first after : List ℕ) → first ≡ start ++ words → words ++ more ≡ whole → after ≡ first ++ more → after ≡ start ++ whole
@@ -39,13 +39,13 @@ module _ (schema : Schema) (rules : List Rule) (stats : List Stat) (report : Lis
     pub is : outcome_of outcome ≡ Some told
     pub sayable : IsSayable schema rules stat told
 
-  pub said_at : (k : ℕ) (stat from : Stat) (outcome d : Outcome) → k < length report → stat ≡ get_or stats k from → outcome ≡ get_or report k d → IsSaid stat outcome
-  said_at k stat from outcome d within stat_is outcome_is =
+  pub said_at : (k : ℕ) (stat : Stat) (outcome d : Outcome) → k < length report → slice_get stats k ≡ Some stat → outcome ≡ get_or report k d → IsSaid stat outcome
+  said_at k stat outcome d within stat_is outcome_is =
       let here : IsToldAt report can.outcomes can.tells k outcome = told_at report can.outcomes can.tells k outcome d within outcome_is in
       record {
         told = here.outcome;
         is = here.is;
-        sayable = can.sayable k stat here.outcome (slice_get-get_or stats k from (let each = can.each in omega (arith, within, each)) ∙ ap Some (sym stat_is)) here.at;
+        sayable = can.sayable k stat here.outcome stat_is here.at;
       }
 
   pub said_of : (stat : Stat) (outcome : Outcome) → IsSaid stat outcome → IsSomeAnd (outcome_of outcome) (SpeaksOf (length (nodes_of rules stat)) (length schema.embeds))
@@ -55,13 +55,12 @@ module _ (schema : Schema) (rules : List Rule) (stats : List Stat) (report : Lis
   line_told k stat outcome told is = ap (λ o. decimal k ++ codes " " ++ stat_words rules stat ++ codes " " ++ unwrap_or (option_map (outcome_words schema (nodes_of rules stat)) o) [] ++ codes "\n") (sym is)
 
   -- one line more
-  pub lines_more : (told : List runs.Outcome) → Tells report told → (k : ℕ) (stat from : Stat) (outcome d : Outcome) (start text after : List ℕ) → k < length report → stat ≡ get_or stats k from → outcome ≡ get_or report k d
+  pub lines_more : (told : List runs.Outcome) → Tells report told → (k : ℕ) (stat : Stat) (outcome d : Outcome) (start text after : List ℕ) → k < length report → slice_get stats k ≡ Some stat → outcome ≡ get_or report k d
       → text ++ outcome_lines schema rules k (drop k stats) (drop k told) ≡ start → after ≡ text ++ line_text schema rules (k + 1) stat outcome
       → after ++ outcome_lines schema rules (k + 1) (drop (k + 1) stats) (drop (k + 1) told) ≡ start
-  lines_more told tells k stat from outcome d start text after within stat_is outcome_is before last =
-      let each = can.each in
+  lines_more told tells k stat outcome d start text after within stat_is outcome_is before last =
       let here : IsToldAt report told tells k outcome = told_at report told tells k outcome d within outcome_is in
-      let first : drop k stats ≡ stat ∷ drop (k + 1) stats = drop_more stats k from (omega (arith, within, each)) ∙ ap (λ l. l ∷ drop (k + 1) stats) (sym stat_is) in
+      let first : drop k stats ≡ stat ∷ drop (k + 1) stats = behind stats k stat stat_is in
       let rest = outcome_lines schema rules (k + 1) (drop (k + 1) stats) (drop (k + 1) told) in
       let one : outcome_lines schema rules k (drop k stats) (drop k told) ≡ line_text schema rules (k + 1) stat outcome ++ rest =
       ap₂ (outcome_lines schema rules k) first (behind told k here.outcome here.at) ∙ ap (λ bytes. bytes ++ rest) (line_told (k + 1) stat outcome here.outcome here.is) in
@@ -75,7 +74,7 @@ sum_on xs x = let last : 0 + x ≡ x = omega arith in sum_by-append (λ (n : ℕ
 -- one line more of a sum over what is told
 pub sum_more : (told : List runs.Outcome) (f : runs.Outcome → ℕ) (k : ℕ) (outcome : runs.Outcome) → slice_get told k ≡ Some outcome → sum (map f (take (k + 1) told)) ≡ sum (map f (take k told)) + f outcome
 sum_more told f k outcome at =
-    ap (λ os. sum (map f os)) (take_more told k outcome (slice_get_within told k outcome at) ∙ ap (λ o. take k told ++ o ∷ []) (get_or_from_slice_get told k outcome outcome at))
+    ap (λ os. sum (map f os)) (last_taken told k outcome at)
     ∙ ap sum (map-append f (take k told) (outcome ∷ [])) ∙ sum_on (map f (take k told)) (f outcome)
 
 -- so many of the first lines are done

@@ -1,9 +1,7 @@
 -- Where a run stands in the code, and what is known of a statement that it ran.
 use Rattle.std.specs.Prelude.{◌≡◌, ℕ, ◌+◌, ◌≤◌, true, false, List, Option, None, Some}
-use Rattle.gm_model.specs.declared.script.Line.{Line}
-use Rattle.gm_model.specs.declared.script.Stat.{Stat}
-use Rattle.gm_model.specs.declared.script.Stat.TheVariants as statements
-use Rattle.gm_model.specs.declared.value.Value.{Value}
+use Rattle.gm_model.specs.Statements.{Line, Stat}
+use Rattle.gm_model.specs.Statements as statements
 use Rattle.gm_model.specs.Applications.{Cause}
 use Rattle.gm_model.specs.Budgets.{Bounds, Entries, HasBounds, IsLineBudget, entered}
 use Rattle.gm_model.specs.Histories.{Group, History, done_at}
@@ -87,9 +85,6 @@ pub record IsStopped (rules : List Rule) (state : State) (stat : Stat) (after : 
   pub most : (other end : State) (entries behind : Entries) (outcome : runs.Outcome) (bounds : Bounds) → AreAlikeStates other state → IsStep rules other stat outcome end → HasBounds rules other entries stat outcome bounds behind → steps ≤ start + bounds.most
 
 -- ---- an application
-
-abbrev pub line_of : ℕ → List ℕ → List Value → Line
-line_of rule hooks params = record { rule = rule; hooks = hooks; params = params }
 
 -- The line took the map from one to another, as its outcome tells, within whatever budget it has, and with a step for each dart that it changed.
 pub data HasLine (rules : List Rule) (before : Map) (line : Line) (after : Map) (start steps : ℕ) : Outcome → Type 0 where

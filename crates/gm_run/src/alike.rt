@@ -1,7 +1,7 @@
 //! What an application and a run do over maps that are alike: laws over the definitions alone.
 ghost use Rattle.std.specs.Prelude.{◌≡◌, ℕ, false, List, All};
 ghost use Rattle.gm_model.specs.declared.schema.Schema.{Schema};
-ghost use Rattle.gm_model.specs.declared.script.Stat.{Stat};
+ghost use Rattle.gm_model.specs.Statements.{Stat};
 ghost use Rattle.gm_model.specs.Acceptance.{IsAccepted};
 ghost use Rattle.gm_model.specs.Applications.{Application, IsDone};
 ghost use Rattle.gm_model.specs.Budgets.{Bounds, no_entries, IsRunWithin};

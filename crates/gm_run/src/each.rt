@@ -1,6 +1,6 @@
 //! An `each`: the rule applied once for each orbit.
 ghost use Rattle.std.specs.Prelude.{◌≡◌, ◌+◌, ◌≤◌, ℕ, IfOk, List, MatchResult, ◌<◌, ◌^◌, length};
-ghost use Rattle.gm_model.specs.declared.script.Stat.TheVariants as statements;
+ghost use Rattle.gm_model.specs.Statements as statements;
 ghost use Rattle.gm_model.specs.Budgets.{Entries, IsLineBudget};
 ghost use Rattle.gm_model.specs.Histories as definition;
 ghost use Rattle.gm_model.specs.Histories.{begun_at};
@@ -19,7 +19,7 @@ use crate::outcome::Outcome;
 use crate::standing::Standing;
 use gm_arena::{Arena, Steps};
 use gm_each::leads;
-use gm_model::{MOST_DARTS, Mask, OutOfMemory, Value};
+use gm_model::{LineRef, MOST_DARTS, Mask, OutOfMemory, Value};
 use gm_plan::Plan;
 use std::alloc::Global;
 use std::sync::ledger::Ledger;
@@ -166,6 +166,11 @@ fn take_turn<L: Ledger>(
     if arena.slot_of(lead, steps).is_none() {
         return Ok(None);
     }
-    let outcome = apply_rule(alloc, plans, rule, &[lead], params, arena, standing, steps)?;
+    let line = LineRef {
+        rule,
+        hooks: &[lead],
+        params,
+    };
+    let outcome = apply_rule(alloc, plans, line, arena, standing, steps)?;
     Ok(Some(outcome))
 }

@@ -1,6 +1,7 @@
 //! Applications that lines of a script ask for.
 ghost use Rattle.std.specs.Prelude.{◌≡◌, ◌≢◌, ◌+◌, ◌<◌, ◌≤◌, ℕ, IfOk, List, MatchResult, length};
-ghost use Rattle.gm_model.specs.declared.script.Stat.TheVariants as statements;
+ghost use Rattle.gm_model.specs.Statements as statements;
+ghost use Rattle.gm_model.specs.Statements.{line_of};
 ghost use Rattle.gm_model.specs.Budgets.{Entries, IsLineBudget};
 ghost use Rattle.gm_model.specs.Histories as definition;
 ghost use Rattle.gm_model.specs.Maps.{IsSound};
@@ -12,13 +13,13 @@ ghost use Rattle.gm_theory.specs.Outcomes.{IsGoodLine};
 ghost use Rattle.gm_theory.specs.Suited.{IsRuleOf};
 ghost use Rattle.gm_run.specs.declared.outcome.Outcome.TheVariants as outcomes;
 ghost use Rattle.gm_run.specs.Progress.{rules_of, ArePlansFor};
-ghost use Rattle.gm_run.specs.Standing.{StandsAt, HasStep, HasLine, IsStopped, IsUnapplied, MayGoBack, Remembers, entered_by, group_behind, line_of, told_behind};
+ghost use Rattle.gm_run.specs.Standing.{StandsAt, HasStep, HasLine, IsStopped, IsUnapplied, MayGoBack, Remembers, entered_by, group_behind, told_behind};
 
 use crate::outcome::Outcome;
 use crate::standing::{Open, Standing};
 use gm_apply::Refusal;
 use gm_arena::{Arena, Steps};
-use gm_model::{Line, MOST_DARTS, OutOfMemory, Value};
+use gm_model::{LineRef, MOST_DARTS, OutOfMemory};
 use gm_plan::Plan;
 use std::alloc::Global;
 use std::sync::ledger::Ledger;
@@ -28,20 +29,20 @@ use std::sync::ledger::Ledger;
 pub(crate) fn run_line<L: Ledger>(
     alloc: Global,
     plans: &[Plan<'_>],
-    line: &Line,
+    line: LineRef<'_>,
     arena: &mut Arena,
     standing: &mut Standing,
     steps: &mut Steps<L>,
 ) -> Result<Outcome, OutOfMemory>
     requires sound { IsSound (as_map arena.old) }
     requires plans { ArePlansFor arena.old.schema plans.now }
-    requires good { IsGoodLine (rules_of plans.now) line.now }
+    requires good { IsGoodLine (rules_of plans.now) (line_of line) }
     requires stands { (state : State) × (entries : Entries) × StandsAt standing.old arena.old state entries }
     ensures step { (state : State) (entries : Entries) → StandsAt standing.old arena.old state entries → MatchResult result
-        (λ outcome. HasStep (rules_of plans.now) state entries (statements.Apply line.now) outcome standing.new arena.new steps.old steps.new)
-        (λ _. IsStopped (rules_of plans.now) state (statements.Apply line.now) (as_map arena.new) steps.old steps.new) }
+        (λ outcome. HasStep (rules_of plans.now) state entries (statements.Apply (line_of line.entry)) outcome standing.new arena.new steps.old steps.new)
+        (λ _. IsStopped (rules_of plans.now) state (statements.Apply (line_of line.entry)) (as_map arena.new) steps.old steps.new) }
     ensures keeps { standing.new.keeps ≡ standing.old.keeps }
-    ensures rule { IsRuleOf arena.old.schema (rules_of plans.now) line.now.rule }
+    ensures rule { IsRuleOf arena.old.schema (rules_of plans.now) line.entry.rule }
     ensures sound { IsSound (as_map arena.new) }
     ensures schema { arena.new.schema ≡ arena.old.schema }
     ensures spare_stays { arena.old.count + arena.old.spare ≤ arena.new.count + arena.new.spare }
@@ -51,11 +52,7 @@ pub(crate) fn run_line<L: Ledger>(
     if standing.group.is_broken() {
         return Ok(Outcome::Skipped);
     }
-    let hooks = line.hooks.as_slice();
-    let params = line.params.as_slice();
-    let outcome = apply_rule(
-        alloc, plans, line.rule, hooks, params, arena, standing, steps,
-    )?;
+    let outcome = apply_rule(alloc, plans, line, arena, standing, steps)?;
     standing.group = behind(outcome, standing.group);
     Ok(outcome)
 }
@@ -70,27 +67,25 @@ fn behind(outcome: Outcome, group: Open) -> Open
     }
 }
 
-/// Applies the rule of this number to the map.
+/// Applies the line's rule to the map.
 pub(crate) fn apply_rule<L: Ledger>(
     alloc: Global,
     plans: &[Plan<'_>],
-    rule: u16,
-    hooks: &[u32],
-    params: &[Value],
+    line: LineRef<'_>,
     arena: &mut Arena,
     standing: &mut Standing,
     steps: &mut Steps<L>,
 ) -> Result<Outcome, OutOfMemory>
     requires sound { IsSound (as_map arena.old) }
     requires plans { ArePlansFor arena.old.schema plans.now }
-    requires good { IsGoodLine (rules_of plans.now) (line_of rule hooks.now params.now) }
+    requires good { IsGoodLine (rules_of plans.now) (line_of line) }
     requires stands { (told : definition.History) × Remembers standing.old arena.old told }
     ensures line { MatchResult result
-        (HasLine (rules_of plans.now) (as_map arena.old) (line_of rule hooks.now params.now) (as_map arena.new) steps.old steps.new)
-        (λ _. IsUnapplied (rules_of plans.now) (as_map arena.old) (line_of rule hooks.now params.now) (as_map arena.new) steps.old steps.new) }
+        (HasLine (rules_of plans.now) (as_map arena.old) (line_of line.entry) (as_map arena.new) steps.old steps.new)
+        (λ _. IsUnapplied (rules_of plans.now) (as_map arena.old) (line_of line.entry) (as_map arena.new) steps.old steps.new) }
     ensures history { (told : definition.History) → Remembers standing.old arena.old told → IfOk result (λ outcome. Remembers standing.new arena.new (told_behind outcome (as_map arena.old) told)) }
     ensures entries { (told : definition.History) (entries : Entries) (most : ℕ) → Remembers standing.old arena.old told → MayGoBack standing.old arena.old.schema.dim entries
-        → IsLineBudget (rules_of plans.now) (as_map arena.old) (line_of rule hooks.now params.now) most → IfOk result (λ outcome. MayGoBack standing.new arena.new.schema.dim (entered_by outcome told.group most entries)) }
+        → IsLineBudget (rules_of plans.now) (as_map arena.old) (line_of line.entry) most → IfOk result (λ outcome. MayGoBack standing.new arena.new.schema.dim (entered_by outcome told.group most entries)) }
     ensures keeps { standing.new.keeps ≡ standing.old.keeps }
     ensures group { standing.new.group ≡ standing.old.group }
     ensures sound { IsSound (as_map arena.new) }
@@ -98,9 +93,9 @@ pub(crate) fn apply_rule<L: Ledger>(
     ensures spare_stays { arena.old.count + arena.old.spare ≤ arena.new.count + arena.new.spare }
     ensures reserved_stays { arena.old.reserved ≤ arena.new.reserved }
 {
-    let plan = &plans[rule as usize];
-    prove!(plan.hooks() as usize == hooks.len());
-    match standing.apply(alloc, plan, arena, hooks, params, steps) {
+    let plan = &plans[line.rule as usize];
+    prove!(plan.hooks() as usize == line.hooks.len());
+    match standing.apply(alloc, plan, arena, line.hooks, line.params, steps) {
         Ok(applied) => Ok(Outcome::Done(applied)),
         Err(refusal) => refused(refusal),
     }

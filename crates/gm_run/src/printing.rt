@@ -4,6 +4,7 @@ ghost use Rattle.std.specs.List.{count_by};
 ghost use Rattle.gm_model.specs.Reports.{report_text, outcome_lines, counts_line, done_in, refused_in, nodes_of, stat_words};
 ghost use Rattle.gm_model.specs.Rules.{node_of, rule_of};
 ghost use Rattle.gm_model.specs.Runs.{is_done};
+ghost use Rattle.gm_model.specs.Statements.{stat_of};
 ghost use Rattle.gm_model.specs.Runs as runs;
 ghost use Rattle.gm_run.specs.Lines.{outcome_of, Tells};
 ghost use Rattle.gm_run.specs.Printing.{CanBePrinted, IsNamed, SpeaksOf, line_text};
@@ -11,7 +12,7 @@ ghost use Rattle.gm_run.specs.Printing.{CanBePrinted, IsNamed, SpeaksOf, line_te
 use crate::done_line::put_done_line;
 use crate::outcome::{Outcome, Report};
 use crate::words::{put_number, put_outcome};
-use gm_model::{Book, Node, OutOfMemory, RuleTable, Script, Stat};
+use gm_model::{Book, Node, OutOfMemory, RuleTable, Script, StatRef};
 use gm_text::Text;
 use itoa::Buffer;
 use std::alloc::Global;
@@ -34,7 +35,7 @@ pub fn print_report(
     // Room at once, so that a long report isn't copied as it grows.
     let room = (outcomes.len() + 1).saturating_mul(LINE_BYTES);
     let mut text = Text::with_room(alloc, room)?;
-    put_lines(&mut text, book, script.stats.as_slice(), outcomes)?;
+    put_lines(&mut text, book, script, outcomes)?;
     put_counts(&mut text, outcomes, report.darts, report.next)?;
     Ok(text.into_bytes())
 }
@@ -42,14 +43,14 @@ pub fn print_report(
 fn put_lines(
     text: &mut Text,
     book: &Book,
-    stats: &[Stat],
+    script: &Script,
     outcomes: &[Outcome],
 ) -> Result<(), OutOfMemory>
-    requires { CanBePrinted book.now.schema (map rule_of book.now.rules) stats.now outcomes.now }
-    ensures { (told : List runs.Outcome) → Tells outcomes.now told → OnOk result (text.new ≡ text.old ++ outcome_lines book.now.schema (map rule_of book.now.rules) 0 stats.now told) }
+    requires { CanBePrinted book.now.schema (map rule_of book.now.rules) script.now.stats outcomes.now }
+    ensures { (told : List runs.Outcome) → Tells outcomes.now told → OnOk result (text.new ≡ text.old ++ outcome_lines book.now.schema (map rule_of book.now.rules) 0 script.now.stats told) }
 {
     for (index, outcome) in outcomes.iter().enumerate() {
-        put_line(text, book, index + 1, &stats[index], *outcome)?;
+        put_line(text, book, index + 1, script.get(index), *outcome)?;
     }
     Ok(())
 }
@@ -58,15 +59,15 @@ fn put_line(
     text: &mut Text,
     book: &Book,
     number: usize,
-    stat: &Stat,
+    stat: StatRef<'_>,
     outcome: Outcome,
 ) -> Result<(), OutOfMemory>
-    requires named { IsNamed (length book.now.rules) stat.now }
-    requires speaks { IsSomeAnd (outcome_of outcome) (SpeaksOf (length (nodes_of (map rule_of book.now.rules) stat.now)) (length book.now.schema.embeds)) }
-    ensures { OnOk result (text.new ≡ text.old ++ line_text book.now.schema (map rule_of book.now.rules) number stat.now outcome) }
+    requires named { IsNamed (length book.now.rules) (stat_of stat) }
+    requires speaks { IsSomeAnd (outcome_of outcome) (SpeaksOf (length (nodes_of (map rule_of book.now.rules) (stat_of stat))) (length book.now.schema.embeds)) }
+    ensures { OnOk result (text.new ≡ text.old ++ line_text book.now.schema (map rule_of book.now.rules) number (stat_of stat.entry) outcome) }
 {
     let rules = book.rules.as_slice();
-    if let (Stat::Apply(line), Outcome::Done(applied)) = (stat, outcome) {
+    if let (StatRef::Apply(line), Outcome::Done(applied)) = (stat, outcome) {
         let name = rules[line.rule as usize].name.bytes();
         return put_done_line(text, number, name, applied);
     }
@@ -79,30 +80,30 @@ fn put_line(
 }
 
 /// Appends what the statement is, with the name of its rule where it has one.
-fn put_stat(text: &mut Text, rules: &[RuleTable], stat: &Stat) -> Result<(), OutOfMemory>
-    requires { IsNamed (length rules.now) stat.now }
-    ensures { OnOk result (text.new ≡ text.old ++ stat_words (map rule_of rules.now) stat.now) }
+fn put_stat(text: &mut Text, rules: &[RuleTable], stat: StatRef<'_>) -> Result<(), OutOfMemory>
+    requires { IsNamed (length rules.now) (stat_of stat) }
+    ensures { OnOk result (text.new ≡ text.old ++ stat_words (map rule_of rules.now) (stat_of stat.entry)) }
 {
     match stat {
-        Stat::Apply(line) => text.put(rules[line.rule as usize].name.bytes()),
-        Stat::Undo => text.put(b"undo"),
-        Stat::Redo => text.put(b"redo"),
-        Stat::Group => text.put(b"group"),
-        Stat::End => text.put(b"end"),
-        Stat::Each { rule, .. } => {
+        StatRef::Apply(line) => text.put(rules[line.rule as usize].name.bytes()),
+        StatRef::Undo => text.put(b"undo"),
+        StatRef::Redo => text.put(b"redo"),
+        StatRef::Group => text.put(b"group"),
+        StatRef::End => text.put(b"end"),
+        StatRef::Each { rule, .. } => {
             text.put(b"each ")?;
-            text.put(rules[*rule as usize].name.bytes())
+            text.put(rules[rule as usize].name.bytes())
         }
     }
 }
 
 /// The nodes that the outcome of the statement can speak of.
-fn nodes_at<'a>(rules: &'a [RuleTable], stat: &Stat) -> &'a [Node]
-    requires { IsNamed (length rules.now) stat.now }
-    ensures { map node_of result.now ≡ nodes_of (map rule_of rules.now) stat.now }
+fn nodes_at<'a>(rules: &'a [RuleTable], stat: StatRef<'_>) -> &'a [Node]
+    requires { IsNamed (length rules.now) (stat_of stat) }
+    ensures { map node_of result.now ≡ nodes_of (map rule_of rules.now) (stat_of stat.entry) }
 {
     match stat {
-        Stat::Apply(line) => rules[line.rule as usize].nodes.as_slice(),
+        StatRef::Apply(line) => rules[line.rule as usize].nodes.as_slice(),
         _ => &[],
     }
 }

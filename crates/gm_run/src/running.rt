@@ -1,6 +1,6 @@
 //! A run: the statements of a script, one after another.
 ghost use Rattle.std.specs.Prelude.{◌≡◌, ℕ, ◌+◌, ◌<◌, ◌≤◌, true, false, All, IfOk, IfErr, List, MatchResult, Some, slice_get};
-ghost use Rattle.gm_model.specs.declared.script.Stat.{Stat};
+ghost use Rattle.gm_model.specs.Statements.{Stat, stat_of};
 ghost use Rattle.gm_model.specs.Budgets.{Bounds, Entries, no_entries, IsRunWithin};
 ghost use Rattle.gm_model.specs.Maps.{IsDart, IsSound};
 ghost use Rattle.gm_model.specs.Orbits.{HasCount};
@@ -20,7 +20,7 @@ use crate::lines::run_line;
 use crate::outcome::{Outcome, Report};
 use crate::standing::{Open, Standing};
 use gm_arena::{Arena, Steps};
-use gm_model::{Items, MOST_DARTS, OutOfMemory, Script, Stat};
+use gm_model::{Items, MOST_DARTS, OutOfMemory, Script, StatRef};
 use gm_plan::Plan;
 use gm_undo::History;
 use gm_walk::Scratch;
@@ -64,8 +64,7 @@ pub fn run<L: Ledger>(
     ensures spare_stays { arena.old.count + arena.old.spare ≤ arena.new.count + arena.new.spare }
     ensures reserved_stays { arena.old.reserved ≤ arena.new.reserved }
 {
-    let stats = script.stats.as_slice();
-    let needing = needing(stats);
+    let needing = needing(script);
     let mut standing = Standing {
         keeps: true,
         history: History::new(alloc),
@@ -74,9 +73,11 @@ pub fn run<L: Ledger>(
     };
     // From this call it is known what an arena keeps.
     prove!(arena.count() <= MOST_DARTS);
-    let mut outcomes = Vec::with_capacity(alloc, stats.len())?;
-    for stat in stats {
-        standing.keeps = outcomes.len() < needing;
+    let count = script.len();
+    let mut outcomes = Vec::with_capacity(alloc, count)?;
+    for index in 0..count {
+        standing.keeps = index < needing;
+        let stat = script.get(index);
         let outcome = stat_outcome(alloc, plans, stat, arena, &mut standing, steps)?;
         outcomes.push_reserved(outcome);
     }
@@ -89,11 +90,11 @@ pub fn run<L: Ledger>(
 
 /// So many statements there are up to the last one that needs what is kept of those before it. The
 /// applications behind it needn't be kept.
-fn needing(stats: &[Stat]) -> usize
-    ensures { (k : ℕ) (stat : Stat) → slice_get stats.now k ≡ Some stat → NeedsHistory stat → k < result }
+fn needing(script: &Script) -> usize
+    ensures { (k : ℕ) (stat : Stat) → slice_get script.now.stats k ≡ Some stat → NeedsHistory stat → k < result }
 {
-    for index in (0..stats.len()).rev() {
-        if needs_history(&stats[index]) {
+    for index in (0..script.len()).rev() {
+        if needs_history(script.get(index)) {
             return index + 1;
         }
     }
@@ -101,12 +102,12 @@ fn needing(stats: &[Stat]) -> usize
 }
 
 /// Whether the statement goes back or on, or stands for that at the end of its group.
-fn needs_history(stat: &Stat) -> bool
-    ensures { result ≡ false → NeedsHistory stat.now → ⊥ }
+fn needs_history(stat: StatRef<'_>) -> bool
+    ensures { result ≡ false → NeedsHistory (stat_of stat.entry) → ⊥ }
 {
     match stat {
-        Stat::Apply(_) | Stat::Each { .. } => false,
-        Stat::Undo | Stat::Redo | Stat::Group | Stat::End => true,
+        StatRef::Apply(_) | StatRef::Each { .. } => false,
+        StatRef::Undo | StatRef::Redo | StatRef::Group | StatRef::End => true,
     }
 }
 
@@ -114,36 +115,35 @@ fn needs_history(stat: &Stat) -> bool
 fn stat_outcome<L: Ledger>(
     alloc: Global,
     plans: &[Plan<'_>],
-    stat: &Stat,
+    stat: StatRef<'_>,
     arena: &mut Arena,
     standing: &mut Standing,
     steps: &mut Steps<L>,
 ) -> Result<Outcome, OutOfMemory>
     requires sound { IsSound (as_map arena.old) }
     requires plans { ArePlansFor arena.old.schema plans.now }
-    requires good { IsGoodStat (rules_of plans.now) arena.old.schema.dim stat.now }
+    requires good { IsGoodStat (rules_of plans.now) arena.old.schema.dim (stat_of stat) }
     requires stands { (state : State) × (entries : Entries) × StandsAt standing.old arena.old state entries }
-    requires allowed { IsAllowed standing.old.group stat.now }
-    requires needs { NeedsHistory stat.now → standing.old.keeps ≡ true }
+    requires allowed { IsAllowed standing.old.group (stat_of stat) }
+    requires needs { NeedsHistory (stat_of stat) → standing.old.keeps ≡ true }
     ensures step { (state : State) (entries : Entries) → StandsAt standing.old arena.old state entries → MatchResult result
-        (λ outcome. HasStep (rules_of plans.now) state entries stat.now outcome standing.new arena.new steps.old steps.new)
-        (λ _. IsStopped (rules_of plans.now) state stat.now (as_map arena.new) steps.old steps.new) }
+        (λ outcome. HasStep (rules_of plans.now) state entries (stat_of stat.entry) outcome standing.new arena.new steps.old steps.new)
+        (λ _. IsStopped (rules_of plans.now) state (stat_of stat.entry) (as_map arena.new) steps.old steps.new) }
     ensures keeps { standing.new.keeps ≡ standing.old.keeps }
-    ensures suited { IsSuited arena.old.schema (rules_of plans.now) stat.now }
+    ensures suited { IsSuited arena.old.schema (rules_of plans.now) (stat_of stat.entry) }
     ensures sound { IsSound (as_map arena.new) }
     ensures schema { arena.new.schema ≡ arena.old.schema }
     ensures spare_stays { arena.old.count + arena.old.spare ≤ arena.new.count + arena.new.spare }
     ensures reserved_stays { arena.old.reserved ≤ arena.new.reserved }
 {
     match stat {
-        Stat::Apply(line) => run_line(alloc, plans, line, arena, standing, steps),
-        Stat::Undo => Ok(standing.undo(arena, steps)),
-        Stat::Redo => Ok(standing.redo(arena, steps)),
-        Stat::Group => Ok(standing.begin(arena)),
-        Stat::End => Ok(standing.end(arena, steps)),
-        Stat::Each { mask, rule, params } => {
-            let params = params.as_slice();
-            run_each(alloc, plans, *mask, *rule, params, arena, standing, steps)
+        StatRef::Apply(line) => run_line(alloc, plans, line, arena, standing, steps),
+        StatRef::Undo => Ok(standing.undo(arena, steps)),
+        StatRef::Redo => Ok(standing.redo(arena, steps)),
+        StatRef::Group => Ok(standing.begin(arena)),
+        StatRef::End => Ok(standing.end(arena, steps)),
+        StatRef::Each { mask, rule, params } => {
+            run_each(alloc, plans, mask, rule, params, arena, standing, steps)
         }
     }
 }

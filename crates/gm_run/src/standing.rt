@@ -1,6 +1,6 @@
 //! Where a run stands, and the statements that change no more of the map than to lead it back or on.
 ghost use Rattle.std.specs.Prelude.{◌≡◌, ◌≢◌, ◌+◌, ◌≤◌, ℕ, true, false, List, None, Some, IfOk, MatchResult, length};
-ghost use Rattle.gm_model.specs.declared.script.Stat.TheVariants as statements;
+ghost use Rattle.gm_model.specs.Statements as statements;
 ghost use Rattle.gm_model.specs.Applications.{IsBudget, IsDone};
 ghost use Rattle.gm_model.specs.Budgets.{Entries, entered, group_entered};
 ghost use Rattle.gm_model.specs.Histories as definition;

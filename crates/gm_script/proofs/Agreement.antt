@@ -1,32 +1,31 @@
 -- A script that a text stands for is in an order that scripts have, and each statement agrees with the book.
-use Rattle.std.proofs.Common.{◌≡◌, ℕ, zero, suc, ◌+◌, ◌<◌, ◌≤◌, ◌⊎◌, Bool, true, false, cond, ℤ, pos, negsuc, FitsSigned, w64, List, [], ◌∷◌, ◌++◌, length, map, Option, Some, None, slice_get, refl, sym, ap, subst, ◌∙◌, inl, inr, arith, codes}
+use Rattle.std.proofs.Common.{◌≡◌, ℕ, zero, suc, ◌+◌, ◌<◌, ◌≤◌, Bool, true, false, cond, ℤ, pos, negsuc, FitsSigned, w64, List, [], ◌∷◌, ◌++◌, length, map, Some, None, refl, ap, subst, ◌∙◌, arith, codes}
 use Rattle.std.specs.Prelude.{IsTrue, ◌&&◌, nat_lt, nat_abs, int_le}
 use Rattle.std.specs.List.{AllByRecursion, AllZip}
 use Rattle.std.proofs.lemmas.Bool.Decides.{nat_tests}
 use Rattle.std.proofs.lemmas.Bool.{and_parts}
 use Rattle.std.proofs.lemmas.Option.{same_Some}
-use Rattle.gm_model.specs.declared.limit.LimitKind.{LimitKind}
 use Rattle.gm_model.specs.declared.limit.LimitKind.TheVariants as limits
 use Rattle.gm_model.specs.declared.rule.Param.{Param}
-use Rattle.gm_model.specs.declared.script.Stat.{Stat}
-use Rattle.gm_model.specs.declared.script.Stat.TheVariants as statements
+use Rattle.gm_model.specs.Statements.{Stat}
+use Rattle.gm_model.specs.Statements as statements
 use Rattle.gm_model.specs.declared.value.Kind.{Kind}
 use Rattle.gm_model.specs.declared.value.Kind.TheVariants as kinds
 use Rattle.gm_model.specs.declared.value.Value.{Value}
 use Rattle.gm_model.specs.declared.value.Value.TheVariants as values
 use Rattle.gm_model.specs.declared.word.Mask.{Mask}
-use Rattle.gm_model.specs.Kinds.{AreGoodParams, param_kinds}
+use Rattle.gm_model.specs.Kinds.{param_kinds}
 use Rattle.gm_model.specs.Labels.{has}
-use Rattle.gm_model.specs.Reading.{Part, IsWithin, word, number, sign, the_end}
+use Rattle.gm_model.specs.Reading.{Part, word, number, sign, the_end}
 use Rattle.gm_model.specs.Rules.{Rule}
 use Rattle.gm_model.specs.Runs.{AreInOrder}
-use Rattle.gm_model.specs.Symbols.{Symbol, Numeral}
+use Rattle.gm_model.specs.Symbols.{Numeral}
 use Rattle.gm_model.specs.Values.{IsValueOf}
-use Rattle.gm_text.specs.SchemaText.{Passed, LimitOf, Again, no_labels, with_label, passed_by}
+use Rattle.gm_text.specs.SchemaText.{no_labels, with_label, passed_by}
 use Rattle.gm_text.specs.ValueText.{Signed, integer, greatest, is_channel}
 use Rattle.gm_text.proofs.SchemaSound.{IsLow, low_none, low_more, nothing_passed}
-use Rattle.gm_script.specs.Agreement.{Takes, Agrees}
-use Rattle.gm_script.specs.ScriptText.{ValueForm, Plain, Truth, Pair, Triple, StatForm, Applies, GoesOver, Says, Undo, Redo, Group, Close, Role, Fixed, RuleAt, Hook, LabelBehind, Size, limit_of, passed_of, spell_signed, spell_value, spell_values, spell_params, spell_labels, spell_stats, IsSentence, value_as, colour, mask_of, AreParams, IsStat, AreStats, AreNested, ScriptText}
+use Rattle.gm_script.specs.Agreement.{Agrees}
+use Rattle.gm_script.specs.ScriptText.{ValueForm, Plain, Truth, Pair, Triple, StatForm, Applies, GoesOver, Says, Undo, Redo, Group, Close, Role, Fixed, RuleAt, Hook, LabelBehind, Size, limit_of, passed_of, spell_signed, spell_value, spell_values, spell_params, spell_labels, spell_stats, value_as, colour, mask_of, AreParams, IsStat, AreStats, AreNested, ScriptText}
 
 abbrev AreWithin : List (Part Role) → Type 0
 AreWithin parts = AllByRecursion (λ (part : Part Role). passed_of part.role part.symbol ≡ None) parts

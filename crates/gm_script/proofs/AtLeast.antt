@@ -2,8 +2,8 @@
 use Rattle.std.proofs.Common.{◌≡◌, ◌≢◌, ◌⊎◌, ℕ, Bool, true, false, cond, List, [], ◌∷◌, length, slice_get, Option, Some, None, Result, Ok, Err, inl, inr, refl, sym, ap, subst, ◌∙◌}
 use Rattle.std.proofs.lemmas.Bool.{cases_eq}
 use Rattle.gm_model.specs.declared.rule.Param.{Param}
-use Rattle.gm_model.specs.declared.script.Stat.{Stat}
-use Rattle.gm_model.specs.declared.script.Stat.TheVariants as statements
+use Rattle.gm_model.specs.Statements.{Stat}
+use Rattle.gm_model.specs.Statements as statements
 use Rattle.gm_model.specs.declared.value.Value.{Value}
 use Rattle.gm_model.specs.Names.{Mention}
 use Rattle.gm_model.specs.Reading.{Part, ArePlaced, IsReadAs, IsWithin, symbols_in}

@@ -3,15 +3,12 @@ use Rattle.std.proofs.Common.{◌≡◌, ℕ, zero, suc, ◌<◌, Bool, true, fa
 use Rattle.std.proofs.lemmas.Bool.{eqb-true, eqb-false}
 use Rattle.std.specs.Option.{option_map, option_and_then}
 use Rattle.gm_model.specs.declared.rule.Param.{Param}
-use Rattle.gm_model.specs.declared.script.Stat.{Stat}
+use Rattle.gm_model.specs.Statements.{Stat}
 use Rattle.gm_model.specs.declared.value.Kind.{Kind}
 use Rattle.gm_model.specs.declared.value.Kind.TheVariants as kinds
 use Rattle.gm_model.specs.declared.value.Value.{Value}
 use Rattle.gm_model.specs.Rules.{Rule}
-use Rattle.gm_model.specs.Names.{Mention}
-use Rattle.gm_model.specs.Tokens.{bytes_of}
-use Rattle.gm_text.specs.SchemaText.{no_labels}
-use Rattle.gm_script.specs.ScriptText.{ValueForm, Plain, Truth, Pair, Triple, StatForm, value_as, index_of, mask_of, AreParams, IsOfRule, IsStat, AreStats, Disagreement, HookCountAt, DisagreesAt, Disagrees, UnknownRule, HookCount, Params}
+use Rattle.gm_script.specs.ScriptText.{ValueForm, Plain, Truth, Pair, Triple, StatForm, value_as, index_of, AreParams, IsOfRule, IsStat, AreStats, Disagreement, HookCountAt, DisagreesAt, Disagrees, UnknownRule, HookCount, Params}
 use Rattle.gm_script.specs.Comparing.{value_for, params_for, hooks_by, hooks_in, stat_of, stat_with, stat_of_rule, stat_at, named_stat, stat_by, stat_for, stats_for, ◌>>=◌}
 use Rattle.gm_script.specs.Reading.{HeldStat}
 use Rattle.gm_script.specs.declared.sight.Head.{Head}

@@ -2,7 +2,6 @@
 use Rattle.std.specs.Prelude.{◌≡◌, ℕ, List, [], ◌∷◌, map}
 use Rattle.gm_model.specs.declared.value.Value.{Value}
 use Rattle.gm_model.specs.declared.value.Value.TheVariants as values
-use Rattle.gm_model.specs.Names.{Mention}
 use Rattle.gm_model.specs.Tokens.{bytes_of}
 use Rattle.gm_text.specs.SchemaText.{no_labels}
 use Rattle.gm_text.specs.ValueText.{integer}

@@ -1,7 +1,7 @@
 -- A name, and hooks that are read as small numbers: the same is read on behind each.
 use Rattle.std.proofs.Common.{◌≡◌, ℕ, ◌^◌, ◌<◌, List, Result, Ok, Err, refl, sym, ap, subst, ◌∙◌, arith}
 use Rattle.gm_model.specs.Rules.{Rule}
-use Rattle.gm_model.specs.declared.script.Stat.{Stat}
+use Rattle.gm_model.specs.Statements.{Stat}
 use Rattle.gm_model.specs.declared.token.Token.{Token}
 use Rattle.gm_text.specs.Cursor.{Cursor}
 use Rattle.gm_text.specs.Lexing.{rest_of, IsNumberRead}

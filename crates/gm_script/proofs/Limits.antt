@@ -1,5 +1,5 @@
 -- What the reader tests is what the symbol passes in its role.
-use Rattle.std.proofs.Common.{◌≡◌, ℕ, ◌+◌, ◌-◌, ◌^◌, ◌<◌, ◌≤◌, ◌⊎◌, min, Bool, true, false, cond, List, length, Option, Some, None, refl, sym, ap, subst, ◌∙◌, inl, inr, arith, codes}
+use Rattle.std.proofs.Common.{◌≡◌, ℕ, ◌+◌, ◌-◌, ◌^◌, ◌<◌, ◌≤◌, min, Bool, true, false, cond, List, length, Option, Some, None, refl, subst, inl, inr, arith}
 use Rattle.std.specs.Prelude.{nat_le, nat_lt}
 use Rattle.std.proofs.lemmas.Bool.{cases_lt}
 use Rattle.std.proofs.lemmas.Bool.Decides.{nat_tests}
@@ -8,7 +8,7 @@ use Rattle.gm_model.specs.declared.limit.LimitKind.TheVariants as limits
 use Rattle.gm_model.specs.declared.word.Mask.{Mask}
 use Rattle.gm_model.specs.Labels.{has}
 use Rattle.gm_model.specs.Symbols.{Symbol, Word, Numeral}
-use Rattle.gm_text.specs.SchemaText.{Passed, LimitOf, Again, passed_by}
+use Rattle.gm_text.specs.SchemaText.{LimitOf, Again, passed_by}
 use Rattle.gm_text.specs.ValueText.{greatest}
 use Rattle.gm_script.specs.ScriptText.{LabelBehind, passed_of}
 use Rattle.gm_script.specs.Reading.{Been, head_word, passed_in, label_passes, next_spot, next_word, next_head, sight_of, role_in}

@@ -1,7 +1,8 @@
 -- Statements that are compared as they are read: what was read and compared so far, and what that says at each end.
-use Rattle.std.proofs.Common.{◌≡◌, ℕ, ◌-◌, ◌≤◌, List, [], ◌∷◌, ◌++◌, true, false, Option, Some, None, is_some, Result, Ok, Err, IfOk, IfErr, Vec, Global, refl, sym, ap, subst, ◌∙◌, arith}
+use Rattle.std.proofs.Common.{◌≡◌, ℕ, ◌-◌, ◌≤◌, List, [], ◌∷◌, ◌++◌, true, false, Option, Some, None, is_some, Result, Ok, Err, IfOk, IfErr, refl, sym, ap, subst, ◌∙◌, arith}
 use Rattle.std.proofs.lemmas.List.{append-nil}
-use Rattle.gm_model.specs.declared.script.Stat.{Stat}
+use Rattle.gm_model.specs.declared.script.Script.{Script}
+use Rattle.gm_model.specs.Statements.{Stat}
 use Rattle.gm_model.specs.declared.token.Token.{Token}
 use Rattle.gm_model.specs.Tokens.{Item, Lexed, EndAt, items_of}
 use Rattle.gm_model.specs.Rules.{Rule}
@@ -196,13 +197,13 @@ module _ (text : List ℕ) (rules : List Rule) where
         record { low = so_far.low; helds = so_far.before ++ put_first last []; read = sym so_far.read ∙ ap (behind so_far.before) step; holds = adds so_far.before so_far.holds }
 
     module _ (compared : Result (List Stat) ScriptFault) (done : IsDone compared) where
-      pub done_script : (result : Result (Vec Stat Global) ScriptFault) → IfOk result (λ all. compared ≡ Ok all.items) → IfOk result (λ all. ScriptText text n rules all.items)
+      pub done_script : (result : Result Script ScriptFault) → IfOk result (λ all. compared ≡ Ok all.stats) → IfOk result (λ all. ScriptText text n rules all.stats)
       done_script (Ok all) e =
-          let holds : Holds text rules (Ok all.items) done.helds = rw e at done.holds in
-          script_is n text rules done.helds (stats.stats_are n done.low text done.helds done.read) all.items holds
+          let holds : Holds text rules (Ok all.stats) done.helds = rw e at done.holds in
+          script_is n text rules done.helds (stats.stats_are n done.low text done.helds done.read) all.stats holds
       done_script (Err fault) e = tt
 
-      pub done_fault : (result : Result (Vec Stat Global) ScriptFault) → IfErr result (λ fault. compared ≡ Err fault) → IfErr result (IsFaultOf text n rules)
+      pub done_fault : (result : Result Script ScriptFault) → IfErr result (λ fault. compared ≡ Err fault) → IfErr result (IsFaultOf text n rules)
       done_fault (Ok all) e = tt
       done_fault (Err fault) e =
           let holds : Holds text rules (Err fault) done.helds = rw e at done.holds in

@@ -1,15 +1,13 @@
 -- A text stands for one script at most under a book, and has one first disagreement at most with it.
-use Rattle.std.proofs.Common.{◌≡◌, ◌≢◌, ℕ, List, [], ◌∷◌, ◌++◌, length, slice_get, Option, Some, None, refl, sym, ap, subst, ◌∙◌}
+use Rattle.std.proofs.Common.{◌≡◌, ℕ, List, [], ◌∷◌, ◌++◌, length, slice_get, Some, None, refl, sym, ap, subst, ◌∙◌}
 use Rattle.std.proofs.lemmas.Option.{same_Some}
 use Rattle.gm_model.specs.declared.rule.Param.{Param}
-use Rattle.gm_model.specs.declared.script.Line.{Line}
-use Rattle.gm_model.specs.declared.script.Stat.{Stat}
-use Rattle.gm_model.specs.declared.script.Stat.TheVariants as statements
+use Rattle.gm_model.specs.Statements.{Line, Stat}
+use Rattle.gm_model.specs.Statements as statements
 use Rattle.gm_model.specs.declared.value.Value.{Value}
-use Rattle.gm_model.specs.declared.word.Mask.{Mask}
 use Rattle.gm_model.specs.Names.{Mention}
 use Rattle.gm_model.specs.Rules.{Rule}
-use Rattle.gm_script.specs.ScriptText.{ValueForm, StatForm, Applies, GoesOver, Says, Undo, Redo, Group, Close, index_of, value_as, AreParams, IsOfRule, IsLine, IsEach, IsStat, AreStats, Disagreement, UnknownRuleAt, HookCountAt, ParamsAt, DisagreesAt, Disagrees, UnknownRule, HookCount, Params, IsWritten, ScriptText, StandsForNoScript, IsFirstDisagreement}
+use Rattle.gm_script.specs.ScriptText.{ValueForm, StatForm, Applies, GoesOver, Says, Undo, Redo, Group, Close, index_of, AreParams, IsOfRule, IsStat, AreStats, Disagreement, DisagreesAt, Disagrees, UnknownRule, HookCount, Params, ScriptText, StandsForNoScript, IsFirstDisagreement}
 use Rattle.gm_script.proofs.OneForm.{one_form}
 
 -- ---- one statement

@@ -1,6 +1,6 @@
 -- What reading a script answers: the script that the text stands for, or its first fault.
 use Rattle.std.proofs.Common.{◌≡◌, ℕ, List, Ok, Err, subst}
-use Rattle.gm_model.specs.declared.script.Stat.{Stat}
+use Rattle.gm_model.specs.Statements.{Stat}
 use Rattle.gm_model.specs.Rules.{Rule}
 use Rattle.gm_script.specs.ScriptText.{IsWritten, ScriptText, Disagreement, UnknownRuleAt, HookCountAt, ParamsAt, IsFirstDisagreement}
 use Rattle.gm_script.specs.Comparing.{stats_for}

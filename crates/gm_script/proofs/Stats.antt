@@ -9,12 +9,12 @@ use Rattle.gm_model.specs.Tokens.{Item, Lexed, StrayAt, EndAt, items_of, bytes_o
 use Rattle.gm_model.specs.Symbols.{Symbol, Word, Stray, End, Mark, symbols, mark_of, symbol_of_kind, marks_of}
 use Rattle.gm_model.specs.Reading.{Part, symbols_in, IsWithin, TextEndsAt, LimitStandsAt, the_end, ArePlaced}
 use Rattle.gm_model.specs.Rules.{Rule}
-use Rattle.gm_text.specs.SchemaText.{Passed, LimitOf, Again, no_labels}
+use Rattle.gm_text.specs.SchemaText.{Passed, LimitOf, Again}
 use Rattle.gm_script.specs.ScriptText.{StatForm, Role, Fixed, passed_of, spelling, IsForm, IsSentence, IsPlacedAt}
 use Rattle.gm_text.specs.Machine as machine
 use Rattle.gm_text.specs.Machine.{run}
 use Rattle.gm_text.proofs.Machine.{run_ends, run_passes, ended_is, passing_is}
-use Rattle.gm_script.specs.Reading.{HeldStat, Held, Been, been_of, been_behind, no_been, first_state, State, At, Ended, Stop, Ends, Passes, Lost, can_end, is_whole, move, role_at, role_in, never, sight_of, next_spot, passed_in, hold, symbol_at, taken_at, finished, read_from, whole_stat, ended_by, put_first, nothing, stats_of, Fails, ◌>>=◌, IsInText}
+use Rattle.gm_script.specs.Reading.{HeldStat, Held, Been, been_of, been_behind, first_state, State, At, Ended, Stop, Ends, Passes, Lost, can_end, move, role_at, role_in, never, sight_of, next_spot, passed_in, hold, symbol_at, taken_at, finished, read_from, whole_stat, ended_by, put_first, nothing, stats_of, Fails, ◌>>=◌, IsInText}
 use Rattle.gm_script.proofs.HeldStats.{AreHeld, AreOfText}
 use Rattle.gm_script.specs.Faults.{of_text, IsFaultOf}
 use Rattle.gm_script.specs.declared.reader.TextFault.{TextFault}

@@ -1,12 +1,12 @@
 -- Each symbol that can stand next is written behind what is written so far.
-use Rattle.std.proofs.Common.{◌≡◌, ℕ, ◌+◌, ◌^◌, ◌-◌, min, Bool, true, false, List, [], ◌∷◌, ◌++◌, length, map, Option, Some, None, refl, sym, ap, subst, ◌∙◌, codes}
+use Rattle.std.proofs.Common.{◌≡◌, ℕ, ◌+◌, ◌^◌, ◌-◌, min, Bool, true, false, List, [], ◌∷◌, ◌++◌, length, Option, Some, None, refl, sym, ap, subst, ◌∙◌, codes}
 use Rattle.std.specs.List.{AllByRecursion}
 use Rattle.gm_model.specs.Names.{reserved, is_among}
 use Rattle.gm_model.specs.Symbols.{Symbol, Word, Numeral, Sign}
 use Rattle.gm_model.specs.Reading.{Part, word, number, sign, the_end}
 use Rattle.gm_text.specs.SchemaText.{no_labels, with_label}
-use Rattle.gm_script.specs.ScriptText.{ValueForm, StatForm, Plain, Truth, Pair, Triple, Role, Fixed, StatAt, RuleAt, Hook, LabelBehind, mask_of, spell_value, spell_values, spell_labels, spell_stats, spelling, IsForm, IsStatForm}
-use Rattle.gm_script.specs.Reading.{Been, head_word, sight_of, next_spot, next_word, next_head, within_behind, can_end, is_whole, been_behind, begun_behind, labelled, role_in}
+use Rattle.gm_script.specs.ScriptText.{ValueForm, StatForm, Plain, Truth, Pair, Triple, Role, Fixed, StatAt, RuleAt, LabelBehind, spell_value, spell_values, spell_labels, spell_stats, spelling, IsForm, IsStatForm}
+use Rattle.gm_script.specs.Reading.{Been, head_word, sight_of, next_spot, next_word, next_head, within_behind, can_end, is_whole, been_behind, begun_behind, role_in}
 use Rattle.gm_script.specs.declared.sight.Head.{Head}
 use Rattle.gm_script.specs.declared.sight.Head.TheVariants as heads
 use Rattle.gm_script.specs.declared.sight.Sight.{Sight}
@@ -15,7 +15,7 @@ use Rattle.gm_script.specs.declared.spot.Spot.{Spot}
 use Rattle.gm_script.specs.declared.spot.Spot.TheVariants as spots
 use Rattle.gm_script.proofs.Sights.{Seen, AsHead, AsWith, AsTrue, AsFalse, AsName, AsNumber, AsMinus, AsOpen, AsClose, AsLess, AsGreater, AsOther, seen}
 use Rattle.gm_script.proofs.Spelling.{hooks_more, labels_more, mask_more, values_more}
-use Rattle.gm_script.proofs.Drafts.{Draft, DraftStat, signed, begun, closed, named, with_value, add_head, add_number, add_vector, form_of, nest, NestsTo, spell_named, in_stat, so_far, IsBare, IsNaming, IsStatAt, IsDraft, IsMore, Goes, IsClosed, closed_at_bare, closed_at_rule, closed_at_named, closed_at_value, nests_nested, new_stat}
+use Rattle.gm_script.proofs.Drafts.{Draft, DraftStat, signed, begun, closed, named, with_value, add_head, add_number, add_vector, nest, NestsTo, spell_named, in_stat, so_far, IsBare, IsDraft, IsMore, Goes, IsClosed, closed_at_bare, closed_at_rule, closed_at_named, closed_at_value, nests_nested}
 
 -- a reserved word is none of those that begin statements
 head_free : (head : Head) → is_among reserved (head_word head) ≡ false

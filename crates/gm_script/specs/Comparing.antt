@@ -2,8 +2,8 @@
 use Rattle.std.specs.Prelude.{ℕ, ◌==◌, if◌then◌else◌, List, [], ◌∷◌, length, Option, Some, None, Result, Ok, Err, slice_get}
 use Rattle.std.specs.Option.{option_map, option_and_then}
 use Rattle.gm_model.specs.declared.rule.Param.{Param}
-use Rattle.gm_model.specs.declared.script.Stat.{Stat}
-use Rattle.gm_model.specs.declared.script.Stat.TheVariants as statements
+use Rattle.gm_model.specs.Statements.{Stat}
+use Rattle.gm_model.specs.Statements as statements
 use Rattle.gm_model.specs.declared.value.Kind.{Kind}
 use Rattle.gm_model.specs.declared.value.Kind.TheVariants as kinds
 use Rattle.gm_model.specs.declared.value.Value.{Value}
@@ -38,10 +38,14 @@ hooks_by _ held = length held.hooks
 abbrev pub hooks_in : HeldStat → ℕ
 hooks_in held = hooks_by held.head held
 
--- an `each`, or else a line
+-- what a statement is, where this is the index of its rule and these are its values: one word alone has neither
 abbrev pub stat_of : Head → HeldStat → ℕ → List Value → Stat
+stat_of heads.Apply held k params = statements.Apply (record { rule = k; hooks = held.hooks; params = params })
 stat_of heads.Each held k params = statements.Each held.labels k params
-stat_of _ held k params = statements.Apply (record { rule = k; hooks = held.hooks; params = params })
+stat_of heads.Undo held k params = statements.Undo
+stat_of heads.Redo held k params = statements.Redo
+stat_of heads.Group held k params = statements.Group
+stat_of heads.End held k params = statements.End
 
 -- what a statement of the rule is, where its values fit
 abbrev pub stat_with : HeldStat → ℕ → Option (List Value) → Result Stat Disagreement

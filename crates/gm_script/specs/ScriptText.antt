@@ -5,9 +5,8 @@ use Rattle.std.specs.Str.{bytes_eq}
 use Rattle.gm_model.specs.declared.limit.LimitKind.{LimitKind}
 use Rattle.gm_model.specs.declared.limit.LimitKind.TheVariants as limits
 use Rattle.gm_model.specs.declared.rule.Param.{Param}
-use Rattle.gm_model.specs.declared.script.Line.{Line}
-use Rattle.gm_model.specs.declared.script.Stat.{Stat}
-use Rattle.gm_model.specs.declared.script.Stat.TheVariants as statements
+use Rattle.gm_model.specs.Statements.{Line, Stat}
+use Rattle.gm_model.specs.Statements as statements
 use Rattle.gm_model.specs.declared.value.Kind.{Kind}
 use Rattle.gm_model.specs.declared.value.Kind.TheVariants as kinds
 use Rattle.gm_model.specs.declared.value.Value.{Value}

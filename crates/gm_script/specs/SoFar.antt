@@ -1,6 +1,6 @@
 -- What was read of a text so far, and the statements that were compared.
 use Rattle.std.specs.Prelude.{◌≡◌, ◌≤◌, ℕ, List, [], ◌++◌, Option, Result, Ok, Err}
-use Rattle.gm_model.specs.declared.script.Stat.{Stat}
+use Rattle.gm_model.specs.Statements.{Stat}
 use Rattle.gm_model.specs.Rules.{Rule}
 use Rattle.gm_model.specs.Tokens.{Item}
 use Rattle.gm_script.specs.Comparing.{stats_for}

@@ -1,6 +1,6 @@
 //! What a text stands for, or else which fault is its first: no text falls between the definitions.
 ghost use Rattle.std.specs.Prelude.{◌≢◌, ◌⊎◌, ℕ, List};
-ghost use Rattle.gm_model.specs.declared.script.Stat.{Stat};
+ghost use Rattle.gm_model.specs.Statements.{Stat};
 ghost use Rattle.gm_model.specs.Rules.{Rule};
 ghost use Rattle.gm_script.specs.Faults.{IsFaultOf};
 ghost use Rattle.gm_script.specs.ScriptText.{ScriptText};

@@ -1,5 +1,5 @@
 //! The statements of a text, compared with a book one after another.
-ghost use Rattle.std.specs.Prelude.{◌≡◌, ◌++◌, ◌∷◌, List, [], Some, map, OnOk, IfOk, IfErr};
+ghost use Rattle.std.specs.Prelude.{◌≡◌, ◌++◌, ◌∷◌, ℕ, List, [], Some, map, OnOk, IfOk, IfErr};
 ghost use Rattle.gm_model.specs.Rules.{rule_of};
 ghost use Rattle.gm_script.specs.Comparing as comparing;
 ghost use Rattle.gm_script.specs.Comparing.{stat_for, stats_for};
@@ -10,99 +10,71 @@ use crate::fault::ScriptFault;
 use crate::reader::{Draft, MOST_LINES};
 use crate::rules::RulesByName;
 use crate::sight::Head;
-use crate::values::params_of;
-use gm_model::{Hooks, Items, Line, RuleTable, Stat};
+use gm_model::{RuleTable, Script};
 use std::alloc::Global;
 use std::marker::Model;
-use std::mem;
 
 /// The bytes of the shortest line, `apply a`, and a blank behind it.
 const LEAST_LINE_BYTES: usize = 8;
 
-/// The statement of the rule with this index.
-fn stat_of_rule(
-    alloc: Global,
-    draft: &mut Draft,
-    index: u16,
-    rule: &RuleTable,
-) -> Result<Stat, ScriptFault>
-    ensures { Compares (λ stat. stat) result (comparing.stat_of_rule draft.old index (Some (rule_of rule.now))) }
+/// Whether the statement is one of the rule, whose parameters' kinds then have taken its values.
+fn fit_rule(draft: &mut Draft, rule: &RuleTable) -> Result<(), ScriptFault>
+    ensures { (k : ℕ) → Compares (λ _. comparing.stat_of draft.new.head draft.new k draft.new.values) result (comparing.stat_of_rule draft.old k (Some (rule_of rule.now))) }
 {
     let place = draft.place;
     if draft.hook_count() != rule.hooks.as_slice().len() {
         return Err(ScriptFault::HookCount { place });
     }
-    let values = mem::replace(&mut draft.values, Vec::new(alloc));
-    let Some(params) = params_of(values, rule.params.as_slice()) else {
+    if !draft.fit(rule.params.as_slice()) {
         return Err(ScriptFault::Params { place });
-    };
-    let params = Items::new(params);
-    Ok(match draft.head {
-        Head::Each => Stat::Each {
-            mask: draft.labels,
-            rule: index,
-            params,
-        },
-        _ => Stat::Apply(Line {
-            rule: index,
-            hooks: mem::replace(&mut draft.hooks, Hooks::new(alloc)),
-            params,
-        }),
-    })
+    }
+    Ok(())
 }
 
-fn named_stat(
-    alloc: Global,
+/// The index of the rule that the statement names, and is one of.
+fn index_of_rule(
     bytes: &[u8],
     draft: &mut Draft,
     rules: &RulesByName<'_>,
-) -> Result<Stat, ScriptFault>
+) -> Result<u16, ScriptFault>
     requires in_text { IsInText bytes.now draft.old.name }
-    ensures { Compares (λ stat. stat) result (comparing.named_stat bytes.now (map rule_of rules.now) draft.old) }
+    ensures { Compares (λ k. comparing.stat_of draft.new.head draft.new k draft.new.values) result (comparing.named_stat bytes.now (map rule_of rules.now) draft.old) }
 {
     let name = draft.name;
-    match rules.index_of(&bytes[name.start..name.end]) {
-        Some(index) => stat_of_rule(alloc, draft, index, &rules.as_slice()[index as usize]),
-        None => Err(ScriptFault::UnknownRule { place: name.start }),
-    }
+    let Some(index) = rules.index_of(&bytes[name.start..name.end]) else {
+        return Err(ScriptFault::UnknownRule { place: name.start });
+    };
+    fit_rule(draft, &rules.as_slice()[index as usize])?;
+    Ok(index)
 }
 
-/// The statement that is written, whose hooks and values are held no longer.
-fn stat_of(
-    alloc: Global,
-    bytes: &[u8],
-    draft: &mut Draft,
-    rules: &RulesByName<'_>,
-) -> Result<Stat, ScriptFault>
+/// The index of the rule that the statement names, or 0 where it is one that names none.
+fn index_for(bytes: &[u8], draft: &mut Draft, rules: &RulesByName<'_>) -> Result<u16, ScriptFault>
     requires in_text { IsInText bytes.now draft.old.name }
-    ensures { Compares (λ stat. stat) result (stat_for bytes.now (map rule_of rules.now) draft.old) }
+    ensures { Compares (λ k. comparing.stat_of draft.new.head draft.new k draft.new.values) result (stat_for bytes.now (map rule_of rules.now) draft.old) }
 {
     match draft.head {
-        Head::Undo => Ok(Stat::Undo),
-        Head::Redo => Ok(Stat::Redo),
-        Head::Group => Ok(Stat::Group),
-        Head::End => Ok(Stat::End),
-        Head::Apply | Head::Each => named_stat(alloc, bytes, draft, rules),
+        Head::Apply | Head::Each => index_of_rule(bytes, draft, rules),
+        Head::Undo | Head::Redo | Head::Group | Head::End => Ok(0),
     }
 }
 
 /// What comparing statements with a book came to so far: they themselves, or the first disagreement.
 #[derive(Drop)]
 pub(crate) struct Compared {
-    alloc: Global,
-    stats: Vec<Stat>,
+    stats: Script,
     fault: Option<ScriptFault>,
 }
 
 impl Model for Compared {
     ghost use Rattle.std.specs.Prelude.{List, Result};
-    ghost use Rattle.gm_model.specs.declared.script.Stat.{Stat};
+    ghost use Rattle.gm_model.specs.Statements.{Stat};
     ghost use Rattle.gm_script.specs.declared.fault.ScriptFault.{ScriptFault};
     ghost use Rattle.gm_script.specs.Faults.{unless};
 
     ghost Value = { Result (List Stat) ScriptFault };
 
-    ghost view = { λ compared. unless compared.fault compared.stats.items };
+    ghost view = { λ compared. unless compared.fault compared.stats.stats };
 }
 
 impl Compared {
@@ -114,13 +86,12 @@ impl Compared {
         // Behind each line but the last stands a byte at least that parts it from the next `apply`.
         let most = (length / LEAST_LINE_BYTES + 1).min(MOST_LINES);
         Ok(Compared {
-            alloc,
-            stats: Vec::with_capacity(alloc, most)?,
+            stats: Script::with_capacity(alloc, most)?,
             fault: None,
         })
     }
 
-    /// Compares a further statement, whose hooks and values are held no longer. Behind one that
+    /// Compares a further statement, whose values are then put as its rule takes them. Behind one that
     /// disagrees none is kept.
     pub(crate) fn add(
         &mut self,
@@ -136,19 +107,19 @@ impl Compared {
         if self.fault.is_some() {
             return Ok(());
         }
-        match stat_of(self.alloc, bytes, draft, rules) {
-            Ok(stat) => self.stats.push(stat)?,
+        match index_for(bytes, draft, rules) {
+            Ok(index) => self.stats.push(draft.as_stat(index))?,
             Err(fault) => self.fault = Some(fault),
         }
         Ok(())
     }
 
     /// The statements, where none disagrees.
-    pub(crate) fn finish(self) -> Result<Vec<Stat>, ScriptFault>
-        ensures stats { IfOk result (λ stats. self ≡ Ok stats.items) }
+    pub(crate) fn finish(self) -> Result<Script, ScriptFault>
+        ensures stats { IfOk result (λ script. self ≡ Ok script.stats) }
         ensures fault { IfErr result (λ fault. self ≡ Err fault) }
     {
-        let Compared { stats, fault, .. } = self;
+        let Compared { stats, fault } = self;
         match fault {
             None => Ok(stats),
             Some(fault) => Err(fault),

@@ -1,7 +1,7 @@
 ghost use Rattle.std.specs.Prelude.{◌≡◌};
 
 use crate::reader::TextFault;
-use gm_model::LimitKind;
+use gm_model::{LimitKind, OutOfMemory};
 use std::alloc::{AllocError, AllocFailed};
 use thiserror::Error;
 
@@ -49,6 +49,16 @@ impl<T: Drop> From<AllocFailed<T>> for ScriptFault {
     ghost from_gives = { λ _ fault. fault ≡ faults.OutOfMemory };
 
     fn from(_error: AllocFailed<T>) -> ScriptFault {
+        ScriptFault::OutOfMemory
+    }
+}
+
+impl From<OutOfMemory> for ScriptFault {
+    ghost use Rattle.gm_script.specs.declared.fault.ScriptFault.TheVariants as faults;
+
+    ghost from_gives = { λ _ fault. fault ≡ faults.OutOfMemory };
+
+    fn from(_error: OutOfMemory) -> ScriptFault {
         ScriptFault::OutOfMemory
     }
 }

@@ -2,7 +2,7 @@
 ghost use Rattle.std.specs.Prelude.{◌≡◌, ℕ, List, false};
 ghost use Rattle.std.specs.List.{AllByRecursion};
 ghost use Rattle.gm_model.specs.declared.limit.LimitKind.{LimitKind};
-ghost use Rattle.gm_model.specs.declared.script.Stat.{Stat};
+ghost use Rattle.gm_model.specs.Statements.{Stat};
 ghost use Rattle.gm_model.specs.Rules.{Rule};
 ghost use Rattle.gm_model.specs.Runs.{AreInOrder};
 ghost use Rattle.gm_script.specs.Agreement.{Agrees};

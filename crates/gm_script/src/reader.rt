@@ -1,7 +1,8 @@
 //! What a script says so far, as its tokens are read one after another.
-ghost use Rattle.std.specs.Prelude.{◌≡◌, ◌-◌, ◌<◌, ◌≤◌, ℕ, Some, None, IsTrue, map, OnOk, IfErr, if◌then◌else◌};
+ghost use Rattle.std.specs.Prelude.{◌≡◌, ◌-◌, ◌<◌, ◌≤◌, ℕ, Some, None, IsTrue, IsFalse, map, OnOk, IfErr, if◌then◌else◌};
 ghost use Rattle.gm_model.specs.declared.token.Token.{Token};
 ghost use Rattle.gm_model.specs.Rules.{rule_of};
+ghost use Rattle.gm_model.specs.Statements.{stat_of};
 ghost use Rattle.gm_text.specs.SchemaText.{LimitOf};
 ghost use Rattle.gm_text.specs.ValueText as numbers;
 ghost use Rattle.gm_script.specs.Comparing as comparing;
@@ -14,16 +15,13 @@ use crate::fault::ScriptFault;
 use crate::rules::RulesByName;
 use crate::sight::{Head, Sight};
 use crate::spot::Spot;
-use gm_model::{Hooks, LimitKind, MOST_NAMES, Mask, Token, Value};
+use crate::values::fit;
+use gm_model::{LimitKind, LineRef, MOST_NAMES, Mask, Param, StatRef, Token, Value};
 use gm_text::with_label;
 use std::alloc::{AllocError, AllocFailed, Global};
 use std::marker::Model;
 
 const MOST_NAME_BYTES: usize = 32;
-
-/// What the first value of a statement makes room for, since few rules have more parameters. A vector
-/// that grows by itself begins with four, which are 10 MB more for a script of as many lines as can be.
-const FIRST_VALUES: usize = 1;
 
 pub(crate) const MOST_LINES: usize = 100_000;
 
@@ -66,7 +64,7 @@ pub(crate) struct Draft {
     pub place: usize,
     pub head: Head,
     pub name: Token,
-    pub hooks: Hooks,
+    pub hooks: Vec<u32>,
     pub labels: Mask,
     pub values: Vec<Value>,
 }
@@ -76,7 +74,7 @@ impl Model for Draft {
 
     ghost Value = { HeldStat };
 
-    ghost view = { λ stat. record { place = stat.place; head = stat.head; name = stat.name; hooks = stat.hooks; labels = stat.labels; values = stat.values.items } };
+    ghost view = { λ stat. record { place = stat.place; head = stat.head; name = stat.name; hooks = stat.hooks.items; labels = stat.labels; values = stat.values.items } };
 }
 
 impl Draft {
@@ -88,7 +86,7 @@ impl Draft {
             place: 0,
             head: Head::Apply,
             name: NO_TOKEN,
-            hooks: Hooks::new(alloc),
+            hooks: Vec::new(alloc),
             labels: Mask { bits: 0 },
             values: Vec::new(alloc),
         }
@@ -106,6 +104,38 @@ impl Draft {
         self.values.clear();
     }
 
+    /// Puts its values as the parameters' kinds take them, and answers whether they take all of them.
+    pub(crate) fn fit(&mut self, params: &[Param]) -> bool
+        ensures others { self.new ≡ record self.old { values = self.new.values } }
+        ensures fit { IsTrue result → comparing.params_for params.now self.old.values ≡ Some self.new.values }
+        ensures unfit { IsFalse result → comparing.params_for params.now self.old.values ≡ None }
+    {
+        fit(&mut self.values, params)
+    }
+
+    /// The statement, where it names the rule with this index, if it names one.
+    #[inline(always)]
+    pub(crate) fn as_stat(&self, index: u16) -> StatRef<'_>
+        ensures { stat_of result ≡ comparing.stat_of self.now.head self.now index self.now.values }
+    {
+        match self.head {
+            Head::Apply => StatRef::Apply(LineRef {
+                rule: index,
+                hooks: &self.hooks,
+                params: &self.values,
+            }),
+            Head::Each => StatRef::Each {
+                mask: self.labels,
+                rule: index,
+                params: &self.values,
+            },
+            Head::Undo => StatRef::Undo,
+            Head::Redo => StatRef::Redo,
+            Head::Group => StatRef::Group,
+            Head::End => StatRef::End,
+        }
+    }
+
     /// How many hooks it gives at a time.
     pub(crate) fn hook_count(&self) -> usize
         ensures { result ≡ comparing.hooks_in self.now }
@@ -120,7 +150,6 @@ impl Draft {
 /// The statement of a script that is being read.
 #[derive(Drop)]
 pub(crate) struct Reader {
-    alloc: Global,
     spot: Spot,
     /// How many statements have begun.
     begun: usize,
@@ -147,7 +176,6 @@ impl Reader {
         ensures { result ≡ reading.nothing }
     {
         Reader {
-            alloc,
             spot: Spot::Start,
             begun: 0,
             within: false,
@@ -277,12 +305,13 @@ impl Reader {
         requires top { top ≤ 7 }
         ensures { passed_of result ≡ reading.passed_in top self.now.spot (reading.been_of self.now) sight (token.end - token.start) }
     {
+        if let Sight::Number(n) = sight {
+            return number_passes(top, self.spot, self.stat.labels, n);
+        }
+        if self.spot.wants_name() {
+            return limit_where(token.end - token.start > MOST_NAME_BYTES, LimitKind::Name);
+        }
         match sight {
-            Sight::Number(n) => number_passes(top, self.spot, self.stat.labels, n),
-            _ if self.spot.wants_name() => limit_where(
-                token.end - token.start > MOST_NAME_BYTES,
-                LimitKind::Name,
-            ),
             Sight::Begins(_) => limit_where(self.begun >= MOST_LINES, LimitKind::Lines),
             _ => None,
         }
@@ -387,9 +416,6 @@ impl Reader {
         ensures ok { OnOk result (self.new ≡ reading.with_value value self.old) }
         ensures err { IfErr result (λ fault. fault ≡ TextFault.OutOfMemory) }
     {
-        if self.stat.values.is_empty() {
-            self.stat.values = Vec::with_capacity(self.alloc, FIRST_VALUES)?;
-        }
         self.stat.values.push(value)?;
         Ok(())
     }

@@ -18,7 +18,7 @@ use crate::fault::ScriptFault;
 use crate::reader::{Reader, TextFault};
 use crate::rules::RulesByName;
 use crate::seen::{Seen, near_name, next_seen};
-use gm_model::{Book, Dim, Items, Script, Stat};
+use gm_model::{Book, Dim, Script};
 use gm_text::{Lexer, Token, TokenKind};
 use std::alloc::Global;
 
@@ -115,9 +115,9 @@ fn finish(
     rules: &RulesByName<'_>,
     reader: Reader,
     mut compared: Compared,
-) -> Result<Vec<Stat>, ScriptFault>
+) -> Result<Script, ScriptFault>
     requires so_far { IsSoFar dim bytes.now (map rule_of rules.now) reader (EndAt (length bytes.now) ∷ []) compared }
-    ensures script { IfOk result (λ stats. ScriptText bytes.now dim (map rule_of rules.now) stats.items) }
+    ensures script { IfOk result (λ script. ScriptText bytes.now dim (map rule_of rules.now) script.stats) }
     ensures fault { IfErr result (IsFaultOf bytes.now dim (map rule_of rules.now)) }
 {
     if let Some(mut last) = reader.finish(bytes.len())? {
@@ -132,8 +132,8 @@ fn read_stats(
     bytes: &[u8],
     dim: Dim,
     rules: &RulesByName<'_>,
-) -> Result<Vec<Stat>, ScriptFault>
-    ensures script { IfOk result (λ stats. ScriptText bytes.now dim (map rule_of rules.now) stats.items) }
+) -> Result<Script, ScriptFault>
+    ensures script { IfOk result (λ script. ScriptText bytes.now dim (map rule_of rules.now) script.stats) }
     ensures fault { IfErr result (IsFaultOf bytes.now dim (map rule_of rules.now)) }
 {
     let mut compared = Compared::new(alloc, bytes.len())?;
@@ -150,8 +150,5 @@ pub fn read_script(alloc: Global, bytes: &[u8], book: &Book) -> Result<Script, S
     ensures fault { IfErr result (IsFaultOf bytes.now book.now.schema.dim (first_rules book.now.rules)) }
 {
     let rules = RulesByName::new(alloc, book.rules.as_slice())?;
-    let stats = read_stats(alloc, bytes, book.schema.dim, &rules)?;
-    Ok(Script {
-        stats: Items::new(stats),
-    })
+    read_stats(alloc, bytes, book.schema.dim, &rules)
 }

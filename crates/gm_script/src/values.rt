@@ -1,22 +1,27 @@
 //! The values of a line, once the kinds of its rule's parameters are known.
-ghost use Rattle.std.specs.Prelude.{◌≡◌, None, Some, MatchOption};
+ghost use Rattle.std.specs.Prelude.{◌≡◌, None, Some, IsTrue, IsFalse};
 ghost use Rattle.gm_text.specs.ValueText as numbers;
 ghost use Rattle.gm_script.specs.ScriptText as script;
 ghost use Rattle.gm_script.specs.Comparing.{value_for, params_for};
 
 use gm_model::{Kind, Param, Value};
 
-/// The values as the parameters' kinds take them, or `None` where they don't.
-pub(crate) fn params_of(mut values: Vec<Value>, params: &[Param]) -> Option<Vec<Value>>
-    ensures { MatchOption result (params_for params.now values.items ≡ None) (λ of. params_for params.now values.items ≡ Some of.items) }
+/// Puts the values as the parameters' kinds take them, and answers whether they take all of them. Where
+/// they don't, some may be put so.
+pub(crate) fn fit(values: &mut [Value], params: &[Param]) -> bool
+    ensures fit { IsTrue result → params_for params.now values.old ≡ Some values.new }
+    ensures unfit { IsFalse result → params_for params.now values.old ≡ None }
 {
     if values.len() != params.len() {
-        return None;
+        return false;
     }
     for (index, param) in params.iter().enumerate() {
-        values[index] = value_of(param.kind, values[index])?;
+        match value_of(param.kind, values[index]) {
+            Some(value) => values[index] = value,
+            None => return false,
+        }
     }
-    Some(values)
+    true
 }
 
 fn value_of(kind: Kind, value: Value) -> Option<Value>

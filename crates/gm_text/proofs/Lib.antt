@@ -33,3 +33,5 @@ pub mod Worked
 pub mod AtLeast
 pub mod TextMarks
 pub mod SchemaAtLeast
+pub mod DigitWords
+pub mod DigitRuns

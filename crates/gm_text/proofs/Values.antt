@@ -1,11 +1,10 @@
 -- The value of digits: it grows with each digit, and it is the number of a decimal text.
-use Rattle.std.proofs.Common.{◌≡◌, ℕ, suc, ◌+◌, ◌-◌, ◌*◌, ◌^◌, ◌<◌, ◌≤◌, Bool, true, false, List, [], ◌∷◌, length, drop, get_or, refl, sym, ap, ◌∙◌, arith}
-use Rattle.std.specs.List.{list_all, take_while}
+use Rattle.std.proofs.Common.{◌≡◌, ℕ, suc, ◌+◌, ◌-◌, ◌*◌, ◌^◌, ◌<◌, ◌≤◌, true, List, [], ◌∷◌, length, drop, get_or, sym, ap, ◌∙◌, arith}
+use Rattle.std.specs.List.{list_all}
 use Rattle.std.proofs.Math.Nat.{mul_assoc, pow-succ', pow-le-pow_right}
 use Rattle.std.proofs.lemmas.Bool.{and_parts, leb-true}
 use Rattle.std.proofs.lemmas.Nat.{mul-le}
 use Rattle.std.proofs.lemmas.List.{drop_more, drop_all}
-use Rattle.std.proofs.lemmas.List.Sums.{take_while-cons}
 use Rattle.gm_model.specs.Tokens.{is_digit}
 use Rattle.gm_model.specs.Symbols.{value_after, value_of}
 
@@ -16,14 +15,6 @@ pub record IsDigit (b : ℕ) : Type 0 where
 
 pub digit_bounds : (b : ℕ) → is_digit b ≡ true → IsDigit b
 digit_bounds b h = let bounds = and_parts _ _ h in record { low = leb-true 48 b bounds.0; high = leb-true b 57 bounds.1 }
-
--- what isn't told from a digit by its value is one
-pub is_digit_below : (b value : ℕ) → (is_digit b ≡ false → 9 < value) → value ≤ 9 → is_digit b ≡ true
-is_digit_below b value other small = go (is_digit b) refl
-  where
-    go : (r : Bool) → is_digit b ≡ r → is_digit b ≡ true
-    go true e = e
-    go false e = absurd (omega (arith, other e, small))
 
 -- what was read before is within the value
 pub value_after-grows : (n : ℕ) (digits : List ℕ) → n ≤ value_after n digits
@@ -74,12 +65,3 @@ pub value_of-few : (digits : List ℕ) → list_all is_digit digits ≡ true →
 value_of-few digits h few =
     let power : 10 ^ length digits ≤ 10 ^ 8 = pow-le-pow_right (omega arith) few in
     omega (arith, value_after-below 0 digits h, power)
-
--- one digit more at a place of a text
-pub value_after-digit : (text : List ℕ) (place n : ℕ) → place < length text → is_digit (get_or text place 0) ≡ true
-    → value_after n (take_while is_digit (drop place text)) ≡ value_after (n * 10 + (get_or text place 0 - 48)) (take_while is_digit (drop (place + 1) text))
-value_after-digit text place n inside is_one =
-    let digit = get_or text place 0 in
-    let rest = drop (place + 1) text in
-    let here : take_while is_digit (digit ∷ rest) ≡ digit ∷ take_while is_digit rest = take_while-cons is_digit digit rest ∙ rw is_one refl in
-    ap (λ (xs : List ℕ). value_after n (take_while is_digit xs)) (drop_more text place 0 inside) ∙ ap (value_after n) here

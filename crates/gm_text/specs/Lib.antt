@@ -7,3 +7,4 @@ pub mod SchemaText
 pub mod SchemaReading
 pub mod SchemaAnswers
 pub mod SchemaPrinting
+pub mod Digits

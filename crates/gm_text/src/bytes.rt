@@ -1,4 +1,4 @@
-ghost use Rattle.std.specs.Prelude.{◌≡◌, ◌-◌, ◌<◌, false, IsTrue};
+ghost use Rattle.std.specs.Prelude.{◌≡◌};
 ghost use Rattle.gm_model.specs.Tokens as tokens;
 
 pub fn is_blank(b: u8) -> bool
@@ -11,14 +11,6 @@ pub fn is_digit(b: u8) -> bool
     ensures { result ≡ tokens.is_digit b }
 {
     matches!(b, b'0'..=b'9')
-}
-
-/// What the digit stands for, or more than 9 where the byte is none.
-pub fn digit_value(b: u8) -> u32
-    ensures digit { IsTrue (tokens.is_digit b) → result ≡ b - 48 }
-    ensures other { tokens.is_digit b ≡ false → 9 < result }
-{
-    u32::from(b).wrapping_sub(u32::from(b'0'))
 }
 
 pub fn is_letter(b: u8) -> bool

@@ -1,4 +1,4 @@
-ghost use Rattle.std.specs.Prelude.{◌≡◌, ℕ, ◌<◌, ◌≤◌, ◌-◌, ◌^◌, false, length, min, IsTrue, IfSome, IfNone, IfOk, IfErr, OnErr, MatchOption};
+ghost use Rattle.std.specs.Prelude.{◌≡◌, ℕ, ◌+◌, ◌<◌, ◌≤◌, ◌-◌, ◌^◌, false, length, min, IsTrue, IfSome, IfNone, IfOk, IfErr, OnErr, MatchOption};
 ghost use Rattle.std.specs.List.{list_all};
 ghost use Rattle.gm_model.specs.declared.token.TokenKind.TheVariants.{Name, Number};
 ghost use Rattle.gm_model.specs.Tokens.{bytes_of, IsLexeme};
@@ -7,7 +7,6 @@ ghost use Rattle.gm_model.specs.Symbols.{value_of};
 ghost use Rattle.gm_text.specs.Lexing.{rest_of, items_read, after, stand_of, IsInText, IsLongestThere, IsGap, IsNumberRead, IsSignRead};
 ghost use Rattle.gm_text.specs.SchemaAnswers.{IsToken, IsNext, IsNoneNext};
 
-use crate::bytes::is_digit;
 use crate::fault::LexFault;
 use crate::scan::{
     Small, behind_blank, gap_end, name_near, number_near, past_blank, small_at, token_at,
@@ -28,6 +27,8 @@ pub struct SmallNumber {
 pub struct Lexer<'a> {
     source: &'a [u8],
     at: usize,
+    /// How many digits the last small number had: a guess how many the next one has.
+    digits: usize,
 }
 
 impl<'a> Model for Lexer<'a> {
@@ -49,6 +50,7 @@ impl<'a> Lexer<'a> {
         Lexer {
             source: text,
             at: 0,
+            digits: 1,
         }
     }
 
@@ -60,6 +62,7 @@ impl<'a> Lexer<'a> {
         Lexer {
             source: text,
             at: place,
+            digits: 1,
         }
     }
 
@@ -70,6 +73,7 @@ impl<'a> Lexer<'a> {
         Lexer {
             source: self.source,
             at: self.at,
+            digits: self.digits,
         }
     }
 
@@ -128,7 +132,7 @@ impl<'a> Lexer<'a> {
     }
 
     /// The number that stands next, which the lexer goes past, where it has eight digits at most,
-    /// nothing stands before it but one blank at most, and the text goes on for ten bytes at least.
+    /// nothing stands before it but one blank at most, and the text goes on for 17 bytes at least.
     /// `None` says nothing of what stands next, and the lexer is then as before.
     // Inlined, as `small_at` is.
     #[inline(always)]
@@ -137,15 +141,20 @@ impl<'a> Lexer<'a> {
         ensures none { IfNone result (self.new ≡ self.old) }
     {
         // One test of the text's end serves the blank, each digit and what stands behind them.
-        if self.source.len() - self.at < 10 {
+        if self.source.len() - self.at < 17 {
             return None;
         }
+        let guess = self.digits;
         let place = past_blank(self.source, self.at);
-        if !is_digit(self.source[place]) {
-            return None;
+        let Small { value, count } = small_at(self.source, place)?;
+        // Where the guess is right, as it mostly is, the processor goes on behind the number before it
+        // has found how long this is.
+        if count == guess {
+            self.at = place + guess;
+        } else {
+            self.digits = count;
+            self.at = end_apart(place, count);
         }
-        let Small { value, end } = small_at(self.source, place)?;
-        self.at = end;
         Some(SmallNumber { value, place })
     }
 
@@ -221,6 +230,17 @@ impl<'a> Lexer<'a> {
     {
         self.number(token).unwrap_or(u64::MAX)
     }
+}
+
+/// The end of a number of so many digits.
+// Not inlined, since a compiler that saw both ends would make them one, and wait for the count.
+#[cold]
+#[inline(never)]
+fn end_apart(place: usize, count: usize) -> usize
+    requires { place + count < 2 ^ 64 }
+    ensures { result ≡ place + count }
+{
+    place + count
 }
 
 fn value_of_digits(digits: &[u8]) -> Option<u64>

@@ -8,6 +8,7 @@
 
 mod at_least;
 mod bytes;
+mod digits;
 mod fault;
 mod laws;
 mod lexer;

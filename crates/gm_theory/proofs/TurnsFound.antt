@@ -1,7 +1,7 @@
 -- Each good line has an outcome and a budget, and so have the lines that an `each` stands for.
 use Rattle.std.proofs.Common.{◌≡◌, ℕ, ◌+◌, ◌⊎◌, false, List, [], ◌∷◌, Some, slice_get, refl, sym, ◌∙◌, subst, inl, inr}
 use Rattle.gm_model.specs.declared.schema.Schema.{Schema}
-use Rattle.gm_model.specs.declared.script.Line.{Line}
+use Rattle.gm_model.specs.Statements.{Line}
 use Rattle.gm_model.specs.declared.value.Value.{Value}
 use Rattle.gm_model.specs.declared.word.Mask.{Mask}
 use Rattle.gm_model.specs.Acceptance.{IsAccepted}

@@ -26,7 +26,7 @@ use Rattle.gm_mapfile.specs.MapText.{ListedMap, MapText, map_of, canonical}
 use Rattle.gm_mapfile.specs.declared.version.MapVersion.{MapVersion}
 use Rattle.gm_model.specs.declared.rule.RuleFault.{RuleFault}
 use Rattle.gm_model.specs.declared.schema.Schema.{Schema}
-use Rattle.gm_model.specs.declared.script.Stat.{Stat}
+use Rattle.gm_model.specs.Statements.{Stat}
 use Rattle.gm_model.specs.Acceptance.{IsAccepted, IsFault}
 use Rattle.gm_model.specs.Kinds.{IsTyped}
 use Rattle.gm_model.specs.Maps.{Map, IsSound}

@@ -16,7 +16,7 @@ use Rattle.gm_model.specs.declared.memory.OutOfMemory.{OutOfMemory}
 use Rattle.gm_model.specs.declared.rule.Book.{Book}
 use Rattle.gm_model.specs.declared.rule.RuleTable.{RuleTable}
 use Rattle.gm_model.specs.declared.schema.Schema.{Schema}
-use Rattle.gm_model.specs.declared.script.Stat.{Stat}
+use Rattle.gm_model.specs.Statements.{Stat}
 use Rattle.gm_model.specs.Acceptance.{IsAccepted}
 use Rattle.gm_model.specs.Budgets.{Bounds, no_entries, IsRunWithin}
 use Rattle.gm_model.specs.Maps.{Map, IsDart}

@@ -5,7 +5,7 @@ use Rattle.gm_cells.specs.Cells.{HasCells}
 use Rattle.gm_cells.specs.CellsText.{listed}
 use Rattle.gm_grid.specs.GridBook.{triangulation, stat_at}
 use Rattle.gm_grid.specs.GridMap.{IsGridMap, grid_schema}
-use Rattle.gm_model.specs.declared.script.Stat.{Stat}
+use Rattle.gm_model.specs.Statements.{Stat}
 use Rattle.gm_model.specs.Maps.{Map, IsDart}
 use Rattle.gm_model.specs.Orbits.{HasCount}
 use Rattle.gm_model.specs.Rules.{Rule}

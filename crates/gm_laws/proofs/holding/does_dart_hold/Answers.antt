@@ -3,14 +3,10 @@ use Rattle.std.proofs.Math.Nat.{mul-le-mul_right}
 use Rattle.std.proofs.lemmas.Bool.{and_parts}
 use Rattle.gm_arena.specs.ArenaMap.{name_at}
 use Rattle.gm_laws.specs.Holding.{Holds}
-use Rattle.gm_laws.proofs.HoldingLemmas.{row_is, alphas_long}
 use Rattle.gm_laws.proofs.holding.does_dart_hold.Goals as goal
 
 pub does_label_hold-hold-requires-clause-label : goal.does_label_hold-hold-requires-clause-label
-does_label_hold-hold-requires-clause-label g c =
-    let m = c.args.arena.now in
-    let own = row_is m c.args.slot.at c.row-own.result.name c.row-own.result.alphas.now c.row-own.result.values.now c.row-own.ensures.name c.row-own.ensures.dart in
-    omega (arith, c.loop-label-test.true, alphas_long m c.args.slot.at c.row-own.result.alphas.now c.row-own.result.values.now own c.requires.lawful)
+does_label_hold-hold-requires-clause-label g c = omega (arith, c.loop-label-test.true, c.requires.labels)
 
 pub loop-label-preserved : goal.loop-label-preserved
 loop-label-preserved g c =
@@ -23,14 +19,10 @@ loop-label-preserved g c =
     }
 
 pub returns-clause-holds : goal.returns-clause-holds
-returns-clause-holds g c = λ told label within.
-    let m = c.args.arena.now in
-    let own = row_is m c.args.slot.at c.row-own.result.name c.row-own.result.alphas.now c.row-own.result.values.now c.row-own.ensures.name c.row-own.ensures.dart in
-    c.loop-label.invariant.holds told label (omega (arith, within, c.loop-label-test.false, alphas_long m c.args.slot.at c.row-own.result.alphas.now c.row-own.result.values.now own c.requires.lawful))
+returns-clause-holds g c = λ told label within. c.loop-label.invariant.holds told label (omega (arith, within, c.loop-label-test.false, c.requires.labels))
 
 pub returns-clause-cost : goal.returns-clause-cost
 returns-clause-cost g c =
     let m = c.args.arena.now in
-    let own = row_is m c.args.slot.at c.row-own.result.name c.row-own.result.alphas.now c.row-own.result.values.now c.row-own.ensures.name c.row-own.ensures.dart in
-    let few : c.loop-label.label ≤ m.schema.dim + 1 = omega (arith, c.loop-label.auto.label-end, alphas_long m c.args.slot.at c.row-own.result.alphas.now c.row-own.result.values.now own c.requires.lawful) in
+    let few : c.loop-label.label ≤ m.schema.dim + 1 = omega (arith, c.loop-label.auto.label-end, c.requires.labels) in
     omega (arith, c.loop-label.invariant.cost, mul-le-mul_right (m.schema.dim + 1) few)

@@ -2,11 +2,11 @@ use Rattle.std.proofs.Common.{◌≡◌, ℕ, ◌+◌, List, subst, sym, arith}
 use Rattle.std.proofs.lemmas.Result.{err_from_is_err_and}
 use Rattle.gm_mapfile.specs.MapReading.{ReadsNames}
 use Rattle.gm_model.proofs.Exits.{never_ok}
-use Rattle.gm_mapfile.proofs.DartReads.{names_none, names_more, names_stop}
+use Rattle.gm_mapfile.proofs.DartReads.{names_more, names_stop}
 use Rattle.gm_mapfile.proofs.reading.read_names.Goals as goal
 
 pub loop-init : goal.loop-init
-loop-init c = names_none c.args.lexer.now c.args.names.now.items
+loop-init c = c.read_small_names-first.ensures.reads
 
 pub returns-in_err-read_name-clause-stops : goal.returns-in_err-read_name-clause-stops
 returns-in_err-read_name-clause-stops c =

@@ -4,6 +4,7 @@ use Rattle.gm_model.specs.declared.schema.Schema.{Schema}
 use Rattle.gm_model.specs.Rules.{rule_of}
 use Rattle.gm_match.proofs.Costs.{label_most}
 use Rattle.gm_match.proofs.FirstBroken.{met_too, broken_too, all_labels, label_steps}
+use Rattle.gm_match.proofs.Stepping.{node_below}
 use Rattle.gm_match.proofs.arcs.broken_position.Goals.{in-Some, in_default}
 use Rattle.gm_match.proofs.arcs.broken_position.Goals as goal
 
@@ -22,3 +23,6 @@ loop-label-preserved g c =
 
 pub returns-clause-first : goal.returns-clause-first
 returns-clause-first g c = all_labels c.args.arena.now (rule_of c.args.plan.now.table) c.args.found.now c.args.node c.loop-label.label c.loop-label.end c.loop-label.first (omega (arith, c.loop-label-test.false, c.loop-label.auto.label-end, c.top-label-end.ensures.value, ap (λ (schema : Schema). schema.dim) c.schema.ensures)) c.loop-label.invariant.so_far
+
+pub tested_step-step-requires-clause-node : goal.tested_step-step-requires-clause-node
+tested_step-step-requires-clause-node g c = node_below c.args.arena.now c.args.plan.now c.requires.matchable c.args.found.now c.requires.candidate.1.laid _ c.requires.node

@@ -13,6 +13,7 @@ use Rattle.gm_walk.specs.Walks.{names_of}
 use Rattle.gm_walk.proofs.CellLemmas.{each_entry}
 use Rattle.gm_walk.proofs.NameLemmas.{name_there}
 use Rattle.gm_match.proofs.Placing.{IsTurned, names_begin, some_position, firsts_of, is_candidate, walk_slots}
+use Rattle.gm_match.proofs.Stepping.{same_count}
 use Rattle.gm_match.proofs.candidates.along_walk.Goals as goal
 
 pub fill_slots-requires-clause-some_position : goal.fill_slots-requires-clause-some_position
@@ -24,8 +25,8 @@ fill_slots-requires-clause-walk g c = c.requires.walked
 pub fill_slots-requires-clause-turns : goal.fill_slots-requires-clause-turns
 fill_slots-requires-clause-turns g c = rw c.deref.ensures.value (firsts_of c.args.arena.now (rule_of c.args.plan.now.table) _ c.args.walk.now c.args.word.now c.args.turns.items c.requires.word c.requires.walk c.requires.turns)
 
-pub new-requires-clause-turns_within : goal.new-requires-clause-turns_within
-new-requires-clause-turns_within g c =
+pub with_nodes-requires-clause-turns_within : goal.with_nodes-requires-clause-turns_within
+with_nodes-requires-clause-turns_within g c =
     let m = c.args.arena.now in
     let word = c.args.word.now in
     let walk = c.args.walk.now in
@@ -39,13 +40,13 @@ returns-clause-candidate g c =
     let walk = c.args.walk.now in
     let start = name_there m c.args.darts.now 0 (record { at = 0 }) c.requires.some in
     let rule = rule_of c.args.plan.now.table in
-    let found = c.new.result in
+    let found = c.with_nodes.result in
     let begin = names_begin m c.args.darts.now c.requires.some in
     let live = subst (IsLiveName m) (sym start) (IsLiveName-name_at m _ c.requires.matchable.lawful (All-get_or (λ (s : Slot). IsLiveSlot m s.at) c.args.darts.now 0 (record { at = 0 }) c.requires.some c.requires.live)) in
-    let made : IsTurned m rule _ walk found word = record { walk = c.requires.walk; turns = rw c.new.ensures.turns c.requires.turns; places = c.new.ensures.places ∙ c.len.ensures.value } in
+    let made : IsTurned m rule _ walk found word = record { walk = c.requires.walk; turns = rw c.with_nodes.ensures.turns c.requires.turns; places = c.with_nodes.ensures.places ∙ c.len.ensures.value } in
     let laid = c.in_ok-fill_slots.ensures.slots in
-    is_candidate m rule _ walk found (names_of m c.args.darts.now) begin.0 begin.1 (length-map c.args.darts.now (λ (s : Slot). name_at m s.at) ∙ c.requires.count) laid.0 laid.1 (rw (c.new.ensures.turns, ← c.deref.ensures.value, c.new.ensures.slots) laid.2)
-    c.new.ensures.positions (rw (c.new.ensures.slots, c.new.ensures.positions) c.new.ensures.nodes) live (subst (IsTurned m rule _ walk found) c.requires.word made)
+    is_candidate m rule _ walk found (names_of m c.args.darts.now) begin.0 begin.1 (length-map c.args.darts.now (λ (s : Slot). name_at m s.at) ∙ c.requires.count) laid.0 laid.1 (rw (c.with_nodes.ensures.turns, ← c.deref.ensures.value, c.with_nodes.ensures.slots) laid.2)
+    c.with_nodes.ensures.positions (rw (c.with_nodes.ensures.slots, c.with_nodes.ensures.positions, c.with_nodes.ensures.nodes, same_count rule _ _ c.left_nodes.ensures.left laid.1) laid.2.along.long) live (subst (IsTurned m rule _ walk found) c.requires.word made)
 
 pub fill_slots-requires-clause-matchable : goal.fill_slots-requires-clause-matchable
 fill_slots-requires-clause-matchable g c = c.requires.matchable
@@ -77,14 +78,15 @@ returns-in_err-fill_slots-clause-cost g c = omega (arith, c.fill_slots.ensures.c
 pub returns-in_err-fill_slots-clause-least : goal.returns-in_err-fill_slots-clause-least
 returns-in_err-fill_slots-clause-least g c = c.fill_slots.ensures.least
 
-pub new-requires-clause-some_position : goal.new-requires-clause-some_position
-new-requires-clause-some_position g c = some_position c.args.arena.now (rule_of c.args.plan.now.table) _ c.args.walk.now c.args.word.now c.requires.walk
+pub with_nodes-requires-clause-some_position : goal.with_nodes-requires-clause-some_position
+with_nodes-requires-clause-some_position g c = some_position c.args.arena.now (rule_of c.args.plan.now.table) _ c.args.walk.now c.args.word.now c.requires.walk
 
-pub new-requires-clause-slots : goal.new-requires-clause-slots
-new-requires-clause-slots g c = let laid = c.in_ok-fill_slots.ensures.slots in (laid.0, laid.2.along.long)
+pub with_nodes-requires-clause-slots : goal.with_nodes-requires-clause-slots
+with_nodes-requires-clause-slots g c = let laid = c.in_ok-fill_slots.ensures.slots in
+    rw (same_count (rule_of c.args.plan.now.table) _ _ c.left_nodes.ensures.left laid.1) laid.2.along.long
 
-pub new-requires-clause-turns : goal.new-requires-clause-turns
-new-requires-clause-turns g c = rw c.len.ensures.value c.requires.turns.long
+pub with_nodes-requires-clause-turns : goal.with_nodes-requires-clause-turns
+with_nodes-requires-clause-turns g c = rw c.len.ensures.value c.requires.turns.long
 
 pub returns-clause-cost : goal.returns-clause-cost
 returns-clause-cost g c = omega (arith, c.fill_slots.ensures.cost)
@@ -99,14 +101,14 @@ returns-clause-walked g c =
     let walk = c.args.walk.now in
     let start = name_there m c.args.darts.now 0 (record { at = 0 }) c.requires.some in
     let rule = rule_of c.args.plan.now.table in
-    let found = c.new.result in
+    let found = c.with_nodes.result in
     let begin = names_begin m c.args.darts.now c.requires.some in
     let live = subst (IsLiveName m) (sym start) (IsLiveName-name_at m _ c.requires.matchable.lawful (All-get_or (λ (s : Slot). IsLiveSlot m s.at) c.args.darts.now 0 (record { at = 0 }) c.requires.some c.requires.live)) in
-    let made : IsTurned m rule _ walk found word = record { walk = c.requires.walk; turns = rw c.new.ensures.turns c.requires.turns; places = c.new.ensures.places ∙ c.len.ensures.value } in
+    let made : IsTurned m rule _ walk found word = record { walk = c.requires.walk; turns = rw c.with_nodes.ensures.turns c.requires.turns; places = c.with_nodes.ensures.places ∙ c.len.ensures.value } in
     let laid = c.in_ok-fill_slots.ensures.slots in
     let planned = c.requires.matchable.planned in
-    λ h first. walk_slots m rule _ walk found (names_of m c.args.darts.now) begin.0 begin.1 (length-map c.args.darts.now (λ (s : Slot). name_at m s.at) ∙ c.requires.count) laid.0 laid.1 (rw (c.new.ensures.turns, ← c.deref.ensures.value, c.new.ensures.slots) laid.2)
-    c.new.ensures.positions (rw (c.new.ensures.slots, c.new.ensures.positions) c.new.ensures.nodes) live (subst (IsTurned m rule _ walk found) c.requires.word made)
+    λ h first. walk_slots m rule _ walk found (names_of m c.args.darts.now) begin.0 begin.1 (length-map c.args.darts.now (λ (s : Slot). name_at m s.at) ∙ c.requires.count) laid.0 laid.1 (rw (c.with_nodes.ensures.turns, ← c.deref.ensures.value, c.with_nodes.ensures.slots) laid.2)
+    c.with_nodes.ensures.positions (rw (c.with_nodes.ensures.slots, c.with_nodes.ensures.positions, c.with_nodes.ensures.nodes, same_count rule _ _ c.left_nodes.ensures.left laid.1) laid.2.along.long) live (subst (IsTurned m rule _ walk found) c.requires.word made)
     c.requires.matchable.lawful c.requires.walked h first ((laid.1 h).0 (hook_left c.args.plan.now.schema rule planned.accepted.in_range planned.accepted.incidence 0 h first))
 
 pub returns-in_err-fill_slots-clause-walked : goal.returns-in_err-fill_slots-clause-walked

@@ -36,8 +36,8 @@ pub returns-then-is_empty-clause-answer : goal.returns-then-is_empty-clause-answ
 returns-then-is_empty-clause-answer g c =
     let sound = sound_of c.args.arena.now c.args.plan.now.schema (rule_of c.args.plan.now.table) c.requires.map c.requires.schema c.rule.ensures.planned in
     let none = is_nil c.args.hooks.now c.is_empty.result c.is_empty.ensures c.if-is_empty.true in
-    let made = c.new-then-is_empty-2.ensures in
-    created _ _ sound c.args.hooks.now (no_items (rule_of c.args.plan.now.table).hooks (sym c.requires.hooks ∙ ap length none)) none c.new-then-is_empty-2.result (made.slots ∙ c.new.ensures.items) made.positions
+    let made = c.with_nodes.ensures in
+    created _ _ sound c.args.hooks.now (no_items (rule_of c.args.plan.now.table).hooks (sym c.requires.hooks ∙ ap length none)) none c.with_nodes.result (made.slots ∙ c.new.ensures.items) made.positions
     (omega (arith, made.nodes, made.positions, ap length c.new.ensures.items)) made.places
 
 pub returns-in_err-found-clause-cost : goal.returns-in_err-found-clause-cost
@@ -116,14 +116,14 @@ returns-in_err-hook_darts-clause-least g c = c.hook_darts.ensures.least
 pub returns-in_err-hook_darts-clause-room : goal.returns-in_err-hook_darts-clause-room
 returns-in_err-hook_darts-clause-room g c = refl
 
-pub new-requires-then-is_empty-2-clause-slots : goal.new-requires-then-is_empty-2-clause-slots
-new-requires-then-is_empty-2-clause-slots g c = (0, sym (ap length c.new.ensures.items))
+pub with_nodes-requires-clause-slots : goal.with_nodes-requires-clause-slots
+with_nodes-requires-clause-slots g c = sym (ap length c.new.ensures.items)
 
-pub new-requires-then-is_empty-2-clause-turns : goal.new-requires-then-is_empty-2-clause-turns
-new-requires-then-is_empty-2-clause-turns g c = sym (ap length c.new-then-is_empty.ensures.items)
+pub with_nodes-requires-clause-turns : goal.with_nodes-requires-clause-turns
+with_nodes-requires-clause-turns g c = sym (ap length c.new-then-is_empty.ensures.items)
 
-pub new-requires-then-is_empty-2-clause-turns_within : goal.new-requires-then-is_empty-2-clause-turns_within
-new-requires-then-is_empty-2-clause-turns_within g c = none_within c.new-then-is_empty.result.items 1 c.new-then-is_empty.ensures.items
+pub with_nodes-requires-clause-turns_within : goal.with_nodes-requires-clause-turns_within
+with_nodes-requires-clause-turns_within g c = none_within c.new-then-is_empty.result.items 1 c.new-then-is_empty.ensures.items
 
 pub returns-then-is_empty-clause-none_missed : goal.returns-then-is_empty-clause-none_missed
 returns-then-is_empty-clause-none_missed g c = λ place matched. tt

@@ -15,7 +15,7 @@ loop-embed-init g c = record { slots = refl; schema = refl; rest = refl; cost = 
 pub set_values_of-requires : goal.set_values_of-requires
 set_values_of-requires g c at among =
     let e = c.loop-embed.embed in
-    let told = subst (λ o. Contains (told_in e o) at) (sym c.in-Some.is ∙ c.index-by_embed-embed.is) (rw (← c.deref.ensures.value, ← c.as_slice.ensures.reached) among) in
+    let told = subst (λ o. Contains (told_in e o) at) (sym c.in-Some.is ∙ c.index-by_embed-embed.is) (rw (← c.deref.ensures, ← c.as_slice.ensures.reached) among) in
     let fit = c.requires.settable at (told_within c.args.by_embed.now e c.index-by_embed-embed.result at c.loop-embed-test.true told) in
     record {
       live = rw c.loop-embed.invariant.slots fit.live;
@@ -36,7 +36,7 @@ loop-embed-preserved g c =
     let again : with_values (with_values m (told_in e here)) later ≡ with_values c.args.arena.now (values_told orbits) = sym (with_values_append m (told_in e here) later) ∙ ap (with_values m) (sym next) ∙ now.rest in
     elim c.match-by_embed-embed.branch [
       | in-Some w ↦
-          let told : told_in e here ≡ told_of e w.deref.result.now w.as_slice.result.now = ap (told_in e) (sym c.index-by_embed-embed.is ∙ w.in-Some.is) ∙ sym (ap₂ (told_of e) w.deref.ensures.value w.as_slice.ensures.reached) in
+          let told : told_in e here ≡ told_of e w.deref.result.now w.as_slice.result.now = ap (told_in e) (sym c.index-by_embed-embed.is ∙ w.in-Some.is) ∙ sym (ap₂ (told_of e) w.deref.ensures w.as_slice.ensures.reached) in
           let is : c.match-by_embed-embed.arena ≡ with_values m (told_in e here) = w.arena-is ∙ w.set_values_of.ensures.map ∙ ap (with_values m) (sym told) in
           record {
             slots = ap (λ (n : ArenaMap). n.slots) is ∙ ap (λ (n : ArenaMap). n.slots) (values_frame (told_in e here) m) ∙ now.slots;

@@ -4,23 +4,24 @@ use Rattle.gm_arena.specs.ArenaMap.{ArenaMap}
 use Rattle.gm_pending.specs.declared.at.At.TheVariants.{Old}
 use Rattle.gm_pending.specs.declared.changes.ValueAt.{ValueAt}
 use Rattle.gm_pending.specs.declared.marks.Mark.{Mark}
+use Rattle.gm_pending.specs.Sources.{given_of}
 use Rattle.gm_pending.specs.ToldEdits.{told_of}
 use Rattle.gm_pending.specs.Written.{with_values}
 use Rattle.gm_pending.proofs.ToldValues.{told_elsewhere, told_ungiven, told_value, value_there}
 use Rattle.gm_pending.proofs.commit.set_values_of.Goals as goal
-use Rattle.gm_pending.proofs.commit.set_values_of.Goals.{in-Old+in-Some, in-Old+in_default-given, in_default}
+use Rattle.gm_pending.proofs.commit.set_values_of.Goals.{in-Old+in-Some, in-Old+in_default-value, in_default}
 
 pub loop-mark-init : goal.loop-mark-init
-loop-mark-init g c = record { slots = refl; schema = refl; rest = refl; cost = refl }
+loop-mark-init g c = record { known = c.given-value.ensures; slots = refl; schema = refl; rest = refl; cost = refl }
 
 pub set_value-requires-clause-live : goal.set_value-requires-clause-live
 set_value-requires-clause-live g c =
-    let fit = c.requires _ (value_there c.args.embed c.args.instances.now c.args.marks.now c.loop-mark.mark-index (record { at = Old (record { at = 0 }); instance = 0; over = None; key = 0 }) c.in-Old.slot c.in-Some.value c.loop-mark-test.true c.in-Old.is (sym c.given.ensures ∙ c.in-Some.is)) in
+    let fit = c.requires _ (value_there c.args.embed c.args.instances.now c.args.marks.now c.loop-mark.mark-index (record { at = Old (record { at = 0 }); instance = 0; over = None; key = 0 }) c.in-Old.slot c.in-Some.value c.loop-mark-test.true c.in-Old.is (sym c.look_at.ensures.value ∙ c.in-Some.is)) in
     rw c.loop-mark.invariant.slots fit.live
 
 pub set_value-requires-clause-value : goal.set_value-requires-clause-value
 set_value-requires-clause-value g c =
-    let fit = c.requires _ (value_there c.args.embed c.args.instances.now c.args.marks.now c.loop-mark.mark-index (record { at = Old (record { at = 0 }); instance = 0; over = None; key = 0 }) c.in-Old.slot c.in-Some.value c.loop-mark-test.true c.in-Old.is (sym c.given.ensures ∙ c.in-Some.is)) in
+    let fit = c.requires _ (value_there c.args.embed c.args.instances.now c.args.marks.now c.loop-mark.mark-index (record { at = Old (record { at = 0 }); instance = 0; over = None; key = 0 }) c.in-Old.slot c.in-Some.value c.loop-mark-test.true c.in-Old.is (sym c.look_at.ensures.value ∙ c.in-Some.is)) in
     rw c.loop-mark.invariant.schema (fit.embed, fit.embed_at, fit.value)
 
 pub loop-mark-preserved : goal.loop-mark-preserved
@@ -33,17 +34,19 @@ loop-mark-preserved g c =
     let now = c.loop-mark.invariant in
     elim c.match-mark.branch [
       | in-Old+in-Some w ↦
-          let told = told_value e instances marks i d c.loop-mark-test.true w.in-Old.slot w.in-Some.value w.in-Old.is (sym w.given.ensures ∙ w.in-Some.is) in
+          let told = told_value e instances marks i d c.loop-mark-test.true w.in-Old.slot w.in-Some.value w.in-Old.is (sym c.look_at.ensures.value ∙ w.in-Some.is) in
           let is = w.arena-is ∙ w.set_value.ensures.map in
           record {
+            known = w.value-is ∙ sym w.in-Some.is ∙ c.look_at.ensures.value ∙ ap (given_of instances) (sym c.look_at.ensures.last);
             slots = ap (λ (m : ArenaMap). m.slots) is ∙ now.slots;
             schema = ap (λ (m : ArenaMap). m.schema) is ∙ now.schema;
             rest = ap (λ m. with_values m (told_of e instances (drop (i + 1) marks))) is ∙ ap (with_values c.loop-mark.arena) (sym told) ∙ now.rest;
             cost = omega (arith, now.cost, ap (λ (list : List ValueAt). length list) told, w.steps-is, w.set_value.ensures.cost);
           }
-      | in-Old+in_default-given w ↦
-          let told = told_ungiven e instances marks i d c.loop-mark-test.true w.in-Old.slot w.in-Old.is (sym w.given.ensures ∙ w.in_default-given.is) in
+      | in-Old+in_default-value w ↦
+          let told = told_ungiven e instances marks i d c.loop-mark-test.true w.in-Old.slot w.in-Old.is (sym c.look_at.ensures.value ∙ w.in_default-value.is) in
           record {
+            known = w.value-is ∙ c.look_at.ensures.value ∙ ap (given_of instances) (sym c.look_at.ensures.last);
             slots = ap (λ (m : ArenaMap). m.slots) w.arena-is ∙ now.slots;
             schema = ap (λ (m : ArenaMap). m.schema) w.arena-is ∙ now.schema;
             rest = ap (λ m. with_values m (told_of e instances (drop (i + 1) marks))) w.arena-is ∙ ap (with_values c.loop-mark.arena) (sym told) ∙ now.rest;
@@ -52,6 +55,7 @@ loop-mark-preserved g c =
       | in_default w ↦
           let told = told_elsewhere e instances marks i d c.loop-mark-test.true w.in_default.field-0 w.in_default.field-1 w.in_default.is in
           record {
+            known = w.value-is ∙ c.look_at.ensures.value ∙ ap (given_of instances) (sym c.look_at.ensures.last);
             slots = ap (λ (m : ArenaMap). m.slots) w.arena-is ∙ now.slots;
             schema = ap (λ (m : ArenaMap). m.schema) w.arena-is ∙ now.schema;
             rest = ap (λ m. with_values m (told_of e instances (drop (i + 1) marks))) w.arena-is ∙ ap (with_values c.loop-mark.arena) (sym told) ∙ now.rest;

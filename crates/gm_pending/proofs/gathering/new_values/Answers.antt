@@ -18,7 +18,7 @@ loop-embed-preserved c =
     let so_far = c.loop-embed.values.items in
     elim c.match-by_embed-embed.branch [
       | in-Some+in_ok-put_new_values w ↦
-          let told : told_of e w.deref.result.now w.as_slice.result.now ≡ told_in e here = ap₂ (told_of e) w.deref.ensures.value w.as_slice.ensures.reached ∙ ap (told_in e) (sym w.in-Some.is ∙ c.index-by_embed-embed.is) in
+          let told : told_of e w.deref.result.now w.as_slice.result.now ≡ told_in e here = ap₂ (told_of e) w.deref.ensures w.as_slice.ensures.reached ∙ ap (told_in e) (sym w.in-Some.is ∙ c.index-by_embed-embed.is) in
           rw (w.values-is, w.in_ok-put_new_values.ensures) (append_assoc so_far (told_of e w.deref.result.now w.as_slice.result.now) later ∙ ap (λ list. so_far ++ (list ++ later)) told ∙ ap (λ list. so_far ++ list) (sym next) ∙ c.loop-embed.invariant)
       | in_default w ↦
           let none : [] ≡ told_in e here = ap (told_in e) (sym w.in_default.is ∙ c.index-by_embed-embed.is) in

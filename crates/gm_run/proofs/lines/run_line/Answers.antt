@@ -1,46 +1,40 @@
-use Rattle.std.proofs.Common.{◌≡◌, refl, ap, sym, subst, ap₂, ◌∙◌}
+use Rattle.std.proofs.Common.{refl, ap, ◌∙◌}
 use Rattle.std.proofs.lemmas.Result.{err_from_is_err_and}
-use Rattle.gm_model.specs.Budgets.{IsLineBudget}
 use Rattle.gm_arena.specs.ArenaAsMap.{as_map}
-use Rattle.gm_theory.specs.Outcomes.{IsGoodLine, IsSoundOf}
+use Rattle.gm_theory.specs.Outcomes.{IsSoundOf}
 use Rattle.gm_run.specs.declared.standing.Standing.{Standing}
 use Rattle.gm_run.specs.Progress.{rules_of}
-use Rattle.gm_run.specs.Standing.{HasLine, IsUnapplied, group_behind, line_of}
+use Rattle.gm_model.specs.Statements.{line_of}
+use Rattle.gm_run.specs.Standing.{group_behind}
 use Rattle.gm_run.proofs.Advancing.{named}
 use Rattle.gm_run.proofs.Stepping.{applies, budget_of, skipped, unapplied}
 use Rattle.gm_run.proofs.lines.run_line.Goals as goal
 
 pub accepted-requires-clause-named : goal.accepted-requires-clause-named
-accepted-requires-clause-named g c = named c.args.plans.now c.args.line.now c.requires.good
+accepted-requires-clause-named g c = named c.args.plans.now (line_of c.args.line) c.requires.good
 
 pub returns-then-is_broken-clause-step : goal.returns-then-is_broken-clause-step
 returns-then-is_broken-clause-step g c state entries stands =
-    skipped (rules_of c.args.plans.now) c.args.line.now c.args.arena.now c.args.arena.now c.args.standing.now c.args.standing.now state entries c.args.steps.now c.args.steps.now stands (c.is_broken.ensures.broken c.if-is_broken.true)
-
-pub apply_rule-requires-clause-good : goal.apply_rule-requires-clause-good
-apply_rule-requires-clause-good g c =
-    subst (IsGoodLine (rules_of c.args.plans.now)) (sym (ap₂ (line_of c.args.line.now.rule) c.as_slice-hooks.ensures c.as_slice-params.ensures)) c.requires.good
+    skipped (rules_of c.args.plans.now) (line_of c.args.line) c.args.arena.now c.args.arena.now c.args.standing.now c.args.standing.now state entries c.args.steps.now c.args.steps.now stands (c.is_broken.ensures.broken c.if-is_broken.true)
 
 pub returns-in_err-outcome-clause-step : goal.returns-in_err-outcome-clause-step
 returns-in_err-outcome-clause-step g c state entries stands =
     let p = err_from_is_err_and c.from_residual.result c.from_residual.ensures.1 in
     let rules = rules_of c.args.plans.now in
-    let line = c.args.line.now in
-    let same : line_of line.rule c.as_slice-hooks.result.now c.as_slice-params.result.now ≡ line = ap₂ (line_of line.rule) c.as_slice-hooks.ensures c.as_slice-params.ensures in
+    let line = (line_of c.args.line) in
     let sound : IsSoundOf c.args.arena.now.schema (as_map c.args.arena.now) = record { schema_is = refl; sound = c.requires.sound } in
     rw p.1 (unapplied rules line c.args.arena.now c.apply_rule.new.arena c.args.standing.now c.apply_rule.new.standing state entries c.args.steps.now c.apply_rule.new.steps stands (c.is_broken.ensures.whole c.if-is_broken.false)
     (budget_of rules line c.args.arena.now c.accepted.ensures.rule c.requires.sound c.requires.good) sound c.accepted.ensures.rule
-    (subst (λ l. IsUnapplied rules (as_map c.args.arena.now) l (as_map c.apply_rule.new.arena) c.args.steps.now c.apply_rule.new.steps) same c.in_err-outcome.ensures.line))
+    c.in_err-outcome.ensures.line)
 
 pub returns-clause-step : goal.returns-clause-step
 returns-clause-step g c state entries stands =
     let rules = rules_of c.args.plans.now in
-    let line = c.args.line.now in
-    let same : line_of line.rule c.as_slice-hooks.result.now c.as_slice-params.result.now ≡ line = ap₂ (line_of line.rule) c.as_slice-hooks.ensures c.as_slice-params.ensures in
+    let line = (line_of c.args.line) in
     let budget = budget_of rules line c.args.arena.now c.accepted.ensures.rule c.requires.sound c.requires.good in
     let new : Standing = record { keeps = c.apply_rule.new.standing.keeps; history = c.apply_rule.new.standing.history; group = c.behind-standing.result; scratch = c.apply_rule.new.standing.scratch } in
     applies rules line c.args.arena.now c.apply_rule.new.arena c.args.standing.now new state entries c.args.steps.now c.apply_rule.new.steps stands (c.is_broken.ensures.whole c.if-is_broken.false) budget c.in_ok-outcome.outcome
-    (subst (λ l. HasLine rules (as_map c.args.arena.now) l (as_map c.apply_rule.new.arena) c.args.steps.now c.apply_rule.new.steps c.in_ok-outcome.outcome) same c.in_ok-outcome.ensures.line)
+    c.in_ok-outcome.ensures.line
     (c.in_ok-outcome.ensures.history state.history stands.history)
-    (c.in_ok-outcome.ensures.entries state.history entries budget.0 stands.history stands.costs (subst (λ l. IsLineBudget rules (as_map c.args.arena.now) l budget.0) (sym same) budget.1))
+    (c.in_ok-outcome.ensures.entries state.history entries budget.0 stands.history stands.costs budget.1)
     (c.behind-standing.ensures ∙ ap (group_behind c.in_ok-outcome.outcome) c.in_ok-outcome.ensures.group)

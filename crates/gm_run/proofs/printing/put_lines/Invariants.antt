@@ -7,4 +7,4 @@ use Rattle.gm_run.proofs.printing.put_lines.Given as goal
 
 abbrev pub invariant-loop-index : goal.invariant-loop-index
 invariant-loop-index l = (told : List Outcome) → Tells l.outcomes told
-    → l.text ++ outcome_lines l.book.schema (map rule_of l.book.rules) l.index (drop l.index l.stats) (drop l.index told) ≡ l.fn.text ++ outcome_lines l.book.schema (map rule_of l.book.rules) 0 l.stats told
+    → l.text ++ outcome_lines l.book.schema (map rule_of l.book.rules) l.index (drop l.index l.script.stats) (drop l.index told) ≡ l.fn.text ++ outcome_lines l.book.schema (map rule_of l.book.rules) 0 l.script.stats told

@@ -6,15 +6,15 @@ use Rattle.gm_run.specs.Progress.{rules_of}
 use Rattle.gm_run.proofs.Through.{IsThrough, is_open}
 use Rattle.gm_run.proofs.running.run.Given as goal
 
-abbrev pub invariant-loop-stat : goal.invariant-loop-stat
-invariant-loop-stat g l = record {
+abbrev pub invariant-loop-index : goal.invariant-loop-index
+invariant-loop-index g l = record {
   sound : IsSound (as_map l.arena);
   schema : l.arena.schema ≡ l.fn.arena.schema;
   spare : l.fn.arena.count + l.fn.arena.spare ≤ l.arena.count + l.arena.spare;
   reserved : l.fn.arena.reserved ≤ l.arena.reserved;
-  long : length l.outcomes.items ≡ l.stat-index;
-  capacity : length l.stats ≤ vec_capacity l.outcomes;
-  kept : l.standing.keeps ≡ false → l.needing ≤ l.stat-index;
-  order : AreInOrder (is_open l.standing.group) (drop l.stat-index l.stats);
-  through : IsThrough (rules_of l.plans) (as_map l.fn.arena) (take l.stat-index l.stats) l.outcomes.items l.standing l.arena l.fn.steps l.steps;
+  long : length l.outcomes.items ≡ l.index;
+  capacity : l.count ≤ vec_capacity l.outcomes;
+  kept : l.standing.keeps ≡ false → l.needing ≤ l.index;
+  order : AreInOrder (is_open l.standing.group) (drop l.index l.script.stats);
+  through : IsThrough (rules_of l.plans) (as_map l.fn.arena) (take l.index l.script.stats) l.outcomes.items l.standing l.arena l.fn.steps l.steps;
 }

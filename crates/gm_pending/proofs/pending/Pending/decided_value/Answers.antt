@@ -12,7 +12,7 @@ returns-clause-value c = λ kept at.
     let reached = c.orbits-orbits.ensures.reached kept at in
     let there = has_given app c.orbits-orbits.ensures.prepared c.args.embed kept at marks reached c.args.at c.requires.dart c.in_ok-index.index c.in_ok-index.ensures.instance c.requires.given in
     let v = some_of (given_of (instances_of app c.args.embed) c.in_ok-index.index) there in
-    let is : c.given.result ≡ Some v.0 = c.given.ensures ∙ ap (λ ds. given_of ds c.in_ok-index.index) (c.deref.ensures.value ∙ c.orbits-orbits.ensures.deciders) ∙ v.1 in
+    let is : c.given.result ≡ Some v.0 = c.given.ensures ∙ ap (λ ds. given_of ds c.in_ok-index.index) (c.deref.ensures ∙ c.orbits-orbits.ensures.deciders) ∙ v.1 in
     rw is (value_decided app c.orbits-orbits.ensures.prepared c.args.embed kept at marks reached c.args.at c.requires.dart c.in_ok-index.index c.in_ok-index.ensures.instance v.0 v.1)
 
 pub orbits-orbits-requires : goal.orbits-orbits-requires

@@ -62,7 +62,7 @@ returns-clause-count g c =
     let within = subst (λ (a : PendingOf). c.args.embed < length a.map.schema.embeds) (sym c.in_ok-look_up.ensures) c.requires.embed in
     let good = good_if_ungiven orbits.instances.items c.in_ok-orbits.ensures.ungiven in
     let here = kept_deciders s.arena.now s.plan.now.table s.found.now s.orbits.items c.args.embed orbits c.look_up.new.self c.self.view_is c.self.invariant.0 c.self.invariant.2 within c.put_orbits.new.by_embed.items c.put_orbits.ensures c.in_ok-orbits.ensures.deciders c.in_ok-orbits.ensures.reached (λ x p embed v at given. good x p embed v given) in
-    omega (arith, c.len-count.ensures, orbits.instances.ok.0, ap (λ (ds : List DecidingInstance). length ds) here)
+    omega (arith, c.len-count.ensures, c.in_ok-orbits.ensures.few, ap (λ (ds : List DecidingInstance). length ds) here)
 
 pub returns-in_err-look_up-clause-cost : goal.returns-in_err-look_up-clause-cost
 returns-in_err-look_up-clause-cost g c = λ kept at result count unfolded counted. omega arith

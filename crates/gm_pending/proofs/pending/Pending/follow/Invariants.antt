@@ -1,6 +1,7 @@
 use Rattle.std.proofs.Common.{ℕ, ◌+◌, ◌-◌, ◌≤◌, List, length}
 use Rattle.gm_theory.specs.Theorem.{Unfolded}
 use Rattle.gm_pending.specs.declared.marks.Mark.{Mark}
+use Rattle.gm_pending.specs.Marks.{key_of, HasKey}
 use Rattle.gm_pending.specs.Pairs.{IsPair}
 use Rattle.gm_pending.specs.Reached.{AreResultDarts, IsFollowedBut}
 use Rattle.gm_pending.specs.Results.{IsResultDart, IsUnfoldedIn, name_of}
@@ -10,6 +11,8 @@ abbrev pub invariant-loop-is_new : goal.invariant-loop-is_new
 invariant-loop-is_new g l = record {
   darts : AreResultDarts l.self l.marks;
   dart : IsResultDart l.self l.at;
+  here : HasKey l.marks (key_of l.at);
+  start : HasKey l.marks (key_of l.fn.from);
   pair : IsPair l.declared.mask l.label l.other;
   followed : (result : Unfolded) (before : List Mark) (m : ℕ) → IsUnfoldedIn l.self result → IsFollowedBut l.self l.declared result before l.fn.marks l.index (name_of l.self l.fn.from) (name_of l.self l.fn.from) l.fn.first m → IsFollowedBut l.self l.declared result before l.marks l.index (name_of l.self l.fn.from) (name_of l.self l.at) l.label m;
   cost : l.steps + length l.fn.marks ≤ l.fn.steps + length l.marks;

@@ -1,12 +1,13 @@
-use Rattle.std.proofs.Common.{◌≡◌, ◌<◌, Some, length, set, refl, sym, ◌∙◌, ap, subst}
-use Rattle.std.specs.Vec.{with_item}
+use Rattle.std.proofs.Common.{◌≡◌, ◌<◌, None, Some, get_or, length, set, refl, sym, ◌∙◌, ap, subst}
+use Rattle.smallvec.specs.SmallVec.{with_items}
 use Rattle.gm_model.specs.Maps.{IsEmbedAt}
 use Rattle.gm_pending.specs.declared.decided_orbits.DecidedOrbits.{DecidedOrbits}
+use Rattle.gm_pending.specs.declared.deciding_instance.DecidingInstance.{DecidingInstance}
 use Rattle.gm_pending.specs.Answered.{pending_as}
 use Rattle.gm_pending.specs.Results.{PendingOf, instances_of, given_at, with_instances}
 use Rattle.gm_pending.proofs.Answered.{decided_within, decider_within}
 use Rattle.gm_pending.proofs.Answering.{read_there}
-use Rattle.gm_pending.proofs.Giving.{with_value, given_set, given_answers, given_is, given_prepared}
+use Rattle.gm_pending.proofs.Giving.{with_value, given_answers, given_is, given_prepared, written_back}
 use Rattle.gm_pending.proofs.pending.Pending.give.Goals as goal
 
 pub returns : goal.returns
@@ -17,12 +18,14 @@ returns c =
     let known = decided_within s.arena.now s.plan.now.table s.found.now s.orbits.items c.args.embed c.args.index low in
     let there = read_there s.orbits.items s.orbits.items c.args.embed c.index_mut.result.now c.index_mut.ensures.value refl known ∙ ap Some c.in-Some.is in
     let within = decider_within s.arena.now s.plan.now.table s.found.now s.orbits.items c.args.embed c.args.index low orbits there in
-    let read = read_there orbits.instances.items orbits.instances.items c.args.index c.index_mut-in-Some.result.now c.index_mut-in-Some.ensures.value refl within in
-    let again : DecidedOrbits = record { instances = with_item orbits.instances c.args.index (with_value c.index_mut-in-Some.result.now c.args.value); marks = orbits.marks } in
+    let lent = c.as_mut_slice.result.now in
+    let none : DecidingInstance = record { node = 0; position = 0; given = None } in
+    let written = written_back orbits.instances.items lent c.args.index c.args.value none c.as_mut_slice.ensures.value within in
+    let again : DecidedOrbits = record { instances = with_items orbits.instances (set lent c.args.index (with_value (get_or lent c.args.index none) c.args.value)); marks = orbits.marks } in
     subst (λ (a : PendingOf). pending_as s.arena.now s.plan.now.table s.found.now (set s.orbits.items c.args.embed (Some again)) ≡ with_instances a c.args.embed (given_at (instances_of a c.args.embed) c.args.index c.args.value)) c.self.view_is
     (given_is s.arena.now s.plan.now.table s.found.now s.orbits.items c.args.embed orbits there c.self.invariant.0 c.self.invariant.2 c.args.index c.args.value
     (λ embed at. c.requires.value embed (subst (λ (a : PendingOf). IsEmbedAt a.map.schema c.args.embed embed) c.self.view_is at))
-    _ again refl (given_set orbits.instances.items c.args.index c.index_mut-in-Some.result.now c.args.value read) refl)
+    _ again refl written refl)
 
 pub invariant_of-self : goal.invariant_of-self
 invariant_of-self c =
@@ -32,13 +35,14 @@ invariant_of-self c =
     let known = decided_within s.arena.now s.plan.now.table s.found.now s.orbits.items c.args.embed c.args.index low in
     let there = read_there s.orbits.items s.orbits.items c.args.embed c.index_mut.result.now c.index_mut.ensures.value refl known ∙ ap Some c.in-Some.is in
     let within = decider_within s.arena.now s.plan.now.table s.found.now s.orbits.items c.args.embed c.args.index low orbits there in
-    let read = read_there orbits.instances.items orbits.instances.items c.args.index c.index_mut-in-Some.result.now c.index_mut-in-Some.ensures.value refl within in (
+    let none : DecidingInstance = record { node = 0; position = 0; given = None } in
+    let written = written_back orbits.instances.items c.as_mut_slice.result.now c.args.index c.args.value none c.as_mut_slice.ensures.value within in (
       given_prepared s.arena.now s.plan.now.table s.found.now s.orbits.items c.args.embed orbits there c.self.invariant.0 c.self.invariant.2 c.args.index c.args.value
           (λ embed at. c.requires.value embed (subst (λ (a : PendingOf). IsEmbedAt a.map.schema c.args.embed embed) c.self.view_is at))
-          _ _ refl (given_set orbits.instances.items c.args.index c.index_mut-in-Some.result.now c.args.value read) refl,
+          _ _ refl written refl,
       c.self.invariant.1,
       given_answers s.arena.now s.plan.now.table s.found.now s.orbits.items c.args.embed orbits there c.self.invariant.0 c.self.invariant.2 c.args.index c.args.value
           (λ embed at. c.requires.value embed (subst (λ (a : PendingOf). IsEmbedAt a.map.schema c.args.embed embed) c.self.view_is at))
-          _ _ refl (given_set orbits.instances.items c.args.index c.index_mut-in-Some.result.now c.args.value read) refl,
+          _ _ refl written refl,
       c.self.invariant.3,
     )

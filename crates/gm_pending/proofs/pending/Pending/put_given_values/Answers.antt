@@ -50,7 +50,7 @@ loop-entry-preserved c =
     elim c.match-entry.branch [
       | in-New+in-Some w ↦
           let new = subst (IsResultDart app) w.in-New.is dart in
-          let given : given_of (instances_of app c.args.embed) entry.instance ≡ Some w.in-Some.value = sym (ap (λ ds. given_of ds entry.instance) (w.deref.ensures.value ∙ c.orbits-orbits.ensures.deciders)) ∙ sym w.given.ensures ∙ w.in-Some.is in
+          let given : given_of (instances_of app c.args.embed) entry.instance ≡ Some w.in-Some.value = sym (ap (λ ds. given_of ds entry.instance) (w.deref.ensures ∙ c.orbits-orbits.ensures.deciders)) ∙ sym w.given.ensures ∙ w.in-Some.is in
           let value = entry_value app c.orbits-orbits.ensures.prepared c.args.embed items c.requires.embed now.reached c.loop-entry.entry-index _ here w.in-Some.value given in
           record {
             reached = now.reached;
@@ -60,7 +60,7 @@ loop-entry-preserved c =
                 (λ embed at. subst (λ a. IsValueIn app c.args.embed embed (name_of app a) w.in-Some.value) w.in-New.is (value embed at)));
           }
       | in-New+in_default-given w ↦
-          let none : given_of (instances_of app c.args.embed) entry.instance ≡ None = sym (ap (λ ds. given_of ds entry.instance) (w.deref.ensures.value ∙ c.orbits-orbits.ensures.deciders)) ∙ sym w.given.ensures ∙ w.in_default-given.is in
+          let none : given_of (instances_of app c.args.embed) entry.instance ≡ None = sym (ap (λ ds. given_of ds entry.instance) (w.deref.ensures ∙ c.orbits-orbits.ensures.deciders)) ∙ sym w.given.ensures ∙ w.in_default-given.is in
           let there = entry_given app c.orbits-orbits.ensures.prepared c.args.embed items c.requires.embed now.reached c.loop-entry.entry-index _ here (c.requires.given c.args.embed c.requires.embed) in
           absurd (false≢true (subst IsSome none there))
       | in_default w ↦ record {

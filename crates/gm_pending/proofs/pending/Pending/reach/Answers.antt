@@ -6,7 +6,8 @@ use Rattle.gm_pending.specs.Reached.{IsSpreadTo}
 use Rattle.gm_pending.specs.Results.{name_of}
 use Rattle.gm_pending.proofs.Following.{stays_longer, walked_cost, walked_on, walked_some}
 use Rattle.gm_pending.proofs.Decided.{on_ok}
-use Rattle.gm_pending.proofs.Pairs.{follow_other, follow_spreads, follow_starts, one_longer, pair_cost, pair_wide}
+use Rattle.gm_pending.proofs.Pairs.{follow_other, follow_spreads, follow_starts, one_longer, pair_cost, pair_turned, pair_wide}
+use Rattle.gm_pending.proofs.Reached.{key_marked}
 use Rattle.gm_pending.proofs.Spread.{marked_kept, marked_darts, nothing_grown, spread_starts}
 use Rattle.gm_theory.proofs.Lists.{get_contained}
 use Rattle.gm_pending.proofs.pending.Pending.reach.Goals as goal
@@ -145,3 +146,9 @@ returns-in-Some-clause-cost g c =
     let long : length c.mark.new.self ≡ length c.args.marks.now + 1 = one_longer c.args.marks.now c.mark.new.self c.args.at c.args.index None c.in_ok-mark.ensures.ok c.requires.absent in
     pair_cost app.map.schema.dim (length c.args.marks.now) (length c.follow-in-Some.new.marks) c.args.steps.now c.follow-in-Some.new.steps wide
     (omega (arith, long, c.follow.ensures.longer, c.follow-in-Some.ensures.longer)) (omega (arith, long, c.follow.ensures.cost, c.follow-in-Some.ensures.cost))
+
+pub follow-requires-clause-here : goal.follow-requires-clause-here
+follow-requires-clause-here g c = key_marked c.args.marks.now c.mark.new.self c.args.at c.args.index None c.in_ok-mark.ensures.ok
+
+pub follow-requires-in-Some-clause-pair : goal.follow-requires-in-Some-clause-pair
+follow-requires-in-Some-clause-pair g c = pair_turned c.args.declared.now.mask c.in-Some.one c.in-Some.other c.in-Some.ensures

@@ -1,5 +1,5 @@
-use Rattle.std.proofs.Common.{◌+◌, ◌≤◌, IsTrue, Some, sym, ◌∙◌, arith}
-use Rattle.gm_model.specs.Labels.{has}
+use Rattle.std.proofs.Common.{◌+◌, ◌≤◌, Some, refl, sym, ◌∙◌, arith}
+use Rattle.gm_theory.proofs.Lists.{contained_at, get_contained}
 use Rattle.gm_pending.specs.Reached.{IsFollowedTo}
 use Rattle.gm_pending.proofs.Following.{asked_next, stays_longer, followed_some, followed_follows, followed_up_to}
 use Rattle.gm_pending.proofs.Spread.{marked_kept, marked_darts}
@@ -20,9 +20,7 @@ pub neighbour-to-requires-clause-label : goal.neighbour-to-requires-clause-label
 neighbour-to-requires-clause-label g c = c.labels.ensures.prepared.lawful.schema.labels c.args.embed c.in-Some.label c.args.declared.now c.requires.embed (c.loop-label.invariant.followed.3.0 c.in-Some.label c.in-Some.ensures.0 c.in-Some.ensures.1).1
 
 pub neighbour-to-requires-clause-kept : goal.neighbour-to-requires-clause-kept
-neighbour-to-requires-clause-kept g c h =
-    let asked : IsTrue (has c.args.declared.now.mask c.in-Some.label) = (c.loop-label.invariant.followed.3.0 c.in-Some.label c.in-Some.ensures.0 c.in-Some.ensures.1).1 in
-    c.requires.made c.in-Some.label (c.labels.ensures.prepared.lawful.schema.labels c.args.embed c.in-Some.label c.args.declared.now c.requires.embed asked) asked (sym c.has.ensures ∙ h)
+neighbour-to-requires-clause-kept g c h = (c.made_labels-made.ensures c.in-Some.label c.in-Some.ensures.0).0 (sym c.has.ensures ∙ h)
 
 pub loop-label-preserved : goal.loop-label-preserved
 loop-label-preserved g c =
@@ -33,35 +31,35 @@ loop-label-preserved g c =
     let label = c.in-Some.label in
     let to = c.neighbour-to in
     let lowest = c.in-Some.ensures in
-    let more = c.in_ok-mark.ensures.ok in
+    let more = c.in_ok-mark_beside.ensures.ok in
     let asked = l.invariant.followed.3.0 label lowest.0 lowest.1 in
     let within : label ≤ app.map.schema.dim = prepared.lawful.schema.labels c.args.embed label c.args.declared.now c.requires.embed asked.1 in
     let so_far : IsFollowedTo app c.args.declared.now from c.args.marks.now l.marks label = followed_up_to app prepared c.args.embed c.args.declared.now c.requires.embed from c.args.marks.now l.marks l.invariant.kept l.asked l.invariant.followed.0 label asked.0 (omega (arith, lowest.0)) l.invariant.followed.2 l.invariant.followed.3 lowest.2 in
     record {
-      darts = marked_darts app prepared l.marks c.mark.new.self to.result from.instance (Some label) more to.ensures.dart l.invariant.darts;
-      kept = λ j entry f. marked_kept app prepared l.marks c.mark.new.self to.result from.instance (Some label) more j entry (l.invariant.kept j entry f);
+      darts = marked_darts app prepared l.marks c.mark_beside.new.self to.result from.instance (Some label) more to.ensures.dart l.invariant.darts;
+      kept = λ j entry f. marked_kept app prepared l.marks c.mark_beside.new.self to.result from.instance (Some label) more j entry (l.invariant.kept j entry f);
       followed = (
         label + 1,
         omega (arith, within),
-        followed_follows app prepared c.args.embed c.args.declared.now c.requires.embed from c.args.marks.now l.marks label l.invariant.kept so_far c.mark.new.self to.result asked.1 l.invariant.darts c.mark.ensures.distinct to.ensures.dart to.ensures.arc more,
+        followed_follows app prepared c.args.embed c.args.declared.now c.requires.embed from c.args.marks.now l.marks label l.invariant.kept so_far c.mark_beside.new.self to.result asked.1 l.invariant.darts c.mark_beside.ensures.distinct to.ensures.dart to.ensures.arc more,
         asked_next c.args.declared.now.mask l.asked c.without-asked-in-Some.result from.over l.invariant.followed.0 label l.invariant.followed.3 lowest.0 lowest.1 lowest.2 c.without-asked-in-Some.ensures.among c.without-asked-in-Some.ensures.others c.without-asked-in-Some.ensures.gone,
         omega (arith, asked.0, l.invariant.followed.4, to.ensures.cost),
       );
       least = omega (arith, l.invariant.least, to.ensures.least);
     }
 
-pub returns-in_err-mark-clause-darts : goal.returns-in_err-mark-clause-darts
-returns-in_err-mark-clause-darts g c = rw c.in_err-mark.ensures.err c.loop-label.invariant.darts
+pub returns-in_err-mark_beside-clause-darts : goal.returns-in_err-mark_beside-clause-darts
+returns-in_err-mark_beside-clause-darts g c = rw c.in_err-mark_beside.ensures.err c.loop-label.invariant.darts
 
-pub returns-in_err-mark-clause-grown : goal.returns-in_err-mark-clause-grown
-returns-in_err-mark-clause-grown g c = rw c.in_err-mark.ensures.err
+pub returns-in_err-mark_beside-clause-grown : goal.returns-in_err-mark_beside-clause-grown
+returns-in_err-mark_beside-clause-grown g c = rw c.in_err-mark_beside.ensures.err
     (followed_some c.args.self.now c.labels.ensures.prepared c.args.embed c.args.declared.now c.requires.embed c.args.from c.args.marks.now c.loop-label.marks c.loop-label.invariant.followed.0 c.loop-label.invariant.followed.2)
 
-pub returns-in_err-mark-clause-longer : goal.returns-in_err-mark-clause-longer
-returns-in_err-mark-clause-longer g c = rw c.in_err-mark.ensures.err (stays_longer c.args.marks.now c.loop-label.marks c.loop-label.invariant.kept)
+pub returns-in_err-mark_beside-clause-longer : goal.returns-in_err-mark_beside-clause-longer
+returns-in_err-mark_beside-clause-longer g c = rw c.in_err-mark_beside.ensures.err (stays_longer c.args.marks.now c.loop-label.marks c.loop-label.invariant.kept)
 
-pub returns-in_err-mark-clause-cost : goal.returns-in_err-mark-clause-cost
-returns-in_err-mark-clause-cost g c =
+pub returns-in_err-mark_beside-clause-cost : goal.returns-in_err-mark_beside-clause-cost
+returns-in_err-mark_beside-clause-cost g c =
     let l = c.loop-label in
     let asked = l.invariant.followed.3.0 c.in-Some.label c.in-Some.ensures.0 c.in-Some.ensures.1 in
     let within : c.in-Some.label ≤ c.args.self.now.map.schema.dim = c.labels.ensures.prepared.lawful.schema.labels c.args.embed c.in-Some.label c.args.declared.now c.requires.embed asked.1 in
@@ -85,3 +83,8 @@ returns-clause-grown g c = followed_some c.args.self.now c.labels.ensures.prepar
 
 pub returns-clause-cost : goal.returns-clause-cost
 returns-clause-cost g c = omega (arith, c.loop-label.invariant.followed.1, c.loop-label.invariant.followed.4)
+
+pub mark_beside-requires : goal.mark_beside-requires
+mark_beside-requires g c =
+    let was = c.requires.from in
+    record { from = (c.args.from, get_contained c.loop-label.marks was.0 c.args.from (c.loop-label.invariant.kept was.0 c.args.from (contained_at c.args.marks.now c.args.from was)), refl) }

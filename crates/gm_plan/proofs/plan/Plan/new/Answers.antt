@@ -3,6 +3,7 @@ use Rattle.std.proofs.lemmas.Result.{IfOk-from_err}
 use Rattle.gm_model.specs.declared.rule.Side.TheVariants.{Left, Right}
 use Rattle.gm_model.specs.Rules.{rule_of}
 use Rattle.gm_plan.specs.Plans.{AreSteps}
+use Rattle.gm_plan.proofs.Tests.{are_tests}
 use Rattle.gm_plan.proofs.plan.Plan.new.Goals as goal
 
 pub node_count-nodes-requires : goal.node_count-nodes-requires
@@ -77,9 +78,12 @@ invariant_of-result c = record {
   made_steps = rw (← c.node_count-nodes.ensures) c.in_ok-made.ensures;
   freed_steps = rw (← c.node_count-nodes.ensures) c.in_ok-freed.ensures;
   tested_steps = rw (← c.as_slice-links.ensures, ← c.node_count-nodes.ensures) c.in_ok-tested.ensures;
+  are_tests = are_tests c.args.schema.now.dim (rule_of c.args.rule.now) _ c.in_ok-paths.ensures c.in_ok-tested.tested.items (rw (← c.as_slice-links.ensures, ← c.node_count-nodes.ensures) c.in_ok-tested.ensures) (omega (arith, c.top.ensures.value, c.top.ensures.greatest)) c.in_ok-tests.tests.items (rw (← c.as_slice.ensures.value, ← c.top.ensures.value) c.in_ok-tests.ensures);
   are_paths = c.in_ok-paths.ensures;
   are_sources = c.in_ok-sources.ensures;
   are_counts = record { left_is = c.count_left.ensures; added_is = c.count_added.ensures; removed_is = c.count_removed.ensures };
+  are_removed = c.nodes_removed.ensures;
+  are_made = c.labels_made-made_labels.ensures;
 }
 
 pub returns : goal.returns

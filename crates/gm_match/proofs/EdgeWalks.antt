@@ -1,0 +1,116 @@
+-- The walk along one label: a dart and its neighbour, or the dart alone.
+use Rattle.std.proofs.Common.{◌≡◌, ◌≢◌, ℕ, zero, suc, ◌+◌, ◌*◌, ◌<◌, ◌≤◌, List, [], ◌∷◌, ◌++◌, length, Some, refl, sym, ap, subst, ◌∙◌, inl, inr, arith}
+use Rattle.std.specs.List.{Contains, slice_get}
+use Rattle.std.specs.Prelude.{slice_index}
+use Rattle.gm_model.specs.declared.word.Letter.{Letter}
+use Rattle.gm_model.specs.declared.word.Letter.TheVariants.{At}
+use Rattle.gm_model.specs.Orbits.{IsPairBefore, IsLeastStep, IsWalk}
+use Rattle.gm_model.specs.Maps.{IsGeneralised}
+use Rattle.gm_arena.specs.declared.slot.Slot.{Slot}
+use Rattle.gm_arena.specs.ArenaAsMap.{as_map}
+use Rattle.gm_arena.specs.ArenaMap.{ArenaMap, IsAt, IsLiveSlot, alpha, name_at}
+use Rattle.gm_arena.specs.Lawful.{IsLawful}
+use Rattle.gm_arena.proofs.MapLemmas.{IsLiveName-name_at}
+use Rattle.gm_walk.specs.Room.{Room, TakesIn}
+use Rattle.gm_walk.specs.Room.TakesIn.{Known, Added}
+use Rattle.gm_walk.proofs.NameLemmas.{at_name, live_at}
+use Rattle.gm_match.proofs.Stepping.{one_slot}
+use Rattle.gm_walk.specs.Cells.{AreCells}
+use Rattle.gm_walk.specs.Turns.{IsTurn}
+use Rattle.gm_walk.specs.Walks.{along, names_of}
+
+none_before : (q l : ℕ) → IsPairBefore q l 0 0 → ⊥
+none_before q l (inl less) = omega (arith, less)
+none_before q l (inr (same, less)) = omega (arith, less)
+
+module _ (m : ArenaMap) (word : List Letter) (i : ℕ) (one : length word ≡ 1) (letter : slice_get word 0 ≡ Some (At i)) where
+  along_is : (x : ℕ) → along m word x 0 ≡ alpha m i x
+  along_is x = rw letter refl
+
+  -- ---- the dart alone
+
+  module _ (d : ℕ) (stays : alpha m i d ≡ d) where
+    closed_one : (q l : ℕ) → q < 1 → l < length word → Contains (d ∷ []) (along m word (slice_index (d ∷ []) q) l)
+    closed_one zero zero h k = (0, omega arith, sym (along_is d ∙ stays))
+    closed_one zero (suc l) h k = absurd (omega (arith, k, one))
+    closed_one (suc q) l h k = absurd (omega (arith, h))
+
+    pub walk_one : IsWalk (along m word) (length word) d (d ∷ [])
+    walk_one = record {
+      starts = refl;
+      distinct = λ p q less within. absurd (omega (arith, less, within));
+      closed = λ q l before h k. closed_one q l h k;
+      least = λ p some within. absurd (omega (arith, some, within));
+    }
+
+    each_one : (p x : ℕ) → p < 1 → x < length word → (v : ℕ) × (slice_get (0 ∷ []) (p * length word + x) ≡ Some v) × IsTurn m word (d ∷ []) p x v
+    each_one zero zero h k = rw one (0, refl, record { within = omega arith; leads = sym (along_is d ∙ stays) })
+    each_one zero (suc x) h k = absurd (omega (arith, k, one))
+    each_one (suc p) x h k = absurd (omega (arith, h))
+
+    pub turns_one : AreCells (IsTurn m word (d ∷ [])) 1 (length word) (0 ∷ [])
+    turns_one = record { long = omega (arith, one); each = each_one }
+
+  -- ---- the dart and its neighbour
+
+  module _ (d e : ℕ) (apart : d ≢ e) (to : e ≡ alpha m i d) (back : alpha m i e ≡ d) where
+    closed_two : (q l : ℕ) → q < 2 → l < length word → Contains (d ∷ e ∷ []) (along m word (slice_index (d ∷ e ∷ []) q) l)
+    closed_two zero zero h k = (1, omega arith, to ∙ sym (along_is d))
+    closed_two (suc zero) zero h k = (0, omega arith, sym (along_is e ∙ back))
+    closed_two zero (suc l) h k = absurd (omega (arith, k, one))
+    closed_two (suc zero) (suc l) h k = absurd (omega (arith, k, one))
+    closed_two (suc (suc q)) l h k = absurd (omega (arith, h))
+
+    distinct : (p q : ℕ) → p < q → q < 2 → slice_index (d ∷ e ∷ []) p ≢ slice_index (d ∷ e ∷ []) q
+    distinct zero zero less within = absurd (omega (arith, less))
+    distinct zero (suc zero) less within = apart
+    distinct zero (suc (suc q)) less within = absurd (omega (arith, within))
+    distinct (suc p) q less within = absurd (omega (arith, less, within))
+
+    least : (p : ℕ) → 0 < p → p < 2 → (q : ℕ) × (l : ℕ) × IsLeastStep (along m word) (length word) (d ∷ e ∷ []) p q l
+    least zero some within = absurd (omega (arith, some))
+    least (suc zero) some within = (0, 0, record { earlier = omega arith; place = omega (arith, one); leads = to ∙ sym (along_is d); least = λ q l before low. absurd (none_before q l before) })
+    least (suc (suc p)) some within = absurd (omega (arith, within))
+
+    pub walk_two : IsWalk (along m word) (length word) d (d ∷ e ∷ [])
+    walk_two = record { starts = refl; distinct = distinct; closed = λ q l before h k. closed_two q l h k; least = least }
+
+    each_two : (p x : ℕ) → p < 2 → x < length word → (v : ℕ) × (slice_get (1 ∷ 0 ∷ []) (p * length word + x) ≡ Some v) × IsTurn m word (d ∷ e ∷ []) p x v
+    each_two zero zero h k = rw one (1, refl, record { within = omega arith; leads = to ∙ sym (along_is d) })
+    each_two (suc zero) zero h k = rw one (0, refl, record { within = omega arith; leads = sym (along_is e ∙ back) })
+    each_two zero (suc x) h k = absurd (omega (arith, k, one))
+    each_two (suc zero) (suc x) h k = absurd (omega (arith, k, one))
+    each_two (suc (suc p)) x h k = absurd (omega (arith, h))
+
+    pub turns_two : AreCells (IsTurn m word (d ∷ e ∷ [])) 2 (length word) (1 ∷ 0 ∷ [])
+    turns_two = record { long = omega (arith, one); each = each_two }
+
+-- ---- the slots that are taken in
+
+first_taken : (old new : Room) (slot : Slot) → old.walked ≡ [] → TakesIn old slot new → new.walked ≡ slot ∷ []
+first_taken old new slot none (Known (p, h, same) e) = absurd (omega (arith, h, ap length none))
+first_taken old new slot none (Added lacks e) = ap (λ (r : Room). r.walked) e ∙ ap (λ xs. xs ++ slot ∷ []) none
+
+not_alone : (from to : Slot) → (to ≡ from → ⊥) → Contains (from ∷ []) to → ⊥
+not_alone from to differs (zero, h, same) = differs (sym same)
+not_alone from to differs (suc p, h, same) = omega (arith, h)
+
+pub both_taken : (old before new : Room) (from to : Slot) → old.walked ≡ [] → TakesIn old from before → (to ≡ from → ⊥) → TakesIn before to new → new.walked ≡ from ∷ to ∷ []
+both_taken old before new from to none takes differs (Known c e) = absurd (not_alone from to differs (subst (λ xs. Contains xs to) (first_taken old before from none takes) c))
+both_taken old before new from to none takes differs (Added lacks e) = ap (λ (r : Room). r.walked) e ∙ ap (λ xs. xs ++ to ∷ []) (first_taken old before from none takes)
+
+module _ (m : ArenaMap) (lawful : IsLawful m) (generalised : IsGeneralised (as_map m)) (word : List Letter) (i : ℕ) (one : length word ≡ 1) (letter : slice_get word 0 ≡ Some (At i)) (low : i ≤ m.schema.dim) (from to : Slot) (live : IsLiveSlot m from.at) (leads : IsAt m to.at (alpha m i (name_at m from.at))) (differs : to ≡ from → ⊥) where
+  to_is : name_at m to.at ≡ alpha m i (name_at m from.at)
+  to_is = at_name m to.at _ leads
+
+  back_is : alpha m i (name_at m to.at) ≡ name_at m from.at
+  back_is = ap (alpha m i) to_is ∙ generalised.back (name_at m from.at) i (IsLiveName-name_at m from.at lawful live) low
+
+  apart : name_at m from.at ≢ name_at m to.at
+  apart same = differs (sym (one_slot m lawful from to live (live_at m to.at _ leads) same))
+
+  pub edge_walk : (walked : List Slot) → walked ≡ from ∷ to ∷ [] → IsWalk (along m word) (length word) (name_at m from.at) (names_of m walked)
+  edge_walk walked is = rw is (walk_two m word i one letter (name_at m from.at) (name_at m to.at) apart to_is back_is)
+
+  pub edge_turns : (walked : List Slot) (turns : List ℕ) → walked ≡ from ∷ to ∷ [] → turns ≡ 1 ∷ 0 ∷ [] → AreCells (IsTurn m word (names_of m walked)) (length walked) (length word) turns
+  edge_turns walked turns is are = rw (is, are) (turns_two m word i one letter (name_at m from.at) (name_at m to.at) apart to_is back_is)
