@@ -1,7 +1,6 @@
 -- Slots and instances of an application: which dart of the result a slot, or an instance of a right node, is.
 use Rattle.std.proofs.Common.{◌≡◌, ◌≢◌, ℕ, ◌+◌, ◌*◌, ◌<◌, ◌≤◌, ◌⊎◌, not, false, IsTrue, Some, refl, sym, ap, ◌∙◌, subst, inl, inr, arith}
 use Rattle.std.proofs.lemmas.Bool.{cases_lt}
-use Rattle.std.proofs.lemmas.Option.{get_or_from_slice_get}
 use Rattle.gm_model.specs.declared.rule.Side.TheVariants.{Left, Right}
 use Rattle.gm_model.specs.Rules.{Rule, has_word}
 use Rattle.gm_model.specs.Unfolding.{IsDartAfter, IsGone, IsMadeArc, IsArcAfter}
@@ -10,21 +9,18 @@ use Rattle.gm_arena.specs.ArenaMap.{IsAt, IsLiveSlot, name_at, alpha}
 use Rattle.gm_arena.proofs.InsideLemmas.{is_some_at}
 use Rattle.gm_arena.proofs.MapLemmas.{name_at-is, IsAt-name_at, IsLiveName-name_at}
 use Rattle.gm_plan.specs.InArena.{slot_number}
-use Rattle.gm_plan.specs.Placed.{Placed, slot_at}
+use Rattle.gm_plan.specs.Placed.{Placed}
 use Rattle.gm_plan.specs.Plans.{IsLeftCount}
 use Rattle.gm_theory.proofs.Arcs.{kept_name, right_dart, arc_to}
 use Rattle.gm_theory.proofs.Scenes.{IsRightAt}
 use Rattle.gm_theory.proofs.Tests.{both_true, and_true, not_true, true_not, true_or_false, not_both}
 use Rattle.gm_pending.specs.declared.at.At.{At}
 use Rattle.gm_pending.specs.declared.at.At.TheVariants.{Old, New}
-use Rattle.gm_pending.specs.Lookup.{IsWithin, IsAtSlot}
+use Rattle.gm_pending.specs.Keys.{is_old}
+use Rattle.gm_plan.specs.Lookup.{IsWithin, IsAtSlot}
 use Rattle.gm_pending.specs.Results.{PendingOf, IsPrepared, rule_in, scene_in, name_of, IsResultDart}
 use Rattle.gm_pending.proofs.Law.{law}
 use Rattle.gm_pending.proofs.Made.{made_there, unmade_kept}
-
--- the slot of an instance is the one that was answered
-pub slot_answered : (placed : Placed) (x p : ℕ) (slot : Slot) → slot_at placed x p ≡ Some slot → slot_number placed x p ≡ slot.at
-slot_answered placed x p slot e = ap (λ (s : Slot). s.at) (get_or_from_slice_get placed.slots (p * placed.nodes + x) slot (record { at = 0 }) e)
 
 module _ (app : PendingOf) (prepared : IsPrepared app) where
   -- the dart at a live slot is a dart of the old map
@@ -54,6 +50,11 @@ module _ (app : PendingOf) (prepared : IsPrepared app) where
       let sides : IsTrue (not (has_word (rule_in app) Left x)) × IsTrue (has_word (rule_in app) Right x) = both_true (not (has_word (rule_in app) Left x)) (has_word (rule_in app) Right x) added in
       let made = made_there (scene_in app) _ _ _ (law app prepared) x p i (sides.1, within) h ((law app prepared).steps.added_whole x i (not_true (has_word (rule_in app) Left x) sides.0) sides.1 h) in
       unmade made.0 made.1
+
+  -- so where none begins, the dart is an old one
+  pub unmade_old : (at : At) (i : ℕ) → IsResultDart app at → i ≤ app.map.schema.dim → ((e : ℕ) → IsMadeArc (scene_in app) (name_of app at) i e → ⊥) → IsTrue (is_old at)
+  unmade_old (Old slot) i dart h unmade = refl
+  unmade_old (New x p) i dart h unmade = absurd (never_unmade x p i dart h unmade)
 
   -- where none begins at an old dart, its old arc is kept, and leads to a dart of the result
   pub old_kept : (slot to i : ℕ) → IsResultDart app (Old (record { at = slot })) → i ≤ app.map.schema.dim → ((e : ℕ) → IsMadeArc (scene_in app) (name_at app.map slot) i e → ⊥) → IsAt app.map to (alpha app.map i (name_at app.map slot)) →

@@ -10,7 +10,6 @@ pub mod Pairs
 pub mod Reached
 pub mod Spread
 pub mod Valued
-pub mod Looked
 pub mod Made
 pub mod Whole
 pub mod WithArcs

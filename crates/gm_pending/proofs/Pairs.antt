@@ -15,7 +15,8 @@ use Rattle.gm_theory.proofs.Lists.{some_same, get_contained}
 use Rattle.gm_theory.specs.Theorem.{Unfolded, IsDartOf}
 use Rattle.gm_pending.specs.declared.at.At.{At}
 use Rattle.gm_pending.specs.declared.marks.Mark.{Mark}
-use Rattle.gm_pending.specs.Marks.{key_of, reached_by, HasKey, IsMarkedMore, HasDistinctKeys}
+use Rattle.gm_pending.specs.Marks.{reached_by, HasKey, IsMarkedMore, HasDistinctKeys}
+use Rattle.gm_pending.specs.Keys.{key_of}
 use Rattle.gm_pending.specs.Pairs.{IsPair}
 use Rattle.gm_pending.specs.Reached.{AreResultDarts, HasMark, IsAdded, IsClosed, IsSpreadTo, IsFollowedBut}
 use Rattle.gm_pending.specs.Results.{PendingOf, IsPrepared, IsResultDart, IsUnfoldedIn, name_of, scene_in}

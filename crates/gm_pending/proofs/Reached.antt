@@ -1,7 +1,6 @@
 -- One more reached dart.
-use Rattle.std.proofs.Common.{◌≡◌, ◌≢◌, ℕ, zero, suc, ◌*◌, ◌%◌, ◌^◌, ◌<◌, ◌⊎◌, bit_or, w64, Bool, true, false, List, [], ◌∷◌, ◌++◌, length, take, get_or, Option, Some, None, is_some, slice_get, MatchOption, Contains, refl, sym, ◌∙◌, ap, subst, inl, inr, arith}
-use Rattle.std.specs.Prelude.{Result, Ok, Err, OnOk, OnErr, nat_eq}
-use Rattle.std.specs.HashMap.{HashMap, Updates, get}
+use Rattle.std.proofs.Common.{◌≡◌, ◌≢◌, ℕ, zero, suc, ◌*◌, ◌%◌, ◌^◌, ◌<◌, ◌⊎◌, bit_or, w64, Bool, true, false, List, [], ◌∷◌, ◌++◌, length, take, get_or, Option, Some, None, is_some, not, slice_get, MatchOption, Contains, refl, sym, ◌∙◌, ap, subst, inl, inr, arith}
+use Rattle.std.specs.Prelude.{Result, Ok, Err, OnOk, OnErr}
 use Rattle.std.specs.Int.{bit_at}
 use Rattle.std.specs.Option.{option_map}
 use Rattle.std.proofs.lemmas.Bool.{cases_eq, false≢true}
@@ -10,7 +9,9 @@ use Rattle.std.proofs.lemmas.Option.{slice_get_within, slice_get-get_or}
 use Rattle.gm_theory.proofs.Lists.{some_same, none_some, contained_at, get_contained}
 use Rattle.gm_pending.specs.declared.marks.Mark.{Mark}
 use Rattle.gm_pending.specs.declared.at.At.{At}
-use Rattle.gm_pending.specs.Marks.{ByKey, key_of, bit_of, reached_by, HasKey, AreKeyed, AreMarked, AreSeen, IsIndex, IsMarkedBy, IsMarkedMore, IsPut, HasDistinctKeys}
+use Rattle.gm_plan.specs.Indices.{AreTheSame, IsOneMore}
+use Rattle.gm_pending.specs.Marks.{ByKey, bit_of, reached_by, HasKey, AreMarked, AreSeen, IsIndex, IsMarkedBy, IsMarkedMore, IsPut, HasDistinctKeys}
+use Rattle.gm_pending.specs.Keys.{key_of}
 use Rattle.gm_pending.proofs.Whole.{contains_none}
 
 -- ---- a list with one more element
@@ -66,29 +67,18 @@ fresh_key reached i d distinct within (entry, among, same) =
     let there = taken_at reached i among.0 entry (contained_at (take i reached) entry among) in
     distinct among.0 i entry (get_or reached i d) there.1 there.0 (slice_get-get_or reached i d within) same
 
--- another key has what it had
-pub other_key : {X S : Type 0} (old new : HashMap ℕ X S) (key : ℕ) (x : X) → Updates nat_eq old new key (Some x) → (q : ℕ) → q ≢ key → get nat_eq new q ≡ get nat_eq old q
-other_key old new key x put q apart = put.2 q (grind (arith, apart))
-
 -- ---- what is kept of a dart
 
-pub none_indexed : (by_key : ByKey) → ((key : ℕ) → get nat_eq by_key key ≡ None) → IsIndex [] by_key
+pub none_indexed : (by_key : ByKey) → ((key : ℕ) → by_key key ≡ None) → IsIndex [] by_key
 none_indexed by_key none = record { marked = λ entry c. absurd (contains_none entry c); only = λ key k e. none_some k (sym (none key) ∙ e) }
 
 -- an element and the others
-pub keyed_more : (reached : List Mark) (entry : Mark) → AreKeyed reached → entry.key ≡ key_of entry.at → AreKeyed (reached ++ entry ∷ [])
-keyed_more reached entry kept key other among = go (among_or_last reached entry other among)
-  where
-    go : Contains reached other ⊎ (entry ≡ other) → other.key ≡ key_of other.at
-    go (inl c) = kept other c
-    go (inr e) = subst (λ (r : Mark). r.key ≡ key_of r.at) e key
+module _ (reached : List Mark) (old new : ByKey) (kept : IsIndex reached old) (entry : Mark) (absent : HasKey reached (key_of entry.at) → ⊥) (put : IsOneMore old new (key_of entry.at) entry.instance) where
+  here : new (key_of entry.at) ≡ Some entry.instance
+  here = put.0
 
-module _ (reached : List Mark) (old new : ByKey) (kept : IsIndex reached old) (entry : Mark) (absent : HasKey reached (key_of entry.at) → ⊥) (put : Updates nat_eq old new (key_of entry.at) (Some entry.instance)) where
-  here : get nat_eq new (key_of entry.at) ≡ Some entry.instance
-  here = put.1
-
-  other : (key : ℕ) → key ≢ key_of entry.at → get nat_eq new key ≡ get nat_eq old key
-  other = other_key old new (key_of entry.at) entry.instance put
+  other : (key : ℕ) → key ≢ key_of entry.at → new key ≡ old key
+  other = put.1
 
   pub indexed_more : IsIndex (reached ++ entry ∷ []) new
   indexed_more = record {
@@ -96,30 +86,40 @@ module _ (reached : List Mark) (old new : ByKey) (kept : IsIndex reached old) (e
     only = only;
   }
     where
-      marked : (later : Mark) → Contains reached later ⊎ (entry ≡ later) → get nat_eq new (key_of later.at) ≡ Some later.instance
+      marked : (later : Mark) → Contains reached later ⊎ (entry ≡ later) → new (key_of later.at) ≡ Some later.instance
       marked later (inl c) = other (key_of later.at) (λ e. absent (later, c, e)) ∙ kept.marked later c
-      marked later (inr e) = subst (λ (r : Mark). get nat_eq new (key_of r.at) ≡ Some r.instance) e here
+      marked later (inr e) = subst (λ (r : Mark). new (key_of r.at) ≡ Some r.instance) e here
 
-      only : (key j : ℕ) → get nat_eq new key ≡ Some j → IsMarkedBy (reached ++ entry ∷ []) key j
+      only : (key j : ℕ) → new key ≡ Some j → IsMarkedBy (reached ++ entry ∷ []) key j
       only key j e = go (cases_eq key (key_of entry.at))
         where
           go : (key ≡ key_of entry.at) ⊎ (key ≡ key_of entry.at → ⊥) → IsMarkedBy (reached ++ entry ∷ []) key j
-          go (inl f) = (entry, last_among reached entry, sym f, some_same entry.instance j (sym here ∙ subst (λ q. get nat_eq new q ≡ Some j) f e))
+          go (inl f) = (entry, last_among reached entry, sym f, some_same entry.instance j (sym here ∙ subst (λ q. new q ≡ Some j) f e))
           go (inr f) = let m : IsMarkedBy reached key j = kept.only key j (sym (other key f) ∙ e) in (m.0, kept_among reached entry m.0 m.1, m.2, m.3)
 
--- an index that got another value under a key, and then the one back that it had
-module _ (reached : List Mark) (old mid new : ByKey) (kept : IsIndex reached old) (key k j : ℕ) (was : get nat_eq old key ≡ Some j) (put : Updates nat_eq old mid key (Some k)) (back : Updates nat_eq mid new key (Some j)) where
-  same : (q : ℕ) → get nat_eq new q ≡ get nat_eq old q
-  same q = elim (cases_eq q key) [
-    | inl e ↦ subst (λ p. get nat_eq new p ≡ get nat_eq old p) (sym e) (back.1 ∙ sym was)
-    | inr apart ↦ other_key mid new key j back q apart ∙ other_key old mid key k put q apart
-  ]
+-- an index that stays as it was
+pub indexed_still : (reached : List Mark) (old new : ByKey) → IsIndex reached old → AreTheSame old new → IsIndex reached new
+indexed_still reached old new kept same = record {
+  marked = λ entry c. same (key_of entry.at) ∙ kept.marked entry c;
+  only = λ q i e. kept.only q i (sym (same q) ∙ e);
+}
 
-  pub indexed_again : IsIndex reached new
-  indexed_again = record {
-    marked = λ entry c. same (key_of entry.at) ∙ kept.marked entry c;
-    only = λ q i e. kept.only q i (sym (same q) ∙ e);
-  }
+-- an index into which a dart was put, unless it was there
+abbrev pub WasPut : ByKey → ByKey → Mark → Option ℕ → Type 0
+WasPut old new entry had = MatchOption had (IsOneMore old new (key_of entry.at) entry.instance) (λ j. AreTheSame old new)
+
+pub put_fresh : (reached : List Mark) (old new : ByKey) → IsIndex reached old → (entry : Mark) (had : Option ℕ) → had ≡ old (key_of entry.at) → WasPut old new entry had → (HasKey reached (key_of entry.at) → ⊥) → IsIndex (reached ++ entry ∷ []) new
+put_fresh reached old new kept entry None was put absent = indexed_more reached old new kept entry absent put
+put_fresh reached old new kept entry (Some j) was put absent = absurd (let m : IsMarkedBy reached (key_of entry.at) j = kept.only (key_of entry.at) j (sym was) in absent (m.0, m.1, m.2))
+
+pub put_any : (reached : List Mark) (old new : ByKey) → IsIndex reached old → (entry : Mark) (had : Option ℕ) (is_new : Bool) → is_some had ≡ not is_new → had ≡ old (key_of entry.at) → WasPut old new entry had → IsPut reached entry is_new new
+put_any reached old new kept entry None false told was put = absurd (false≢true told)
+put_any reached old new kept entry (Some j) true told was put = absurd (false≢true (sym told))
+put_any reached old new kept entry (Some j) false told was put = let m : IsMarkedBy reached (key_of entry.at) j = kept.only (key_of entry.at) j (sym was) in inr (refl, (m.0, m.1, m.2), indexed_still reached old new kept put)
+put_any reached old new kept entry None true told was put = inl (refl, none, indexed_more reached old new kept entry none put)
+  where
+    none : HasKey reached (key_of entry.at) → ⊥
+    none (other, c, same) = none_some other.instance (was ∙ ap old (sym same) ∙ kept.marked other c)
 
 module _ (reached : List Mark) (kept : HasDistinctKeys reached) (entry : Mark) (absent : HasKey reached (key_of entry.at) → ⊥) where
   pub distinct_more : HasDistinctKeys (reached ++ entry ∷ [])
@@ -161,12 +161,12 @@ module _ (bits key : ℕ) where
       go (inr e) = subst (λ (r : Mark). bit_at (with_bit bits key) (bit_of (key_of r.at)) ≡ 1) e here
 
 -- what an index has under a key
-pub indexed_at : (reached : List Mark) (by_key : ByKey) → IsIndex reached by_key → (key : ℕ) (found : Option ℕ) → found ≡ get nat_eq by_key key → MatchOption found (HasKey reached key → ⊥) (IsMarkedBy reached key)
+pub indexed_at : (reached : List Mark) (by_key : ByKey) → IsIndex reached by_key → (key : ℕ) (found : Option ℕ) → found ≡ by_key key → MatchOption found (HasKey reached key → ⊥) (IsMarkedBy reached key)
 indexed_at reached by_key index key (Some k) e = index.only key k (sym e)
 indexed_at reached by_key index key None e = none
   where
     none : HasKey reached key → ⊥
-    none (entry, c, same) = none_some entry.instance (e ∙ ap (get nat_eq by_key) (sym same) ∙ index.marked entry c)
+    none (entry, c, same) = none_some entry.instance (e ∙ ap by_key (sym same) ∙ index.marked entry c)
 
 -- a dart that is new in an index
 pub put_new : (reached : List Mark) (entry : Mark) (new : Bool) (by_key : ByKey) → IsPut reached entry new by_key → new ≡ true → (HasKey reached (key_of entry.at) → ⊥) × IsIndex (reached ++ entry ∷ []) by_key
@@ -174,15 +174,14 @@ put_new reached entry new by_key (inl (is, absent, index)) yes_new = (absent, in
 put_new reached entry new by_key (inr (is, there, index)) yes_new = absurd (false≢true (sym is ∙ yes_new))
 
 -- one more dart, where there is no index
-pub marked_few : {E B : Type 0} (view : B → ByKey) (before after : List Mark) (by_key : Option B) (bits : ℕ) (entry : Mark) (pushed : Result Unit E) → is_some by_key ≡ false → AreMarked before (option_map view by_key) bits → entry.key ≡ key_of entry.at → (HasKey before (key_of entry.at) → ⊥) → OnOk pushed (after ≡ before ++ entry ∷ []) → OnErr pushed (after ≡ before) → AreMarked after (option_map view by_key) (with_bit bits entry.key)
-marked_few view before after (Some by_key) bits entry pushed none kept key absent ok err = absurd (cc none)
-marked_few view before after None bits entry (Ok x) none kept key absent ok err = rw ok (record {
-  keyed = keyed_more before entry kept.keyed key;
+pub marked_few : {E B : Type 0} (view : B → ByKey) (before after : List Mark) (by_key : Option B) (bits : ℕ) (entry : Mark) (pushed : Result Unit E) → is_some by_key ≡ false → AreMarked before (option_map view by_key) bits → (HasKey before (key_of entry.at) → ⊥) → OnOk pushed (after ≡ before ++ entry ∷ []) → OnErr pushed (after ≡ before) → AreMarked after (option_map view by_key) (with_bit bits (key_of entry.at))
+marked_few view before after (Some by_key) bits entry pushed none kept absent ok err = absurd (cc none)
+marked_few view before after None bits entry (Ok x) none kept absent ok err = rw ok (record {
   distinct = distinct_more before kept.distinct entry absent;
   indexed = tt;
-  seen = seen_more bits entry.key before entry key kept.seen;
+  seen = seen_more bits (key_of entry.at) before entry refl kept.seen;
 })
-marked_few view before after None bits entry (Err x) none kept key absent ok err = rw err (record { keyed = kept.keyed; distinct = kept.distinct; indexed = tt; seen = seen_kept bits entry.key before kept.seen })
+marked_few view before after None bits entry (Err x) none kept absent ok err = rw err (record { distinct = kept.distinct; indexed = tt; seen = seen_kept bits (key_of entry.at) before kept.seen })
 
 -- a key that was there is there still, and that of the dart is there
 pub key_kept : (before after : List Mark) (at : At) (k : ℕ) (over : Option ℕ) (key : ℕ) → IsMarkedMore before after at k over → HasKey before key → HasKey after key

@@ -19,7 +19,8 @@ use Rattle.gm_theory.specs.Theorem.{Unfolded, IsDartOf}
 use Rattle.gm_pending.specs.declared.at.At.{At}
 use Rattle.gm_pending.specs.declared.at.At.TheVariants.{Old, New}
 use Rattle.gm_pending.specs.declared.marks.Mark.{Mark}
-use Rattle.gm_pending.specs.Marks.{key_of, reached_by, HasKey, IsMarkedMore, HasDistinctKeys}
+use Rattle.gm_pending.specs.Marks.{reached_by, HasKey, IsMarkedMore, HasDistinctKeys}
+use Rattle.gm_pending.specs.Keys.{key_of}
 use Rattle.gm_pending.specs.Reached.{AreResultDarts, HasMark, IsAdded, IsClosed, IsGrown, IsSpreadTo}
 use Rattle.gm_pending.specs.Results.{PendingOf, IsPrepared, IsResultDart, IsUnfoldedIn, rule_in, scene_in, name_of}
 use Rattle.gm_pending.proofs.Darts.{same_slot, live_dart, result_dart}
@@ -29,10 +30,10 @@ use Rattle.gm_pending.proofs.Reached.{kept_at, kept_or_last, last_among, get_wit
 module _ (app : PendingOf) (prepared : IsPrepared app) where
   -- ---- darts by their keys
 
-  few_nodes : (x : ℕ) → IsTrue (has_word (rule_in app) Right x) → x < 32
+  pub few_nodes : (x : ℕ) → IsTrue (has_word (rule_in app) Right x) → x < 32
   few_nodes x r = let h : x < length (rule_in app).nodes = word_below (rule_in app) Right x r in omega (arith, prepared.planned.within.nodes)
 
-  added_sides : (x p : ℕ) → IsResultDart app (New x p) → (has_word (rule_in app) Left x ≡ false) × IsTrue (has_word (rule_in app) Right x)
+  pub added_sides : (x p : ℕ) → IsResultDart app (New x p) → (has_word (rule_in app) Left x ≡ false) × IsTrue (has_word (rule_in app) Right x)
   added_sides x p dart =
       let sides : IsTrue (not (has_word (rule_in app) Left x)) × IsTrue (has_word (rule_in app) Right x) = both_true (not (has_word (rule_in app) Left x)) (has_word (rule_in app) Right x) dart.0 in
       (not_true (has_word (rule_in app) Left x) sides.0, sides.1)

@@ -40,21 +40,21 @@ with_values_append m [] rest = refl
 with_values_append m (at ∷ first) rest = with_values_append (with_value m (name_at m at.slot.at) at.embed at.value) first rest
 
 -- those of a marked dart, and of the later ones
-module _ (e : ℕ) (instances : List DecidingInstance) (marks : List Mark) (i : ℕ) (d : Mark) (h : i < length marks) where
+module _ (e : ℕ) (instances : List DecidingInstance) (marks : List Mark) (i : ℕ) (mark : Mark) (h : i < length marks) (here : mark ≡ get_or marks i mark) where
   abbrev later : List ValueAt
   later = told_of e instances (drop (i + 1) marks)
 
-  told_more : told_of e instances (drop i marks) ≡ told_at e (get_or marks i d).at (given_of instances (get_or marks i d).instance) ++ later
-  told_more = ap (told_of e instances) (drop_more marks i d h)
+  told_more : told_of e instances (drop i marks) ≡ told_at e mark.at (given_of instances mark.instance) ++ later
+  told_more = ap (told_of e instances) (drop_more marks i mark h) ∙ ap (λ (m : Mark). told_at e m.at (given_of instances m.instance) ++ later) (sym here)
 
-  pub told_value : (slot : Slot) (v : Value) → (get_or marks i d).at ≡ Old slot → given_of instances (get_or marks i d).instance ≡ Some v → told_of e instances (drop i marks) ≡ value_at slot e v ∷ told_of e instances (drop (i + 1) marks)
+  pub told_value : (slot : Slot) (v : Value) → mark.at ≡ Old slot → given_of instances mark.instance ≡ Some v → told_of e instances (drop i marks) ≡ value_at slot e v ∷ told_of e instances (drop (i + 1) marks)
   told_value slot v at given = told_more ∙ ap₂ (λ a o. told_at e a o ++ later) at given
 
-  pub told_ungiven : (slot : Slot) → (get_or marks i d).at ≡ Old slot → given_of instances (get_or marks i d).instance ≡ None → told_of e instances (drop i marks) ≡ told_of e instances (drop (i + 1) marks)
+  pub told_ungiven : (slot : Slot) → mark.at ≡ Old slot → given_of instances mark.instance ≡ None → told_of e instances (drop i marks) ≡ told_of e instances (drop (i + 1) marks)
   told_ungiven slot at none = told_more ∙ ap₂ (λ a o. told_at e a o ++ later) at none
 
-  pub told_elsewhere : (x p : ℕ) → (get_or marks i d).at ≡ New x p → told_of e instances (drop i marks) ≡ told_of e instances (drop (i + 1) marks)
-  told_elsewhere x p at = told_more ∙ ap (λ a. told_at e a (given_of instances (get_or marks i d).instance) ++ later) at
+  pub told_elsewhere : (x p : ℕ) → mark.at ≡ New x p → told_of e instances (drop i marks) ≡ told_of e instances (drop (i + 1) marks)
+  told_elsewhere x p at = told_more ∙ ap (λ a. told_at e a (given_of instances mark.instance) ++ later) at
 
 -- those of an embedding, and of the later ones
 pub told_next : (orbits : List (Option DecidedOrbits)) (i : ℕ) (d : Option DecidedOrbits) → i < length orbits → told_from i (drop i orbits) ≡ told_in i (get_or orbits i d) ++ told_from (i + 1) (drop (i + 1) orbits)
@@ -66,8 +66,10 @@ told_there e instances [] i d at h among = absurd (omega arith)
 told_there e instances (mark ∷ marks) zero d at h among = Contains-append_left (told_at e mark.at (given_of instances mark.instance)) (told_of e instances marks) at among
 told_there e instances (mark ∷ marks) (suc i) d at h among = Contains-append_right (told_at e mark.at (given_of instances mark.instance)) (told_of e instances marks) at (told_there e instances marks i d at (omega arith) among)
 
-pub value_there : (e : ℕ) (instances : List DecidingInstance) (marks : List Mark) (i : ℕ) (d : Mark) (slot : Slot) (v : Value) → i < length marks → (get_or marks i d).at ≡ Old slot → given_of instances (get_or marks i d).instance ≡ Some v → Contains (told_of e instances marks) (value_at slot e v)
-value_there e instances marks i d slot v h at given = told_there e instances marks i d (value_at slot e v) h (rw (at, given) (contains_first (value_at slot e v) []))
+pub value_there : (e : ℕ) (instances : List DecidingInstance) (marks : List Mark) (i : ℕ) (mark : Mark) (slot : Slot) (v : Value) → i < length marks → mark ≡ get_or marks i mark → mark.at ≡ Old slot → given_of instances mark.instance ≡ Some v → Contains (told_of e instances marks) (value_at slot e v)
+value_there e instances marks i mark slot v h here at given =
+    let first : Contains (told_at e mark.at (given_of instances mark.instance)) (value_at slot e v) = rw (at, given) (contains_first (value_at slot e v) []) in
+    told_there e instances marks i mark (value_at slot e v) h (subst (λ (m : Mark). Contains (told_at e m.at (given_of instances m.instance)) (value_at slot e v)) here first)
 
 told_beyond : (e : ℕ) (orbits : List (Option DecidedOrbits)) (i k : ℕ) (d : Option DecidedOrbits) (at : ValueAt) → k ≡ e + i → i < length orbits → Contains (told_in k (get_or orbits i d)) at → Contains (told_from e orbits) at
 told_beyond e [] i k d at is h among = absurd (omega arith)

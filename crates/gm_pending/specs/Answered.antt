@@ -8,8 +8,8 @@ use Rattle.gm_arena.specs.ArenaMap.{ArenaMap}
 use Rattle.gm_plan.specs.Placed.{Placed}
 use Rattle.gm_pending.specs.declared.decided_orbits.DecidedOrbits.{DecidedOrbits}
 use Rattle.gm_pending.specs.declared.deciding_instance.DecidingInstance.{DecidingInstance}
-use Rattle.gm_pending.specs.declared.lookup.Lookup.{Lookup}
-use Rattle.gm_pending.specs.Lookup.{IsLookup}
+use Rattle.gm_plan.specs.declared.lookup.Lookup.{Lookup}
+use Rattle.gm_plan.specs.Lookup.{IsLookupIn}
 use Rattle.gm_pending.specs.Reached.{AreReached}
 use Rattle.gm_pending.specs.Results.{PendingOf}
 
@@ -27,4 +27,4 @@ AreDecidedOrbits app answers = (e : ℕ) (embed : Embed) (orbits : DecidedOrbits
 -- a look-up that was made has the instances
 abbrev pub IsLookedUp : Placed → Option Lookup → Type 0
 IsLookedUp placed None = Unit {0}
-IsLookedUp placed (Some lookup) = IsLookup placed lookup.instances.value
+IsLookedUp placed (Some lookup) = IsLookupIn placed lookup

@@ -3,8 +3,8 @@ pub mod Answered
 pub mod Collected
 pub mod EditLists
 pub mod Gathered
-pub mod Lookup
 pub mod Marks
+pub mod Keys
 pub mod Pairs
 pub mod Reached
 pub mod Results

@@ -1,18 +1,10 @@
 -- How reached darts are kept. No public clause cites this module.
-use Rattle.std.specs.Prelude.{◌≡◌, ◌≢◌, ℕ, ◌+◌, ◌*◌, ◌/◌, ◌%◌, ◌<◌, ◌⊎◌, List, [], ◌∷◌, ◌++◌, nat_eq, Bool, true, false, Option, Some, IfSome, slice_get}
+use Rattle.std.specs.Prelude.{◌≡◌, ◌≢◌, ℕ, ◌+◌, ◌*◌, ◌/◌, ◌%◌, ◌<◌, ◌⊎◌, List, [], ◌∷◌, ◌++◌, Bool, true, false, Option, Some, IfSome, slice_get}
 use Rattle.std.specs.Int.{bit_at}
 use Rattle.std.specs.List.{Contains}
-use Rattle.std.specs.declared.hash.BuildHasherDefault.{BuildHasherDefault}
-use Rattle.std.specs.declared.hash.FoldHasher.{FoldHasher}
-use Rattle.std.specs.HashMap.{HashMap, get}
 use Rattle.gm_pending.specs.declared.at.At.{At}
-use Rattle.gm_pending.specs.declared.at.At.TheVariants.{Old, New}
 use Rattle.gm_pending.specs.declared.marks.Mark.{Mark}
-
--- the number of a dart
-abbrev pub key_of : At → ℕ
-key_of (Old slot) = slot.at * 2
-key_of (New x p) = p * 64 + x * 2 + 1
+use Rattle.gm_pending.specs.Keys.{key_of}
 
 -- the bit, of 64, that stands for the dart of a key; others may have the same one
 abbrev pub bit_of : ℕ → ℕ
@@ -20,15 +12,11 @@ bit_of key = (key / 2 + key / 128) % 64
 
 -- reached over an arc of this label, if over any
 abbrev pub reached_by : At → ℕ → Option ℕ → Mark
-reached_by at k over = record { at = at; instance = k; over = over; key = key_of at }
+reached_by at k over = record { at = at; instance = k; over = over }
 
 -- indices by the numbers of darts
 abbrev pub ByKey : Type 0
-ByKey = HashMap ℕ ℕ (BuildHasherDefault FoldHasher)
-
--- each entry keeps the number of its dart
-abbrev pub AreKeyed : List Mark → Type 0
-AreKeyed reached = (entry : Mark) → Contains reached entry → entry.key ≡ key_of entry.at
+ByKey = ℕ → Option ℕ
 
 -- an entry of the list has this key
 abbrev pub HasKey : List Mark → ℕ → Type 0
@@ -45,12 +33,12 @@ IsMarkedMore before after at k over = (HasKey before (key_of at) × (after ≡ b
 abbrev pub HasDistinctKeys : List Mark → Type 0
 HasDistinctKeys reached = (k l : ℕ) (a b : Mark) → k < l → slice_get reached k ≡ Some a → slice_get reached l ≡ Some b → key_of a.at ≢ key_of b.at
 
--- the map has the index of each entry, by its key
+-- each entry has its index there, by its key
 pub record IsIndex (reached : List Mark) (by_key : ByKey) : Type 0 where
-  pub marked : (entry : Mark) → Contains reached entry → get nat_eq by_key (key_of entry.at) ≡ Some entry.instance
-  pub only : (key k : ℕ) → get nat_eq by_key key ≡ Some k → IsMarkedBy reached key k
+  pub marked : (entry : Mark) → Contains reached entry → by_key (key_of entry.at) ≡ Some entry.instance
+  pub only : (key k : ℕ) → by_key key ≡ Some k → IsMarkedBy reached key k
 
--- the map has one more dart, which is new; or it is as it was, and the dart is there
+-- one more dart has its index there, which is new; or it is as it was, and the dart is there
 abbrev pub IsPut : List Mark → Mark → Bool → ByKey → Type 0
 IsPut reached entry new by_key = ((new ≡ true) × (HasKey reached (key_of entry.at) → ⊥) × IsIndex (reached ++ entry ∷ []) by_key) ⊎ ((new ≡ false) × HasKey reached (key_of entry.at) × IsIndex reached by_key)
 
@@ -58,9 +46,8 @@ IsPut reached entry new by_key = ((new ≡ true) × (HasKey reached (key_of entr
 abbrev pub AreSeen : List Mark → ℕ → Type 0
 AreSeen reached bits = (entry : Mark) → Contains reached entry → bit_at bits (bit_of (key_of entry.at)) ≡ 1
 
--- each key is its dart's, and comes once; and where there is a map, it has all of them
+-- each key comes once; and where there is an index, it has all of them
 pub record AreMarked (reached : List Mark) (by_key : Option ByKey) (bits : ℕ) : Type 0 where
-  pub keyed : AreKeyed reached
   pub distinct : HasDistinctKeys reached
   pub indexed : IfSome by_key (IsIndex reached)
   pub seen : AreSeen reached bits

@@ -12,7 +12,8 @@ use Rattle.gm_pending.specs.declared.at.At.{At}
 use Rattle.gm_pending.specs.declared.at.At.TheVariants.{Old, New}
 use Rattle.gm_pending.specs.declared.deciding_instance.DecidingInstance.{DecidingInstance}
 use Rattle.gm_pending.specs.declared.marks.Mark.{Mark}
-use Rattle.gm_pending.specs.Marks.{HasKey, key_of}
+use Rattle.gm_pending.specs.Marks.{HasKey}
+use Rattle.gm_pending.specs.Keys.{key_of}
 use Rattle.gm_pending.specs.Reached.{AreReached}
 use Rattle.gm_pending.specs.Results.{PendingOf, instances_of, rule_in}
 

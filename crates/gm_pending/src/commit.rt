@@ -281,7 +281,7 @@ fn set_values_of<L: Ledger>(
     let (mut last, mut value) = (0, given(instances, 0));
     for mark in marks {
         look_at(instances, mark.instance, &mut last, &mut value);
-        if let At::Old(slot) = mark.at {
+        if let At::Old(slot) = mark.at.unpack() {
             if let Some(value) = value {
                 arena.set_value(slot, embed, value, steps);
             }

@@ -10,19 +10,20 @@ ghost use Rattle.gm_model.specs.Rules.{has_word};
 ghost use Rattle.gm_theory.specs.Theorem.{Unfolded};
 ghost use Rattle.gm_pending.specs.declared.deciding_instance.DecidingInstance.{DecidingInstance};
 ghost use Rattle.gm_pending.specs.declared.marks.Mark.{Mark};
-ghost use Rattle.gm_pending.specs.Marks.{key_of, HasKey};
+ghost use Rattle.gm_pending.specs.Marks.{HasKey};
+ghost use Rattle.gm_pending.specs.Keys.{key_of};
 ghost use Rattle.gm_pending.specs.Pairs.{IsPair};
 ghost use Rattle.gm_pending.specs.Reached.{AreReached, AreResultDarts, AreSomeReached, IsClosed, IsGrown, IsSpreadTo, IsFollowedTo, IsFollowed, IsFollowedAlong, IsGrownAlong, IsDecidedUpTo, IsAlwaysOneOrbit, IsUnmarked, AreMarkedTo, ungiven};
 ghost use Rattle.gm_pending.specs.Results.{IsPrepared, AreDecidingInstances, IsAsked, IsResultDart, IsUnfoldedIn, IsWithinReach, instances_of, with_instances, name_of, rule_in};
 
-use crate::at::At;
 use crate::decided_orbits::{DecidedOrbits, DecidingInstances, put_orbits};
 use crate::deciding_instance::DecidingInstance;
-use crate::lookup::Lookup;
 use crate::marks::{Mark, Marks};
+use crate::packed::PackedAt;
 use crate::pending::Pending;
 use gm_arena::Steps;
 use gm_model::{Embed, Mask, OutOfMemory};
+use gm_plan::Lookup;
 use std::sync::ledger::Ledger;
 
 /// So many instances are looked through one after another, since that is faster than any look-up.
@@ -90,7 +91,7 @@ impl Pending<'_, '_> {
         let declared = &self.arena.schema().embeds.as_slice()[embed as usize];
         let mut orbits = DecidedOrbits {
             instances: DecidingInstances::new(self.alloc),
-            marks: Marks::new(self.alloc, self.positions() as usize),
+            marks: Marks::new(self.alloc, self.positions() as usize, self.arena.bound()),
         };
         let outcome = self.decide_nodes(embed, declared, &mut orbits, steps);
         // The marks tell here that no dart comes twice.
@@ -230,7 +231,7 @@ impl Pending<'_, '_> {
     /// Walks the orbit of an instance, and marks its darts.
     fn reach<L: Ledger>(
         &self,
-        at: At,
+        at: PackedAt,
         index: u32,
         embed: u8,
         declared: &Embed,
@@ -270,7 +271,7 @@ impl Pending<'_, '_> {
     #[inline(always)]
     fn follow<L: Ledger>(
         &self,
-        from: At,
+        from: PackedAt,
         index: u32,
         first: u8,
         second: u8,

@@ -128,7 +128,7 @@ impl Pending<'_, '_> {
         let orbits = self.orbits(embed);
         let width = self.embeds() as usize;
         for entry in orbits.marks.as_slice() {
-            if let At::New { node, position } = entry.at {
+            if let At::New { node, position } = entry.at.unpack() {
                 if let Some(value) = given(&orbits.instances, entry.instance) {
                     let number = self.new_number(node, position);
                     values[number * width + embed as usize] = value;
@@ -193,7 +193,7 @@ fn put_new_values(
     ensures { OnOk result (values.new.items ≡ values.old.items ++ told_of embed instances.now marks.now) }
 {
     for mark in marks {
-        if let At::Old(slot) = mark.at {
+        if let At::Old(slot) = mark.at.unpack() {
             if let Some(value) = given(instances, mark.instance) {
                 push(values, ValueAt { slot, embed, value }, marks.len())?;
             }

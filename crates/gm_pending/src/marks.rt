@@ -1,23 +1,23 @@
 //! The darts of a result that are reached from deciding instances.
 ghost use Rattle.std.specs.Prelude.{◌≡◌, List, ◌∷◌, ◌++◌, ◌<◌, [], length, slice_get, Some, MatchOption, ◌↔◌, IsTrue, IfOk, IfSome, OnOk, OnErr};
 ghost use Rattle.gm_pending.specs.declared.marks.Mark.{Mark};
-ghost use Rattle.gm_pending.specs.Marks.{key_of, bit_of, reached_by, HasKey, AreKeyed, IsIndex, IsMarkedBy, IsMarkedMore, IsPut, HasDistinctKeys};
+ghost use Rattle.gm_pending.specs.Marks.{bit_of, reached_by, HasKey, IsIndex, IsMarkedBy, IsMarkedMore, IsPut, HasDistinctKeys};
+ghost use Rattle.gm_plan.specs.Indices.{index_at};
+ghost use Rattle.gm_pending.specs.Keys.{key_of};
 
-use crate::at::At;
+use crate::packed::PackedAt;
 use gm_model::OutOfMemory;
+use gm_plan::Index;
 use std::alloc::Global;
-use std::collections::HashMap;
 use std::marker::Model;
 
 /// A dart of a result, and the index of the instance that decides its orbit.
 #[derive(Clone, Copy)]
 pub(crate) struct Mark {
-    pub(crate) at: At,
+    pub(crate) at: PackedAt,
     pub(crate) instance: u32,
     /// A label along which a marked dart lies, where one is known: a walk needn't go there.
     pub(crate) over: Option<u8>,
-    /// The key of the dart. It is kept, so that a search only compares numbers.
-    key: u64,
 }
 
 /// So many darts are searched one after another, since that is faster than any index.
@@ -28,39 +28,44 @@ const FEW: usize = 16;
 pub(crate) struct Marks {
     alloc: Global,
     reached: Vec<Mark>,
-    /// The index of the deciding instance, by the key of a dart. It is made where a search would
-    /// look through more than a few darts. In a box, so that marks without it are cheap to move.
-    by_key: Option<Box<HashMap<u64, u32>>>,
+    /// The index of the deciding instance of each dart. It is made where a search would look through
+    /// more than a few darts. In a box, so that marks without it are cheap to move.
+    index: Option<Box<Index>>,
     /// The bits of all marked darts. A dart whose bit isn't set is not marked, and needs no search.
     bits: u64,
     /// The index is made with room for so many darts.
     room: usize,
+    /// And for an arena of so many slots.
+    slots: usize,
 }
 
 impl Model for Marks {
     ghost use Rattle.std.specs.Prelude.{List};
     ghost use Rattle.gm_pending.specs.declared.marks.Mark.{Mark};
     ghost use Rattle.std.specs.Option.{option_map};
+    ghost use Rattle.gm_plan.specs.Indices.{index_at};
     ghost use Rattle.gm_pending.specs.Marks.{AreMarked};
 
     ghost Value = { List Mark };
 
     ghost view = { λ a. a.reached.items };
 
-    ghost invariant = { λ a. AreMarked a.reached.items (option_map (λ b. b.value) a.by_key) a.bits };
+    ghost invariant = { λ a. AreMarked a.reached.items (option_map (λ b. index_at b.value) a.index) a.bits };
 }
 
 impl Marks {
-    /// No darts. It takes no memory; but where an index is needed, it is made with room for so many.
-    pub(crate) fn new(alloc: Global, room: usize) -> Marks
+    /// No darts. It takes no memory; but where an index is needed, it is made with room for so many,
+    /// of an arena with so many slots.
+    pub(crate) fn new(alloc: Global, room: usize, slots: usize) -> Marks
         ensures { result ≡ [] }
     {
         Marks {
             alloc,
             reached: Vec::new(alloc),
-            by_key: None,
+            index: None,
             bits: 0,
             room,
+            slots,
         }
     }
 
@@ -82,16 +87,16 @@ impl Marks {
 
     /// The index of the instance that decides the dart's orbit; none where it isn't reached.
     #[inline(always)]
-    pub(crate) fn decided_by(&self, at: At) -> Option<u32>
+    pub(crate) fn decided_by(&self, at: PackedAt) -> Option<u32>
         ensures instance { MatchOption result (HasKey self.now (key_of at) → ⊥) (IsMarkedBy self.now (key_of at)) }
         ensures distinct { HasDistinctKeys self.now }
     {
-        let wanted = key(at);
+        let wanted = at.key();
         if (self.bits >> bit(wanted)) & 1 == 0 {
             return None;
         }
-        match &self.by_key {
-            Some(by_key) => by_key.get(&wanted).copied(),
+        match &self.index {
+            Some(index) => index.find(wanted),
             None => instance_among(&self.reached, wanted),
         }
     }
@@ -101,7 +106,7 @@ impl Marks {
     #[inline(always)]
     pub(crate) fn mark(
         &mut self,
-        at: At,
+        at: PackedAt,
         instance: u32,
         over: Option<u8>,
     ) -> Result<bool, OutOfMemory>
@@ -110,7 +115,7 @@ impl Marks {
         ensures err { OnErr result (self.new ≡ self.old) }
         ensures distinct { HasDistinctKeys self.old }
     {
-        if self.by_key.is_some() {
+        if self.index.is_some() {
             return self.put(at, instance, over);
         }
         if self.decided_by(at).is_some() {
@@ -127,8 +132,8 @@ impl Marks {
     #[inline(always)]
     pub(crate) fn mark_beside(
         &mut self,
-        from: At,
-        at: At,
+        from: PackedAt,
+        at: PackedAt,
         instance: u32,
         over: Option<u8>,
     ) -> Result<bool, OutOfMemory>
@@ -139,7 +144,7 @@ impl Marks {
         ensures distinct { HasDistinctKeys self.old }
     {
         // A dart that is free at a label is its own neighbour: a walk mostly ends there.
-        if key(at) == key(from) {
+        if at.key() == from.key() {
             // The marks tell here that no dart comes twice.
             prove!(self.len() <= usize::MAX);
             return Ok(false);
@@ -153,7 +158,7 @@ impl Marks {
     #[inline(always)]
     pub(crate) fn mark_new(
         &mut self,
-        at: At,
+        at: PackedAt,
         instance: u32,
         over: Option<u8>,
         room: usize,
@@ -162,14 +167,9 @@ impl Marks {
         ensures ok { OnOk result (self.new ≡ self.old ++ reached_by at instance over ∷ []) }
         ensures err { OnErr result (self.new ≡ self.old) }
     {
-        let mark = Mark {
-            at,
-            instance,
-            over,
-            key: key(at),
-        };
-        if self.by_key.is_none() {
-            self.bits |= 1 << bit(mark.key);
+        let mark = Mark { at, instance, over };
+        if self.index.is_none() {
+            self.bits |= 1 << bit(at.key());
             push(&mut self.reached, mark, room)
         } else {
             self.put(at, instance, over)?;
@@ -181,27 +181,27 @@ impl Marks {
     /// there is none.
     // Cold, so that `mark` stays small enough to be inlined where darts are walked.
     #[cold]
-    fn put(&mut self, at: At, instance: u32, over: Option<u8>) -> Result<bool, OutOfMemory>
+    fn put(&mut self, at: PackedAt, instance: u32, over: Option<u8>) -> Result<bool, OutOfMemory>
         ensures ok { OnOk result (IsMarkedMore self.old self.new at instance over) }
         ensures new { IfOk result (λ new. IsTrue new ↔ (HasKey self.old (key_of at) → ⊥)) }
         ensures err { OnErr result (self.new ≡ self.old) }
         ensures distinct { HasDistinctKeys self.old }
     {
-        let mark = Mark {
-            at,
-            instance,
-            over,
-            key: key(at),
-        };
         self.reached.reserve(1)?;
-        let by_key = index(self.alloc, self.by_key.take(), &self.reached, self.room)?;
-        let (by_key, is_new) = put(by_key, &self.reached, mark)?;
-        self.by_key = Some(by_key);
+        let index = index(
+            self.alloc,
+            self.index.take(),
+            &self.reached,
+            self.room,
+            self.slots,
+        )?;
+        let (index, is_new) = put(index, &self.reached, Mark { at, instance, over })?;
+        self.index = Some(index);
         if !is_new {
             return Ok(false);
         }
-        self.bits |= 1 << bit(mark.key);
-        self.reached.push_reserved(mark);
+        self.bits |= 1 << bit(at.key());
+        self.reached.push_reserved(Mark { at, instance, over });
         Ok(true)
     }
 }
@@ -219,71 +219,55 @@ pub(crate) fn push<T: Copy>(entries: &mut Vec<T>, entry: T, room: usize) -> Resu
     Ok(())
 }
 
-/// The index of the deciding instance of each dart, by its key: the one that there is, or a new one
-/// with room for so many darts.
+/// The index of the deciding instance of each dart: the one that there is, or a new one with room for
+/// so many darts of an arena with so many slots.
 fn index(
     alloc: Global,
-    by_key: Option<Box<HashMap<u64, u32>>>,
+    index: Option<Box<Index>>,
     reached: &[Mark],
     room: usize,
-) -> Result<Box<HashMap<u64, u32>>, OutOfMemory>
-    requires keyed { AreKeyed reached.now }
+    slots: usize,
+) -> Result<Box<Index>, OutOfMemory>
     requires distinct { HasDistinctKeys reached.now }
-    requires index { IfSome by_key (λ by_key. IsIndex reached.now by_key.value) }
-    ensures { IfOk result (λ by_key. IsIndex reached.now by_key.value) }
+    requires index { IfSome index (λ index. IsIndex reached.now (index_at index.value)) }
+    ensures { IfOk result (λ index. IsIndex reached.now (index_at index.value)) }
 {
-    if let Some(by_key) = by_key {
-        return Ok(by_key);
+    if let Some(index) = index {
+        return Ok(index);
     }
-    let mut by_key = HashMap::with_capacity(alloc, room)?;
+    let mut index = Index::build(alloc, room, slots)?;
     for entry in reached {
-        by_key.insert(entry.key, entry.instance)?;
+        index.put(entry.at.key(), entry.instance)?;
     }
-    Ok(Box::new(alloc, by_key)?)
+    Ok(Box::new(alloc, index)?)
 }
 
 /// The index with one more dart, and whether it is new there. A dart that isn't keeps its instance.
 fn put(
-    mut by_key: Box<HashMap<u64, u32>>,
+    mut index: Box<Index>,
     reached: &[Mark],
     entry: Mark,
-) -> Result<(Box<HashMap<u64, u32>>, bool), OutOfMemory>
-    requires key { entry.key ≡ key_of entry.at }
-    requires index { IsIndex reached.now by_key.value }
-    ensures { IfOk result (λ put. IsPut reached.now entry put.1 put.0.value) }
+) -> Result<(Box<Index>, bool), OutOfMemory>
+    requires index { IsIndex reached.now (index_at index.value) }
+    ensures { IfOk result (λ put. IsPut reached.now entry put.1 (index_at put.0.value)) }
 {
-    // So most darts, which are new, are looked up once.
-    if let Some(instance) = by_key.insert(entry.key, entry.instance)? {
-        by_key.insert(entry.key, instance)?;
-        return Ok((by_key, false));
-    }
-    Ok((by_key, true))
+    let had = index.put(entry.at.key(), entry.instance)?;
+    Ok((index, had.is_none()))
 }
 
 /// The index of the deciding instance of the dart with this key. It begins with the last dart, since
 /// a walk mostly ends at a dart that was marked just before.
 fn instance_among(reached: &[Mark], wanted: u64) -> Option<u32>
-    requires { AreKeyed reached.now }
     ensures { MatchOption result (HasKey reached.now wanted → ⊥) (IsMarkedBy reached.now wanted) }
 {
     let mut place = reached.len();
     while place > 0 {
         place -= 1;
-        if reached[place].key == wanted {
+        if reached[place].at.key() == wanted {
             return Some(reached[place].instance);
         }
     }
     None
-}
-
-/// A number of the dart: no other dart has it.
-fn key(at: At) -> u64
-    ensures { result ≡ key_of at }
-{
-    match at {
-        At::Old(slot) => u64::from(slot.at) * 2,
-        At::New { node, position } => u64::from(position) * 64 + u64::from(node) * 2 + 1,
-    }
 }
 
 /// The bit, of 64, that stands for the dart of a key; others may have the same one. By the second

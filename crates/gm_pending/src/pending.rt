@@ -2,10 +2,10 @@ ghost use Rattle.std.specs.Prelude.{◌≡◌, ◌≢◌, ℕ, ◌+◌, ◌<◌,
 
 use crate::at::At;
 use crate::decided_orbits::{OrbitsByEmbed, no_orbits};
-use crate::lookup::{Lookup, instance_at};
+use crate::packed::PackedAt;
 use gm_arena::{Arena, Slot, Steps};
 use gm_model::{MOST_DARTS, Mask, OutOfMemory, Side, Step};
-use gm_plan::{Instances, Plan};
+use gm_plan::{Instances, Lookup, Plan, instance_at};
 use std::alloc::Global;
 use std::marker::Model;
 use std::sync::ledger::Ledger;
@@ -48,7 +48,7 @@ impl<'a, 'm> Pending<'a, 'm> {
     ghost use Rattle.gm_arena.specs.ArenaAsMap.{as_map};
     ghost use Rattle.gm_plan.specs.Changes.{AreMadeLabels, MakesNone};
     ghost use Rattle.gm_plan.specs.InArena.{AreMatched, slot_number};
-    ghost use Rattle.gm_pending.specs.Lookup.{IsWithin, IsAtSlot};
+    ghost use Rattle.gm_plan.specs.Lookup.{IsWithin, IsAtSlot};
     ghost use Rattle.gm_pending.specs.Results.{IsPrepared, pending_of, scene_in, rule_in, name_of, IsResultDart, IsRightInstance};
 
     /// Takes the match of a rule in a sound map. It counts no step.
@@ -90,7 +90,9 @@ impl<'a, 'm> Pending<'a, 'm> {
     {
         // The application tells here what its type keeps.
         prove!(self.labels() <= 8);
-        self.neighbour(at, label, self.made_labels().has(label), steps)
+        let from = self.pack(at);
+        self.neighbour(from, label, self.made_labels().has(label), steps)
+            .unpack()
     }
 
     /// The neighbour along a label, where `made` tells whether the rule makes arcs at the label that
@@ -98,11 +100,11 @@ impl<'a, 'm> Pending<'a, 'm> {
     #[inline(always)]
     pub(crate) fn neighbour<L: Ledger>(
         &self,
-        at: At,
+        at: PackedAt,
         label: u8,
         made: bool,
         steps: &mut Steps<L>,
-    ) -> At
+    ) -> PackedAt
         requires dart { IsResultDart self.now at }
         requires label { label ≤ self.now.map.schema.dim }
         requires kept { made ≡ false → MakesNone (rule_in self.now) label }
@@ -112,17 +114,27 @@ impl<'a, 'm> Pending<'a, 'm> {
         ensures least { steps.old ≤ steps.new }
     {
         // Where it makes none, an old dart isn't looked up.
-        if !made {
-            if let At::Old(slot) = at {
-                return At::Old(self.arena.alpha(slot, label, steps));
-            }
+        if !made && at.is_old() {
+            return PackedAt::old(self.arena.alpha(at.slot(), label, steps));
         }
         if let Some(to) = self.made(at, label) {
             return to;
         }
+        // At each new dart an arc is made: this one is old, and its arc is kept.
+        PackedAt::old(self.arena.alpha(at.slot(), label, steps))
+    }
+
+    /// A dart of the result in one number.
+    #[inline(always)]
+    pub(crate) fn pack(&self, at: At) -> PackedAt
+        requires { IsResultDart self.now at }
+        ensures { result ≡ at }
+    {
+        // The application tells here what its type keeps.
+        prove!(self.labels() <= 8);
         match at {
-            At::Old(slot) => At::Old(self.arena.alpha(slot, label, steps)),
-            At::New { .. } => unreachable!(),
+            At::Old(slot) => PackedAt::old(slot),
+            At::New { node, position } => PackedAt::new(node, position),
         }
     }
 
@@ -136,7 +148,7 @@ impl<'a, 'm> Pending<'a, 'm> {
     /// Where the right step at the label leads from a dart of the result; none where it has no
     /// such step.
     #[inline(always)]
-    fn made(&self, at: At, label: u8) -> Option<At>
+    fn made(&self, at: PackedAt, label: u8) -> Option<PackedAt>
         requires dart { IsResultDart self.now at }
         requires label { label ≤ self.now.map.schema.dim }
         ensures { MatchOption result
@@ -153,16 +165,16 @@ impl<'a, 'm> Pending<'a, 'm> {
 
     /// The right node and the position of a dart of the result; none where no node lies there.
     #[inline(always)]
-    fn instance(&self, at: At) -> Option<(u8, u32)>
+    fn instance(&self, at: PackedAt) -> Option<(u8, u32)>
         requires { IsResultDart self.now at }
         ensures { MatchOption result
             ((x p : ℕ) → IsRightInstance self.now x p → name_of self.now at ≢ (scene_in self.now).name_of x p)
             (λ i. IsRightInstance self.now i.0 i.1 × (name_of self.now at ≡ (scene_in self.now).name_of i.0 i.1)) }
     {
-        match at {
-            At::Old(slot) => self.left_instance(slot),
-            At::New { node, position } => Some((node, position)),
+        if at.is_old() {
+            return self.left_instance(at.slot());
         }
+        Some(at.instance())
     }
 
     /// The left node and the position that lie at the slot; none where no instance does.
@@ -236,15 +248,15 @@ impl<'a, 'm> Pending<'a, 'm> {
     }
 
     /// The dart of a right node at a position.
-    pub(crate) fn place(&self, node: u8, position: u32) -> At
+    pub(crate) fn place(&self, node: u8, position: u32) -> PackedAt
         requires { IsRightInstance self.now node position }
         ensures name { name_of self.now result ≡ (scene_in self.now).name_of node position }
         ensures dart { IsResultDart self.now result }
     {
         if node < self.plan.left_nodes() {
-            At::Old(self.found.slot(node, position))
+            PackedAt::old(self.found.slot(node, position))
         } else {
-            At::New { node, position }
+            PackedAt::new(node, position)
         }
     }
 }

@@ -88,7 +88,7 @@ impl Pending<'_, '_> {
         ensures prepared { IsPrepared self.now }
     {
         let orbits = self.orbits(embed);
-        let index = orbits.marks.decided_by(at)?;
+        let index = orbits.marks.decided_by(self.pack(at))?;
         given(&orbits.instances, index)
     }
 

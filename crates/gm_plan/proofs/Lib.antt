@@ -9,8 +9,10 @@ pub mod Forced
 pub mod Found
 pub mod Hooks
 pub mod IncidenceFound
+pub mod Indices
 pub mod JoinedFound
 pub mod LeftNodes
+pub mod Looked
 pub mod OneFault
 pub mod Orders
 pub mod PathLinks

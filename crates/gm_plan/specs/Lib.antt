@@ -1,6 +1,8 @@
 pub mod Changes
 pub mod Counts
 pub mod InArena
+pub mod Indices
+pub mod Lookup
 pub mod Paths
 pub mod Placed
 pub mod Plans

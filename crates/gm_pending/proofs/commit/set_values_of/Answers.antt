@@ -1,9 +1,7 @@
-use Rattle.std.proofs.Common.{◌+◌, List, None, drop, length, refl, sym, ap, ◌∙◌, arith}
+use Rattle.std.proofs.Common.{◌+◌, List, drop, length, refl, sym, ap, ◌∙◌, arith}
 use Rattle.std.proofs.lemmas.List.{at_drop_all}
 use Rattle.gm_arena.specs.ArenaMap.{ArenaMap}
-use Rattle.gm_pending.specs.declared.at.At.TheVariants.{Old}
 use Rattle.gm_pending.specs.declared.changes.ValueAt.{ValueAt}
-use Rattle.gm_pending.specs.declared.marks.Mark.{Mark}
 use Rattle.gm_pending.specs.Sources.{given_of}
 use Rattle.gm_pending.specs.ToldEdits.{told_of}
 use Rattle.gm_pending.specs.Written.{with_values}
@@ -16,12 +14,12 @@ loop-mark-init g c = record { known = c.given-value.ensures; slots = refl; schem
 
 pub set_value-requires-clause-live : goal.set_value-requires-clause-live
 set_value-requires-clause-live g c =
-    let fit = c.requires _ (value_there c.args.embed c.args.instances.now c.args.marks.now c.loop-mark.mark-index (record { at = Old (record { at = 0 }); instance = 0; over = None; key = 0 }) c.in-Old.slot c.in-Some.value c.loop-mark-test.true c.in-Old.is (sym c.look_at.ensures.value ∙ c.in-Some.is)) in
+    let fit = c.requires _ (value_there c.args.embed c.args.instances.now c.args.marks.now c.loop-mark.mark-index c.mark-item.result c.in-Old.slot c.in-Some.value c.loop-mark-test.true c.mark-item.is (sym c.unpack.ensures ∙ c.in-Old.is) (sym c.look_at.ensures.value ∙ c.in-Some.is)) in
     rw c.loop-mark.invariant.slots fit.live
 
 pub set_value-requires-clause-value : goal.set_value-requires-clause-value
 set_value-requires-clause-value g c =
-    let fit = c.requires _ (value_there c.args.embed c.args.instances.now c.args.marks.now c.loop-mark.mark-index (record { at = Old (record { at = 0 }); instance = 0; over = None; key = 0 }) c.in-Old.slot c.in-Some.value c.loop-mark-test.true c.in-Old.is (sym c.look_at.ensures.value ∙ c.in-Some.is)) in
+    let fit = c.requires _ (value_there c.args.embed c.args.instances.now c.args.marks.now c.loop-mark.mark-index c.mark-item.result c.in-Old.slot c.in-Some.value c.loop-mark-test.true c.mark-item.is (sym c.unpack.ensures ∙ c.in-Old.is) (sym c.look_at.ensures.value ∙ c.in-Some.is)) in
     rw c.loop-mark.invariant.schema (fit.embed, fit.embed_at, fit.value)
 
 pub loop-mark-preserved : goal.loop-mark-preserved
@@ -30,11 +28,10 @@ loop-mark-preserved g c =
     let instances = c.args.instances.now in
     let marks = c.args.marks.now in
     let i = c.loop-mark.mark-index in
-    let d : Mark = record { at = Old (record { at = 0 }); instance = 0; over = None; key = 0 } in
     let now = c.loop-mark.invariant in
-    elim c.match-mark.branch [
+    elim c.match-unpack.branch [
       | in-Old+in-Some w ↦
-          let told = told_value e instances marks i d c.loop-mark-test.true w.in-Old.slot w.in-Some.value w.in-Old.is (sym c.look_at.ensures.value ∙ w.in-Some.is) in
+          let told = told_value e instances marks i c.mark-item.result c.loop-mark-test.true c.mark-item.is w.in-Old.slot w.in-Some.value (sym c.unpack.ensures ∙ w.in-Old.is) (sym c.look_at.ensures.value ∙ w.in-Some.is) in
           let is = w.arena-is ∙ w.set_value.ensures.map in
           record {
             known = w.value-is ∙ sym w.in-Some.is ∙ c.look_at.ensures.value ∙ ap (given_of instances) (sym c.look_at.ensures.last);
@@ -44,7 +41,7 @@ loop-mark-preserved g c =
             cost = omega (arith, now.cost, ap (λ (list : List ValueAt). length list) told, w.steps-is, w.set_value.ensures.cost);
           }
       | in-Old+in_default-value w ↦
-          let told = told_ungiven e instances marks i d c.loop-mark-test.true w.in-Old.slot w.in-Old.is (sym c.look_at.ensures.value ∙ w.in_default-value.is) in
+          let told = told_ungiven e instances marks i c.mark-item.result c.loop-mark-test.true c.mark-item.is w.in-Old.slot (sym c.unpack.ensures ∙ w.in-Old.is) (sym c.look_at.ensures.value ∙ w.in_default-value.is) in
           record {
             known = w.value-is ∙ c.look_at.ensures.value ∙ ap (given_of instances) (sym c.look_at.ensures.last);
             slots = ap (λ (m : ArenaMap). m.slots) w.arena-is ∙ now.slots;
@@ -53,7 +50,7 @@ loop-mark-preserved g c =
             cost = omega (arith, now.cost, ap (λ (list : List ValueAt). length list) told, w.steps-is);
           }
       | in_default w ↦
-          let told = told_elsewhere e instances marks i d c.loop-mark-test.true w.in_default.field-0 w.in_default.field-1 w.in_default.is in
+          let told = told_elsewhere e instances marks i c.mark-item.result c.loop-mark-test.true c.mark-item.is w.in_default.field-0 w.in_default.field-1 (sym c.unpack.ensures ∙ w.in_default.is) in
           record {
             known = w.value-is ∙ c.look_at.ensures.value ∙ ap (given_of instances) (sym c.look_at.ensures.last);
             slots = ap (λ (m : ArenaMap). m.slots) w.arena-is ∙ now.slots;

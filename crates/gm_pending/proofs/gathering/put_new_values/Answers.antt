@@ -1,7 +1,5 @@
-use Rattle.std.proofs.Common.{◌+◌, ◌++◌, ◌∷◌, [], None, drop, refl, sym, ap, ◌∙◌, append_assoc}
+use Rattle.std.proofs.Common.{◌+◌, ◌++◌, ◌∷◌, [], drop, refl, sym, ap, ◌∙◌, append_assoc}
 use Rattle.std.proofs.lemmas.List.{append-nil, at_drop_all}
-use Rattle.gm_pending.specs.declared.at.At.TheVariants.{Old}
-use Rattle.gm_pending.specs.declared.marks.Mark.{Mark}
 use Rattle.gm_pending.specs.ToldEdits.{told_of}
 use Rattle.gm_pending.proofs.Gathered.{value_at}
 use Rattle.gm_pending.proofs.ToldValues.{told_elsewhere, told_ungiven, told_value}
@@ -17,18 +15,17 @@ loop-mark-preserved c =
     let instances = c.args.instances.now in
     let marks = c.args.marks.now in
     let i = c.loop-mark.mark-index in
-    let d : Mark = record { at = Old (record { at = 0 }); instance = 0; over = None; key = 0 } in
     let so_far = c.loop-mark.values.items in
     let later = told_of e instances (drop (i + 1) marks) in
-    elim c.match-mark.branch [
+    elim c.match-unpack.branch [
       | in-Old+in-Some+in_ok-push w ↦
-          let told = told_value e instances marks i d c.loop-mark-test.true w.in-Old.slot w.in-Some.value w.in-Old.is (sym w.given.ensures ∙ w.in-Some.is) in
+          let told = told_value e instances marks i c.mark-item.result c.loop-mark-test.true c.mark-item.is w.in-Old.slot w.in-Some.value (sym c.unpack.ensures ∙ w.in-Old.is) (sym w.given.ensures ∙ w.in-Some.is) in
           rw (w.values-is, w.in_ok-push.ensures.ok) (append_assoc so_far (value_at w.in-Old.slot e w.in-Some.value ∷ []) later ∙ ap (λ list. so_far ++ list) (sym told) ∙ c.loop-mark.invariant)
       | in-Old+in_default-given w ↦
-          let told = told_ungiven e instances marks i d c.loop-mark-test.true w.in-Old.slot w.in-Old.is (sym w.given.ensures ∙ w.in_default-given.is) in
+          let told = told_ungiven e instances marks i c.mark-item.result c.loop-mark-test.true c.mark-item.is w.in-Old.slot (sym c.unpack.ensures ∙ w.in-Old.is) (sym w.given.ensures ∙ w.in_default-given.is) in
           rw w.values-is (ap (λ list. so_far ++ list) (sym told) ∙ c.loop-mark.invariant)
       | in_default w ↦
-          let told = told_elsewhere e instances marks i d c.loop-mark-test.true w.in_default.field-0 w.in_default.field-1 w.in_default.is in
+          let told = told_elsewhere e instances marks i c.mark-item.result c.loop-mark-test.true c.mark-item.is w.in_default.field-0 w.in_default.field-1 (sym c.unpack.ensures ∙ w.in_default.is) in
           rw w.values-is (ap (λ list. so_far ++ list) (sym told) ∙ c.loop-mark.invariant)
     ]
 

@@ -1,15 +1,17 @@
-use Rattle.std.proofs.Common.{None, take, sym, subst}
+use Rattle.std.proofs.Common.{◌≡◌, ◌++◌, ◌∷◌, [], None, IsSome, take, sym, ap, ◌∙◌, subst}
 use Rattle.std.proofs.lemmas.List.{take_more}
-use Rattle.gm_pending.specs.declared.at.At.TheVariants.{Old}
-use Rattle.gm_pending.specs.Marks.{IsIndex, reached_by}
-use Rattle.gm_pending.proofs.Reached.{indexed_more, fresh_key}
-use Rattle.gm_pending.proofs.Whole.{contains_at}
+use Rattle.gm_pending.specs.declared.marks.Mark.{Mark}
+use Rattle.gm_plan.specs.Indices.{index_at}
+use Rattle.gm_pending.specs.Keys.{key_of}
+use Rattle.gm_pending.specs.Marks.{HasKey, IsIndex}
+use Rattle.gm_pending.proofs.Reached.{put_fresh, fresh_key}
 use Rattle.gm_pending.proofs.marks.index.Goals as goal
 
 pub loop-entry-preserved : goal.loop-entry-preserved
 loop-entry-preserved c =
     let reached = c.args.reached.now in
     let i = c.loop-entry.entry-index in
-    let none = reached_by (Old (record { at = 0 })) 0 None in
-    subst (λ xs. IsIndex xs c.insert.new.self) (sym (take_more reached i none c.loop-entry-test.true))
-    (indexed_more (take i reached) c.loop-entry.by_key c.insert.new.self c.loop-entry.invariant _ (fresh_key reached i none c.requires.distinct c.loop-entry-test.true) (rw (← c.requires.keyed _ (contains_at reached i none c.loop-entry-test.true)) c.in_ok-insert.ensures.updates))
+    let entry = c.entry-item.result in
+    let absent = subst (λ (e : Mark). HasKey (take i reached) (key_of e.at) → ⊥) (sym c.entry-item.is) (fresh_key reached i entry c.requires.distinct c.loop-entry-test.true) in
+    subst (λ xs. IsIndex xs (index_at c.put.new.self)) (sym (take_more reached i entry c.loop-entry-test.true ∙ ap (λ e. take i reached ++ e ∷ []) (sym c.entry-item.is)))
+    (put_fresh (take i reached) (index_at c.loop-entry.index) (index_at c.put.new.self) c.loop-entry.invariant entry c.in_ok-put.field-0 (rw c.key.ensures at c.in_ok-put.ensures.had) (rw c.key.ensures at c.in_ok-put.ensures.put) absent)

@@ -1,6 +1,7 @@
 use Rattle.std.proofs.Common.{take}
+use Rattle.gm_plan.specs.Indices.{index_at}
 use Rattle.gm_pending.specs.Marks.{IsIndex}
 use Rattle.gm_pending.proofs.marks.index.Given as goal
 
 abbrev pub invariant-loop-entry : goal.invariant-loop-entry
-invariant-loop-entry l = IsIndex (take l.entry-index l.reached) l.by_key
+invariant-loop-entry l = IsIndex (take l.entry-index l.reached) (index_at l.index)

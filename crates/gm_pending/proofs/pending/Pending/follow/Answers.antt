@@ -1,6 +1,7 @@
 use Rattle.std.proofs.Common.{◌≡◌, ◌+◌, None, length, sym, ◌∙◌, arith}
 use Rattle.std.proofs.lemmas.Bool.{false≢true}
-use Rattle.gm_pending.specs.Marks.{key_of, HasKey}
+use Rattle.gm_pending.specs.Marks.{HasKey}
+use Rattle.gm_pending.specs.Keys.{key_of}
 use Rattle.gm_pending.proofs.Pairs.{follow_ends, follow_goes_on, one_longer, pair_turned}
 use Rattle.gm_pending.proofs.Reached.{key_kept, key_marked}
 use Rattle.gm_pending.proofs.Spread.{marked_darts}

@@ -1,7 +1,8 @@
 use Rattle.std.proofs.Common.{ℕ, ◌+◌, ◌-◌, ◌≤◌, List, length}
 use Rattle.gm_theory.specs.Theorem.{Unfolded}
 use Rattle.gm_pending.specs.declared.marks.Mark.{Mark}
-use Rattle.gm_pending.specs.Marks.{key_of, HasKey}
+use Rattle.gm_pending.specs.Marks.{HasKey}
+use Rattle.gm_pending.specs.Keys.{key_of}
 use Rattle.gm_pending.specs.Pairs.{IsPair}
 use Rattle.gm_pending.specs.Reached.{AreResultDarts, IsFollowedBut}
 use Rattle.gm_pending.specs.Results.{IsResultDart, IsUnfoldedIn, name_of}

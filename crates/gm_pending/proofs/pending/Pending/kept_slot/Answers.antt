@@ -4,7 +4,7 @@ use Rattle.gm_model.specs.Rules.{has_word}
 use Rattle.gm_plan.specs.InArena.{slot_number}
 use Rattle.gm_theory.proofs.Tests.{both_true}
 use Rattle.gm_pending.specs.Results.{PendingOf, IsPrepared, rule_in}
-use Rattle.gm_pending.proofs.Darts.{slot_answered}
+use Rattle.gm_plan.proofs.Looked.{slot_answered}
 use Rattle.gm_pending.proofs.pending.Pending.kept_slot.Goals as goal
 
 pub returns-clause-live : goal.returns-clause-live

@@ -1,7 +1,7 @@
 use Rattle.std.proofs.Common.{◌≢◌, ℕ, MatchOption, subst}
 use Rattle.gm_model.specs.Rules.{rule_of}
 use Rattle.gm_plan.specs.InArena.{slot_number}
-use Rattle.gm_pending.specs.Lookup.{IsWithin, IsAtSlot}
+use Rattle.gm_plan.specs.Lookup.{IsWithin, IsAtSlot}
 use Rattle.gm_pending.specs.Results.{PendingOf, IsPrepared}
 use Rattle.gm_pending.proofs.Darts.{one_left_count}
 use Rattle.gm_pending.specs.Answered.{IsLookedUp}

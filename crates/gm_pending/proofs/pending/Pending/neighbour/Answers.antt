@@ -1,40 +1,41 @@
 use Rattle.std.proofs.Common.{subst}
 use Rattle.gm_arena.specs.ArenaMap.{IsAt, name_at, alpha}
-use Rattle.gm_pending.specs.Results.{PendingOf, IsPrepared}
-use Rattle.gm_pending.proofs.Darts.{old_kept, never_unmade}
+use Rattle.gm_pending.specs.declared.at.At.TheVariants.{Old}
+use Rattle.gm_pending.specs.Results.{PendingOf, IsPrepared, IsResultDart}
+use Rattle.gm_pending.proofs.Darts.{old_kept, unmade_old}
 use Rattle.gm_pending.proofs.KeptArcs.{kept_neighbour}
 use Rattle.gm_pending.proofs.pending.Pending.neighbour.Goals as goal
 
-pub unreachable-requires : goal.unreachable-requires
-unreachable-requires g c =
+pub returns-then-is_old-clause-arc : goal.returns-then-is_old-clause-arc
+returns-then-is_old-clause-arc g c =
     let app = c.args.self.now in
     let prepared : IsPrepared app = subst IsPrepared c.self.view_is c.self.invariant.0 in
-    never_unmade app prepared c.in-New.node c.in-New.position c.args.label (rw c.in-New.is at c.requires.dart) c.requires.label (rw c.in-New.is at c.in_default-made.ensures)
+    let at = subst (λ (a : PendingOf). IsAt a.map c.alpha.result.at (alpha a.map c.args.label (name_at a.map c.slot.result.at))) c.self.view_is c.alpha.ensures.neighbour in
+    rw (c.slot.ensures, c.old.ensures) ((kept_neighbour app prepared c.args.label c.requires.label (c.requires.kept c.if-not-made.true) c.slot.result.at c.alpha.result.at (rw c.slot.ensures at c.requires.dart) at).0)
 
-pub returns-in-Old-clause-arc : goal.returns-in-Old-clause-arc
-returns-in-Old-clause-arc g c =
+pub returns-then-is_old-clause-dart : goal.returns-then-is_old-clause-dart
+returns-then-is_old-clause-dart g c =
     let app = c.args.self.now in
     let prepared : IsPrepared app = subst IsPrepared c.self.view_is c.self.invariant.0 in
-    let at = subst (λ (a : PendingOf). IsAt a.map c.alpha.result.at (alpha a.map c.args.label (name_at a.map c.in-Old.slot.at))) c.self.view_is c.alpha.ensures.neighbour in
-    rw c.in-Old.is ((kept_neighbour app prepared c.args.label c.requires.label (c.requires.kept c.if-not-made.true) c.in-Old.slot.at c.alpha.result.at (rw c.in-Old.is at c.requires.dart) at).0)
+    let at = subst (λ (a : PendingOf). IsAt a.map c.alpha.result.at (alpha a.map c.args.label (name_at a.map c.slot.result.at))) c.self.view_is c.alpha.ensures.neighbour in
+    rw c.old.ensures ((kept_neighbour app prepared c.args.label c.requires.label (c.requires.kept c.if-not-made.true) c.slot.result.at c.alpha.result.at (rw c.slot.ensures at c.requires.dart) at).1)
 
-pub returns-in-Old-clause-dart : goal.returns-in-Old-clause-dart
-returns-in-Old-clause-dart g c =
+pub slot-requires-2 : goal.slot-requires-2
+slot-requires-2 g c =
     let app = c.args.self.now in
     let prepared : IsPrepared app = subst IsPrepared c.self.view_is c.self.invariant.0 in
-    let at = subst (λ (a : PendingOf). IsAt a.map c.alpha.result.at (alpha a.map c.args.label (name_at a.map c.in-Old.slot.at))) c.self.view_is c.alpha.ensures.neighbour in
-    (kept_neighbour app prepared c.args.label c.requires.label (c.requires.kept c.if-not-made.true) c.in-Old.slot.at c.alpha.result.at (rw c.in-Old.is at c.requires.dart) at).1
+    unmade_old app prepared c.args.at c.args.label c.requires.dart c.requires.label c.in_default.ensures
 
 pub returns-clause-arc : goal.returns-clause-arc
 returns-clause-arc g c =
     let app = c.args.self.now in
     let prepared : IsPrepared app = subst IsPrepared c.self.view_is c.self.invariant.0 in
-    let at = subst (λ (a : PendingOf). IsAt a.map c.alpha-in-Old-at.result.at (alpha a.map c.args.label (name_at a.map c.in-Old-at.slot.at))) c.self.view_is c.alpha-in-Old-at.ensures.neighbour in
-    rw c.in-Old-at.is ((old_kept app prepared c.in-Old-at.slot.at c.alpha-in-Old-at.result.at c.args.label (rw c.in-Old-at.is at c.requires.dart) c.requires.label (rw c.in-Old-at.is at c.in_default-made.ensures) at).0)
+    let at = subst (λ (a : PendingOf). IsAt a.map c.alpha-2.result.at (alpha a.map c.args.label (name_at a.map c.slot-2.result.at))) c.self.view_is c.alpha-2.ensures.neighbour in
+    rw (c.slot-2.ensures, c.old-2.ensures) ((old_kept app prepared c.slot-2.result.at c.alpha-2.result.at c.args.label (rw c.slot-2.ensures at c.requires.dart) c.requires.label (rw c.slot-2.ensures at c.in_default.ensures) at).0)
 
 pub returns-clause-dart : goal.returns-clause-dart
 returns-clause-dart g c =
     let app = c.args.self.now in
     let prepared : IsPrepared app = subst IsPrepared c.self.view_is c.self.invariant.0 in
-    let at = subst (λ (a : PendingOf). IsAt a.map c.alpha-in-Old-at.result.at (alpha a.map c.args.label (name_at a.map c.in-Old-at.slot.at))) c.self.view_is c.alpha-in-Old-at.ensures.neighbour in
-    (old_kept app prepared c.in-Old-at.slot.at c.alpha-in-Old-at.result.at c.args.label (rw c.in-Old-at.is at c.requires.dart) c.requires.label (rw c.in-Old-at.is at c.in_default-made.ensures) at).1
+    let at = subst (λ (a : PendingOf). IsAt a.map c.alpha-2.result.at (alpha a.map c.args.label (name_at a.map c.slot-2.result.at))) c.self.view_is c.alpha-2.ensures.neighbour in
+    rw c.old-2.ensures ((old_kept app prepared c.slot-2.result.at c.alpha-2.result.at c.args.label (rw c.slot-2.ensures at c.requires.dart) c.requires.label (rw c.slot-2.ensures at c.in_default.ensures) at).1)

@@ -3,7 +3,8 @@ use Rattle.gm_model.specs.declared.rule.Side.TheVariants.{Left}
 use Rattle.gm_model.specs.Rules.{has_word}
 use Rattle.gm_plan.specs.InArena.{slot_number}
 use Rattle.gm_pending.specs.Results.{PendingOf, IsPrepared, rule_in, scene_in}
-use Rattle.gm_pending.proofs.Darts.{slot_answered, stays_there}
+use Rattle.gm_plan.proofs.Looked.{slot_answered}
+use Rattle.gm_pending.proofs.Darts.{stays_there}
 use Rattle.gm_plan.specs.Plans.{IsLeftCount}
 use Rattle.gm_theory.proofs.Arcs.{kept_name}
 use Rattle.gm_pending.proofs.Law.{law}
@@ -17,7 +18,7 @@ returns-then-node-left_nodes-clause-dart c =
     let left : IsTrue (has_word (rule_in app) Left c.args.node) = subst (λ (a : PendingOf). IsTrue (has_word (rule_in a) Left c.args.node)) c.self.view_is ((c.left_nodes.ensures.left c.args.node).1 c.if-node-left_nodes.true) in
     let lies : slot_number app.placed c.args.node c.args.position ≡ c.slot.result.at = subst (λ (a : PendingOf). slot_number a.placed c.args.node c.args.position ≡ c.slot.result.at) c.self.view_is (slot_answered c.self.inside.found.now c.args.node c.args.position c.slot.result c.slot.ensures) in
     let below : c.args.node < app.placed.nodes = (prepared.matched.nodes c.args.node).0 left in
-    rw (← lies) (prepared.matched.live c.args.node c.args.position below c.requires.1, stays_there app prepared c.args.node c.args.position left c.requires)
+    rw (c.old.ensures, ← lies) (prepared.matched.live c.args.node c.args.position below c.requires.1, stays_there app prepared c.args.node c.args.position left c.requires)
 
 pub slot-requires-clause-node : goal.slot-requires-clause-node
 slot-requires-clause-node c = (c.self.invariant.0.matched.nodes c.args.node).0 ((c.left_nodes.ensures.left c.args.node).1 c.if-node-left_nodes.true)
@@ -31,12 +32,12 @@ returns-then-node-left_nodes-clause-name c =
     let prepared : IsPrepared app = subst IsPrepared c.self.view_is c.self.invariant.0 in
     let left : IsTrue (has_word (rule_in app) Left c.args.node) = subst (λ (a : PendingOf). IsTrue (has_word (rule_in a) Left c.args.node)) c.self.view_is ((c.left_nodes.ensures.left c.args.node).1 c.if-node-left_nodes.true) in
     let lies : slot_number app.placed c.args.node c.args.position ≡ c.slot.result.at = subst (λ (a : PendingOf). slot_number a.placed c.args.node c.args.position ≡ c.slot.result.at) c.self.view_is (slot_answered c.self.inside.found.now c.args.node c.args.position c.slot.result c.slot.ensures) in
-    rw (← lies) (sym (kept_name (scene_in app) _ _ _ (law app prepared) c.args.node c.args.position left))
+    rw (c.old.ensures, ← lies) (sym (kept_name (scene_in app) _ _ _ (law app prepared) c.args.node c.args.position left))
 
 pub returns-else-node-left_nodes-clause-name : goal.returns-else-node-left_nodes-clause-name
-returns-else-node-left_nodes-clause-name c = refl
+returns-else-node-left_nodes-clause-name c = rw c.new.ensures refl
 
 pub returns-else-node-left_nodes-clause-dart : goal.returns-else-node-left_nodes-clause-dart
 returns-else-node-left_nodes-clause-dart c =
     let app = c.args.self.now in
-    (right_added (rule_in app) c.left_nodes.result c.args.node (subst (λ (a : PendingOf). IsLeftCount (rule_in a) c.left_nodes.result) c.self.view_is c.left_nodes.ensures.left) c.if-node-left_nodes.false c.requires.0, c.requires.1)
+    rw c.new.ensures (right_added (rule_in app) c.left_nodes.result c.args.node (subst (λ (a : PendingOf). IsLeftCount (rule_in a) c.left_nodes.result) c.self.view_is c.left_nodes.ensures.left) c.if-node-left_nodes.false c.requires.0, c.requires.1)

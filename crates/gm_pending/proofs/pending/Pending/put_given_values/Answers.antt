@@ -1,9 +1,8 @@
-use Rattle.std.proofs.Common.{◌≡◌, ◌*◌, length, get_or, IsSome, None, Some, sym, ap, ◌∙◌, subst, arith, mul_comm}
+use Rattle.std.proofs.Common.{◌≡◌, ◌*◌, length, IsSome, None, Some, refl, sym, ap, ◌∙◌, subst, arith, mul_comm}
 use Rattle.std.proofs.lemmas.Bool.{false≢true}
 use Rattle.std.proofs.lemmas.Nat.{mul-add-lt}
-use Rattle.std.proofs.lemmas.Option.{slice_get-get_or}
+use Rattle.std.proofs.lemmas.Option.{slice_get_read}
 use Rattle.gm_model.specs.Unfolding.{added_nodes}
-use Rattle.gm_pending.specs.declared.at.At.TheVariants.{Old}
 use Rattle.gm_pending.specs.Reached.{AreReached}
 use Rattle.gm_pending.specs.Results.{IsResultDart, IsValueIn, instances_of, name_of, rule_in}
 use Rattle.gm_pending.specs.Sources.{given_of}
@@ -20,13 +19,13 @@ loop-entry-init c = record {
 
 pub new_number-number-requires-clause-added : goal.new_number-number-requires-clause-added
 new_number-number-requires-clause-added c =
-    let here = slice_get-get_or c.as_slice-entry-items.result.now c.loop-entry.entry-index (record { at = Old (record { at = 0 }); instance = 0; over = None; key = 0 }) c.loop-entry-test.true in
-    (subst (IsResultDart c.args.self.now) c.in-New.is (entry_dart c.args.self.now c.orbits-orbits.ensures.prepared c.args.embed c.as_slice-entry-items.result.now c.requires.embed c.loop-entry.invariant.reached c.loop-entry.entry-index _ here)).0
+    let here = slice_get_read c.as_slice-entry-items.result.now _ c.loop-entry.entry-index c.entry-item.result refl c.loop-entry-test.true c.entry-item.is in
+    (subst (IsResultDart c.args.self.now) (sym c.unpack.ensures ∙ c.in-New.is) (entry_dart c.args.self.now c.orbits-orbits.ensures.prepared c.args.embed c.as_slice-entry-items.result.now c.requires.embed c.loop-entry.invariant.reached c.loop-entry.entry-index _ here)).0
 
 pub new_number-number-requires-clause-position : goal.new_number-number-requires-clause-position
 new_number-number-requires-clause-position c =
-    let here = slice_get-get_or c.as_slice-entry-items.result.now c.loop-entry.entry-index (record { at = Old (record { at = 0 }); instance = 0; over = None; key = 0 }) c.loop-entry-test.true in
-    (subst (IsResultDart c.args.self.now) c.in-New.is (entry_dart c.args.self.now c.orbits-orbits.ensures.prepared c.args.embed c.as_slice-entry-items.result.now c.requires.embed c.loop-entry.invariant.reached c.loop-entry.entry-index _ here)).1
+    let here = slice_get_read c.as_slice-entry-items.result.now _ c.loop-entry.entry-index c.entry-item.result refl c.loop-entry-test.true c.entry-item.is in
+    (subst (IsResultDart c.args.self.now) (sym c.unpack.ensures ∙ c.in-New.is) (entry_dart c.args.self.now c.orbits-orbits.ensures.prepared c.args.embed c.as_slice-entry-items.result.now c.requires.embed c.loop-entry.invariant.reached c.loop-entry.entry-index _ here)).1
 
 pub bounds-values-number : goal.bounds-values-number
 bounds-values-number c =
@@ -44,20 +43,21 @@ loop-entry-preserved c =
     let app = c.args.self.now in
     let items = c.as_slice-entry-items.result.now in
     let now = c.loop-entry.invariant in
-    let here = slice_get-get_or items c.loop-entry.entry-index (record { at = Old (record { at = 0 }); instance = 0; over = None; key = 0 }) c.loop-entry-test.true in
-    let entry = get_or items c.loop-entry.entry-index (record { at = Old (record { at = 0 }); instance = 0; over = None; key = 0 }) in
+    let here = slice_get_read items _ c.loop-entry.entry-index c.entry-item.result refl c.loop-entry-test.true c.entry-item.is in
+    let entry = c.entry-item.result in
     let dart = entry_dart app c.orbits-orbits.ensures.prepared c.args.embed items c.requires.embed now.reached c.loop-entry.entry-index _ here in
-    elim c.match-entry.branch [
+    elim c.match-unpack.branch [
       | in-New+in-Some w ↦
-          let new = subst (IsResultDart app) w.in-New.is dart in
+          let is = sym c.unpack.ensures ∙ w.in-New.is in
+          let new = subst (IsResultDart app) is dart in
           let given : given_of (instances_of app c.args.embed) entry.instance ≡ Some w.in-Some.value = sym (ap (λ ds. given_of ds entry.instance) (w.deref.ensures ∙ c.orbits-orbits.ensures.deciders)) ∙ sym w.given.ensures ∙ w.in-Some.is in
           let value = entry_value app c.orbits-orbits.ensures.prepared c.args.embed items c.requires.embed now.reached c.loop-entry.entry-index _ here w.in-Some.value given in
           record {
             reached = now.reached;
             so_far = rw (w.values-is, w.new_number-number.ensures.number, c.embeds-width.ensures.embeds)
-                (given_put_over app c.orbits-orbits.ensures.prepared c.args.embed items c.requires.embed c.loop-entry.entry-index c.args.values.now c.loop-entry.values now.so_far _ here w.in-New.node w.in-New.position w.in-Some.value w.in-New.is new
+                (given_put_over app c.orbits-orbits.ensures.prepared c.args.embed items c.requires.embed c.loop-entry.entry-index c.args.values.now c.loop-entry.values now.so_far _ here w.in-New.node w.in-New.position w.in-Some.value is new
                 (new_dart_below app c.orbits-orbits.ensures.prepared w.in-New.node w.in-New.position new.0 new.1) (now.so_far.long ∙ c.requires.earlier.long)
-                (λ embed at. subst (λ a. IsValueIn app c.args.embed embed (name_of app a) w.in-Some.value) w.in-New.is (value embed at)));
+                (λ embed at. subst (λ a. IsValueIn app c.args.embed embed (name_of app a) w.in-Some.value) is (value embed at)));
           }
       | in-New+in_default-given w ↦
           let none : given_of (instances_of app c.args.embed) entry.instance ≡ None = sym (ap (λ ds. given_of ds entry.instance) (w.deref.ensures ∙ c.orbits-orbits.ensures.deciders)) ∙ sym w.given.ensures ∙ w.in_default-given.is in
@@ -66,7 +66,7 @@ loop-entry-preserved c =
       | in_default w ↦ record {
         reached = now.reached;
         so_far = rw w.values-is (old_passed_over app c.orbits-orbits.ensures.prepared c.args.embed items c.requires.embed c.loop-entry.entry-index c.args.values.now c.loop-entry.values now.so_far _ here
-            w.in_default.field-0 w.in_default.is (subst (IsResultDart app) w.in_default.is dart).0);
+            w.in_default.field-0 (sym c.unpack.ensures ∙ w.in_default.is) (subst (IsResultDart app) (sym c.unpack.ensures ∙ w.in_default.is) dart).0);
       }
     ]
 

@@ -1,7 +1,6 @@
-use Rattle.std.proofs.Common.{◌≡◌, ◌+◌, ◌<◌, length, None, sym, subst, arith, ◌*◌, ◌≤◌}
-use Rattle.std.proofs.lemmas.Option.{slice_get-get_or}
-use Rattle.gm_pending.specs.declared.at.At.TheVariants.{Old}
-use Rattle.gm_pending.specs.Marks.{reached_by}
+use Rattle.std.proofs.Common.{◌≡◌, ◌+◌, ◌<◌, List, length, get_or, None, sym, ap, ◌∙◌, subst, arith, ◌*◌, ◌≤◌}
+use Rattle.std.proofs.lemmas.Option.{slice_get_read}
+use Rattle.gm_pending.specs.declared.marks.Mark.{Mark}
 use Rattle.gm_pending.specs.Reached.{IsSpreadTo}
 use Rattle.gm_pending.specs.Results.{name_of}
 use Rattle.gm_pending.proofs.Following.{stays_longer, walked_cost, walked_on, walked_some}
@@ -39,7 +38,7 @@ pub returns-in_err-spread-clause-grown : goal.returns-in_err-spread-clause-grown
 returns-in_err-spread-clause-grown g c =
     let l = c.loop-next in
     λ result unfolded closed. walked_some c.args.self.now c.labels.ensures.prepared c.args.embed c.args.declared.now c.requires.embed c.args.marks.now l.marks c.spread.new.marks c.args.index (name_of c.args.self.now c.args.at) l.next
-    _ l.invariant.late (rw c.as_slice.ensures.reached (slice_get-get_or l.marks l.next (reached_by (Old (record { at = 0 })) 0 None) (omega (arith, c.loop-next-test.true, c.len.ensures.len)))) result unfolded (l.invariant.spread result unfolded closed) c.spread.ensures.grown
+    _ l.invariant.late (slice_get_read l.marks _ l.next c.index-as_slice-next.result c.len.ensures.len c.loop-next-test.true (c.index-as_slice-next.is ∙ ap (λ (marks : List Mark). get_or marks l.next c.index-as_slice-next.result) c.as_slice.ensures.reached)) result unfolded (l.invariant.spread result unfolded closed) c.spread.ensures.grown
 
 pub returns-in_err-spread-clause-cost : goal.returns-in_err-spread-clause-cost
 returns-in_err-spread-clause-cost g c =
@@ -55,7 +54,7 @@ loop-next-preserved g c =
       late = omega (arith, l.invariant.late);
       within = omega (arith, within, c.spread.ensures.longer);
       spread = λ result unfolded closed. walked_on c.args.self.now c.labels.ensures.prepared c.args.embed c.args.declared.now c.requires.embed c.args.marks.now l.marks c.spread.new.marks c.args.index (name_of c.args.self.now c.args.at) l.next
-          _ l.invariant.late (rw c.as_slice.ensures.reached (slice_get-get_or l.marks l.next (reached_by (Old (record { at = 0 })) 0 None) (omega (arith, c.loop-next-test.true, c.len.ensures.len)))) result unfolded (l.invariant.spread result unfolded closed) c.in_ok-spread.ensures.followed;
+          _ l.invariant.late (slice_get_read l.marks _ l.next c.index-as_slice-next.result c.len.ensures.len c.loop-next-test.true (c.index-as_slice-next.is ∙ ap (λ (marks : List Mark). get_or marks l.next c.index-as_slice-next.result) c.as_slice.ensures.reached)) result unfolded (l.invariant.spread result unfolded closed) c.in_ok-spread.ensures.followed;
       cost = walked_cost c.args.self.now.map.schema.dim l.next (l.next + 1) (length c.args.marks.now) c.args.steps.now l.steps c.spread.new.steps (omega arith) l.invariant.cost c.spread.ensures.cost;
       least = omega (arith, l.invariant.least, c.spread.ensures.least);
     }
@@ -73,7 +72,9 @@ pub spread-requires-clause-darts : goal.spread-requires-clause-darts
 spread-requires-clause-darts g c = c.loop-next.invariant.darts
 
 pub spread-requires-clause-from : goal.spread-requires-clause-from
-spread-requires-clause-from g c = rw c.as_slice.ensures.reached (get_contained c.loop-next.marks c.loop-next.next _ (slice_get-get_or c.loop-next.marks c.loop-next.next (reached_by (Old (record { at = 0 })) 0 None) (omega (arith, c.loop-next-test.true, c.len.ensures.len))))
+spread-requires-clause-from g c =
+    let l = c.loop-next in
+    get_contained l.marks l.next _ (slice_get_read l.marks _ l.next c.index-as_slice-next.result c.len.ensures.len c.loop-next-test.true (c.index-as_slice-next.is ∙ ap (λ (marks : List Mark). get_or marks l.next c.index-as_slice-next.result) c.as_slice.ensures.reached))
 
 pub returns-in_err-mark-clause-cost : goal.returns-in_err-mark-clause-cost
 returns-in_err-mark-clause-cost g c = rw c.in_err-mark.ensures.err (omega arith)

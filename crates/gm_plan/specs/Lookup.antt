@@ -1,4 +1,4 @@
--- Which instance lies at a slot. No public clause cites this module.
+-- Which instance lies at a slot.
 use Rattle.std.specs.Prelude.{◌≡◌, ℕ, ◌<◌, nat_eq, Some, IsSome}
 use Rattle.std.specs.declared.hash.BuildHasherDefault.{BuildHasherDefault}
 use Rattle.std.specs.declared.hash.FoldHasher.{FoldHasher}
@@ -6,6 +6,7 @@ use Rattle.std.specs.HashMap.{HashMap, get}
 use Rattle.gm_model.specs.Orbits.{IsPairBefore}
 use Rattle.gm_plan.specs.InArena.{slot_number}
 use Rattle.gm_plan.specs.Placed.{Placed}
+use Rattle.gm_plan.specs.declared.lookup.Lookup.{Lookup}
 
 -- instances by slots
 abbrev pub BySlot : Type 0
@@ -27,3 +28,7 @@ pub record IsLookupUpTo (placed : Placed) (instances : BySlot) (x p : ℕ) : Typ
 -- and at each slot of an instance
 abbrev pub IsLookup : Placed → BySlot → Type 0
 IsLookup placed instances = IsLookupUpTo placed instances placed.nodes 0
+
+-- what a look-up holds
+abbrev pub IsLookupIn : Placed → Lookup → Type 0
+IsLookupIn placed lookup = IsLookup placed lookup.instances.value

@@ -1,7 +1,7 @@
 use Rattle.std.proofs.Common.{◌<◌}
-use Rattle.gm_pending.proofs.Darts.{slot_answered}
-use Rattle.gm_pending.proofs.Looked.{looked_up_more}
-use Rattle.gm_pending.proofs.lookup.add_node.Goals as goal
+use Rattle.gm_plan.proofs.Looked.{slot_answered}
+use Rattle.gm_plan.proofs.Looked.{looked_up_more}
+use Rattle.gm_plan.proofs.lookup.add_node.Goals as goal
 
 pub loop-position-preserved : goal.loop-position-preserved
 loop-position-preserved c =

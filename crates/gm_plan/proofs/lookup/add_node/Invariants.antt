@@ -1,5 +1,5 @@
-use Rattle.gm_pending.specs.Lookup.{IsLookupUpTo}
-use Rattle.gm_pending.proofs.lookup.add_node.Given as goal
+use Rattle.gm_plan.specs.Lookup.{IsLookupUpTo}
+use Rattle.gm_plan.proofs.lookup.add_node.Given as goal
 
 abbrev pub invariant-loop-position : goal.invariant-loop-position
 invariant-loop-position l = IsLookupUpTo l.found l.instances l.node l.position

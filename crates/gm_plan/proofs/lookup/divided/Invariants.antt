@@ -1,5 +1,5 @@
 use Rattle.std.proofs.Common.{◌≡◌, ◌+◌, ◌*◌}
-use Rattle.gm_pending.proofs.lookup.divided.Given as goal
+use Rattle.gm_plan.proofs.lookup.divided.Given as goal
 
 abbrev pub invariant-loop-rest : goal.invariant-loop-rest
 invariant-loop-rest l = l.number ≡ l.quotient * l.by + l.rest

@@ -1,14 +1,20 @@
 -- One more instance by its slot.
-use Rattle.std.proofs.Common.{◌≡◌, ◌≢◌, ℕ, ◌+◌, ◌<◌, ◌⊎◌, Option, Some, None, IsSome, MatchOption, refl, sym, ◌∙◌, ap, subst, inl, inr, arith}
+use Rattle.std.proofs.Common.{◌≡◌, ◌≢◌, ℕ, ◌+◌, ◌*◌, ◌<◌, ◌⊎◌, Option, Some, None, IsSome, MatchOption, refl, sym, ◌∙◌, ap, subst, inl, inr, arith}
 use Rattle.std.specs.HashMap.{Updates, get}
 use Rattle.std.specs.Prelude.{nat_eq}
 use Rattle.std.proofs.lemmas.Bool.{cases_eq, false≢true}
+use Rattle.std.proofs.lemmas.Option.{get_or_from_slice_get}
+use Rattle.gm_arena.specs.declared.slot.Slot.{Slot}
 use Rattle.gm_model.specs.Orbits.{IsPairBefore}
 use Rattle.gm_plan.specs.InArena.{slot_number}
-use Rattle.gm_plan.specs.Placed.{Placed}
+use Rattle.gm_plan.specs.Placed.{Placed, slot_at}
 use Rattle.gm_theory.proofs.Lists.{some_same, none_some}
-use Rattle.gm_pending.specs.Lookup.{BySlot, IsWithin, IsAtSlot, IsLookupUpTo, IsLookup}
-use Rattle.gm_pending.proofs.Reached.{other_key}
+use Rattle.gm_plan.specs.Lookup.{BySlot, IsWithin, IsAtSlot, IsLookupUpTo, IsLookup}
+use Rattle.gm_plan.proofs.Indices.{other_key}
+
+-- the slot of an instance is the one that was answered
+pub slot_answered : (placed : Placed) (x p : ℕ) (slot : Slot) → slot_at placed x p ≡ Some slot → slot_number placed x p ≡ slot.at
+slot_answered placed x p slot e = ap (λ (s : Slot). s.at) (get_or_from_slice_get placed.slots (p * placed.nodes + x) slot (record { at = 0 }) e)
 
 module _ (placed : Placed) where
   pub nothing_looked_up : (instances : BySlot) → ((slot : ℕ) → get nat_eq instances slot ≡ None) → IsLookupUpTo placed instances 0 0

@@ -1,26 +1,26 @@
 //! Which instance lies at a slot.
 ghost use Rattle.std.specs.Prelude.{◌≡◌, ◌≢◌, ℕ, ◌+◌, ◌/◌, ◌%◌, ◌<◌, ◌≤◌, MatchOption, IfOk, OnOk};
 ghost use Rattle.gm_plan.specs.InArena.{slot_number};
-ghost use Rattle.gm_pending.specs.Lookup.{IsWithin, IsAtSlot, IsLookupUpTo, IsLookup};
+ghost use Rattle.gm_plan.specs.Lookup.{IsWithin, IsAtSlot, IsLookupUpTo, IsLookupIn};
 
+use crate::instances::Instances;
 use gm_arena::Slot;
 use gm_model::OutOfMemory;
-use gm_plan::Instances;
 use std::alloc::Global;
 use std::collections::HashMap;
 
 /// The left nodes and positions by the slots at which they lie. It is made once where many darts
 /// are looked up.
 #[derive(Drop)]
-pub(crate) struct Lookup {
+pub struct Lookup {
     instances: Box<HashMap<u32, (u8, u32)>>,
 }
 
 impl Lookup {
     /// The instances of so many left nodes.
-    pub(crate) fn build(alloc: Global, found: &Instances, nodes: u8) -> Result<Lookup, OutOfMemory>
+    pub fn build(alloc: Global, found: &Instances, nodes: u8) -> Result<Lookup, OutOfMemory>
         requires { nodes ≡ found.now.nodes }
-        ensures { IfOk result (λ lookup. IsLookup found.now lookup.instances.value) }
+        ensures { IfOk result (IsLookupIn found.now) }
     {
         let mut instances = HashMap::new(alloc);
         for node in 0..nodes {
@@ -33,8 +33,8 @@ impl Lookup {
     /// The left node and the position that lie at the slot; none where no instance does.
     // A call of its own, so that the search of a few slots stays small where darts are walked.
     #[inline(never)]
-    pub(crate) fn find(&self, found: &Instances, slot: Slot) -> Option<(u8, u32)>
-        requires { IsLookup found.now self.now.instances.value }
+    pub fn find(&self, found: &Instances, slot: Slot) -> Option<(u8, u32)>
+        requires { IsLookupIn found.now self.now }
         ensures { MatchOption result
             ((x p : ℕ) → IsWithin found.now x p → slot_number found.now x p ≢ slot.at)
             (λ i. IsAtSlot found.now slot.at i.0 i.1) }
@@ -63,7 +63,7 @@ fn add_node(
 ///
 /// It looks through what is matched, so that an application that asks for no old dart pays nothing.
 #[inline(always)]
-pub(crate) fn instance_at(found: &Instances, nodes: u8, slot: Slot) -> Option<(u8, u32)>
+pub fn instance_at(found: &Instances, nodes: u8, slot: Slot) -> Option<(u8, u32)>
     requires { nodes ≡ found.now.nodes }
     ensures { MatchOption result
         ((x p : ℕ) → IsWithin found.now x p → slot_number found.now x p ≢ slot.at)
