@@ -11,8 +11,9 @@ use Rattle.gm_model.specs.declared.value.Value.{Value}
 use Rattle.gm_arena.specs.declared.slot.Slot.{Slot}
 use Rattle.gm_arena.specs.declared.arena.Place.{Place}
 use Rattle.gm_arena.specs.ArenaMap.{Dart}
-use Rattle.gm_arena.specs.Edits.{turned, relinked, put_if, with_alpha, with_neighbours}
-use Rattle.gm_arena.specs.Inside.{no_slot, name_in, part_of, dart_in, darts_in, map_of, IsPlaced, IsWritten, FitTogether}
+use Rattle.gm_arena.specs.Edits.{turned, relinked, put_if, with_alpha}
+use Rattle.gm_arena.specs.Inside.{no_slot, name_in, dart_in, darts_in, map_of, IsPlaced, IsWritten, FitTogether}
+use Rattle.gm_arena.specs.Parts.{part_of}
 use Rattle.gm_arena.proofs.FilledLemmas.{same_maps, get-insert_same, get-insert_other, len-insert_again}
 use Rattle.gm_arena.proofs.InsideLemmas.{nowhere, dart_at, darts_get, links_there}
 use Rattle.gm_arena.proofs.ChangeLemmas.{dart_alike, other_dart, other_slot}
@@ -47,7 +48,7 @@ module _ (schema : Schema) (labels width : ℕ) (places : Slab Place) (neighbour
     dart_here = λ i. record { alphas = map name_of (written.here i); values = part_of width values slot }
 
     -- the map has these neighbours of the dart
-    pub darts_relinked : darts_in labels width places neighbours' values table
+    darts_relinked : darts_in labels width places neighbours' values table
         ≡ map.insert (darts_in labels width places neighbours values table) place.name (relinked (dart_in labels width places neighbours values slot) (map name_of own))
     darts_relinked = same_maps _ _ (λ name. elim (cases_eq name place.name) [
       | inl e ↦ rw e (
@@ -61,7 +62,7 @@ module _ (schema : Schema) (labels width : ℕ) (places : Slab Place) (neighbour
           ∙ sym (get-insert_other _ place.name _ name apart)
     ])
 
-    pub sound_relinked : FitTogether schema labels width places neighbours' values table next spare bound
+    sound_relinked : FitTogether schema labels width places neighbours' values table next spare bound
     sound_relinked = record {
       sized = sound.sized;
       placed = placed;
@@ -76,15 +77,6 @@ module _ (schema : Schema) (labels width : ℕ) (places : Slab Place) (neighbour
       few_names = sound.few_names;
       few_reserved = sound.few_reserved;
     }
-
-    pub map_relinked : map_of schema labels width places neighbours' values table next spare bound
-        ≡ with_neighbours (map_of schema labels width places neighbours values table next spare bound) place.name (map name_of own)
-    map_relinked =
-        let m = map_of schema labels width places neighbours values table next spare bound in
-        let put : map.insert m.darts place.name (relinked (dart_in labels width places neighbours values slot) (map name_of own))
-        ≡ put_if m.darts place.name (option_map (λ (dart : Dart). relinked dart (map name_of own)) (map.get m.darts place.name)) =
-        sym (ap (λ o. put_if m.darts place.name (option_map (λ (dart : Dart). relinked dart (map name_of own)) o)) (dart_at schema labels width places neighbours values table next spare bound sound slot place here)) in
-        λ i. record m { darts = (darts_relinked ∙ put) i }
 
   module _ (label : ℕ) (to : Slot) (within : label < labels) (to_live : IsKey to) (neighbours' : List Slot) (written : IsWritten labels slot neighbours (set (part_of labels neighbours slot) label to) neighbours') where
     set_live : All IsKey (set (part_of labels neighbours slot) label to)

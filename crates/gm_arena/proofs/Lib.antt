@@ -3,7 +3,7 @@ pub mod ListingLemmas
 pub mod InsideLemmas
 pub mod ChangeLemmas
 pub mod AlphaLemmas
-pub mod LineLemmas
+pub mod LinesLemmas
 pub mod LinkLemmas
 pub mod RemoveLemmas
 pub mod ReserveLemmas

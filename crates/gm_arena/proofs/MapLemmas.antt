@@ -8,7 +8,7 @@ use Rattle.std.proofs.lemmas.List.Elements.{All-get_or}
 use Rattle.gm_model.specs.declared.value.Value.{Value}
 use Rattle.gm_arena.specs.ArenaMap.{ArenaMap, Dart, IsAt, IsLiveSlot, IsLiveName, name_at, alpha}
 use Rattle.gm_arena.specs.Lawful.{IsLawful}
-use Rattle.gm_arena.specs.Edits.{with_dart, with_alpha, with_neighbours, without_dart, turned, relinked, put_if, free_dart}
+use Rattle.gm_arena.specs.Edits.{with_dart, with_alpha, without_dart, turned, put_if, free_dart}
 use Rattle.gm_arena.proofs.FilledLemmas.{get-insert_same, get-insert_other, get-remove_same, get-remove_other}
 use Rattle.gm_arena.proofs.InsideLemmas.{some_of}
 
@@ -57,21 +57,6 @@ module _ (m : ArenaMap) (name : ℕ) (f : Dart → Dart) where
   other_at : (o : Option Dart) (other : ℕ) → other ≢ name → map.get (put_if m.darts name (option_map f o)) other ≡ map.get m.darts other
   other_at None other apart = refl
   other_at (Some dart) other apart = get-insert_other m.darts name (f dart) other apart
-
-module _ (m : ArenaMap) (name : ℕ) (neighbours : List ℕ) where
-  pub get-with_neighbours_same : map.get (with_neighbours m name neighbours).darts name ≡ option_map (λ dart. relinked dart neighbours) (map.get m.darts name)
-  get-with_neighbours_same = get-put_if_same m name (λ dart. relinked dart neighbours)
-
-  pub get-with_neighbours_other : (other : ℕ) → other ≢ name → map.get (with_neighbours m name neighbours).darts other ≡ map.get m.darts other
-  get-with_neighbours_other = other_at m name (λ dart. relinked dart neighbours) (map.get m.darts name)
-
-  pub alpha-with_neighbours_same : (i : ℕ) → IsLiveName m name → alpha (with_neighbours m name neighbours) i name ≡ get_or neighbours i name
-  alpha-with_neighbours_same i live =
-      let d : (dart : Dart) × (map.get m.darts name ≡ Some dart) = some_of _ live in
-      ap (λ o. option_map_or (λ (dart : Dart). get_or dart.alphas i name) o name) (get-with_neighbours_same ∙ ap (option_map (λ dart. relinked dart neighbours)) d.1)
-
-  pub alpha-with_neighbours_other : (i other : ℕ) → other ≢ name → alpha (with_neighbours m name neighbours) i other ≡ alpha m i other
-  alpha-with_neighbours_other i other apart = alpha-alike m (with_neighbours m name neighbours) i other (get-with_neighbours_other other apart)
 
 module _ (m : ArenaMap) (name label to : ℕ) where
   pub get-with_alpha_same : map.get (with_alpha m name label to).darts name ≡ option_map (λ dart. turned dart label to) (map.get m.darts name)

@@ -19,7 +19,8 @@ use Rattle.gm_arena.specs.declared.slot.Slot.{Slot}
 use Rattle.gm_arena.specs.declared.arena.Place.{Place}
 use Rattle.gm_arena.specs.ArenaMap.{Dart}
 use Rattle.gm_arena.specs.Edits.{revalued, put_if, with_value}
-use Rattle.gm_arena.specs.Inside.{no_slot, part_of, dart_in, darts_in, map_of, IsWritten, FitTogether}
+use Rattle.gm_arena.specs.Inside.{no_slot, dart_in, darts_in, map_of, IsWritten, FitTogether}
+use Rattle.gm_arena.specs.Parts.{part_of}
 use Rattle.gm_arena.specs.Lawful.{AreGoodValues}
 use Rattle.gm_arena.proofs.FilledLemmas.{same_maps, get-insert_same, get-insert_other, len-insert_again}
 use Rattle.gm_arena.proofs.InsideLemmas.{nowhere, dart_at, darts_get, values_there, some_of}

@@ -1,5 +1,5 @@
 -- What the calls that change an arena make of it.
-use Rattle.std.specs.Prelude.{◌≢◌, ℕ, zero, suc, ◌+◌, ◌-◌, ◌≤◌, max, List, [], ◌∷◌, take, drop, Option, Some, None, replicate, slice_set}
+use Rattle.std.specs.Prelude.{◌≢◌, ℕ, ◌+◌, ◌-◌, ◌≤◌, max, List, [], ◌∷◌, Option, Some, None, replicate, slice_set}
 use Rattle.std.specs.Option.{option_map}
 use Rattle.std.specs.Ordering.{nat_cmp}
 use Rattle.std.specs.FinMap.{FinMap, get, empty, insert, remove}
@@ -53,22 +53,6 @@ with_alpha m name label to = record m {
 -- the dart with these neighbours, by label
 abbrev pub relinked : Dart → List ℕ → Dart
 relinked dart neighbours = record { alphas = neighbours; values = dart.values }
-
--- with these neighbours of one dart
-abbrev pub with_neighbours : ArenaMap → ℕ → List ℕ → ArenaMap
-with_neighbours m name neighbours = record m {
-  darts = put_if m.darts name (option_map (λ dart. relinked dart neighbours) (get m.darts name));
-}
-
--- with the neighbours of a line: the name of a dart, and then those of its neighbours by label
-abbrev pub with_line : ArenaMap → List ℕ → ArenaMap
-with_line m [] = m
-with_line m (name ∷ neighbours) = with_neighbours m name neighbours
-
--- with those of so many lines, each of so many names, a later one in the place of an earlier one
-abbrev pub with_lines : ℕ → ℕ → List ℕ → ArenaMap → ArenaMap
-with_lines size zero names m = m
-with_lines size (suc count) names m = with_lines size count (drop size names) (with_line m (take size names))
 
 -- with the second of each two slots as the neighbour of the first, a later one in the place of an earlier one
 abbrev pub with_alphas : ArenaMap → ℕ → List (Slot × Slot) → ArenaMap

@@ -10,6 +10,7 @@ use Rattle.gm_arena.specs.declared.slot.Slot.{Slot}
 use Rattle.gm_arena.specs.declared.arena.Place.{Place}
 use Rattle.gm_arena.specs.ArenaMap.{ArenaMap, Dart}
 use Rattle.gm_arena.specs.Filled.{filled}
+use Rattle.gm_arena.specs.Parts.{part_of}
 use Rattle.gm_model.specs.Limits.{most_darts, most_names}
 use Rattle.gm_model.specs.Maps.{IsSchema}
 use Rattle.gm_arena.specs.Lawful.{AreGoodValues}
@@ -32,10 +33,6 @@ names_in table = map (λ e. e.0) (entries_from 0 (map entry_of table))
 abbrev pub name_in : Slab Place → ℕ → ℕ
 name_in places slot = option_map_or (λ (p : Place). p.name) (get places slot) 0
 
--- what a slot has of a list with so many for each
-abbrev pub part_of : {A : Type 0} → ℕ → List A → ℕ → List A
-part_of width items slot = take width (drop (slot * width) items)
-
 -- a list with these from an index on, over what it had there
 abbrev pub written_at : {A : Type 0} → ℕ → List A → List A → List A
 written_at at own items = take at items ++ (own ++ drop (length own) (drop at items))
@@ -55,15 +52,10 @@ linked labels label (two ∷ more) neighbours = linked labels label more (slice_
 abbrev pub slot_numbered : ℕ → Slot
 slot_numbered at = record { at = at }
 
--- the neighbours with those of a line, whose numbers are slots: that of a dart, and then those of its neighbours
-abbrev pub line_written : ℕ → List ℕ → List Slot → List Slot
-line_written labels [] neighbours = neighbours
-line_written labels (own ∷ others) neighbours = written_at (own * labels) (map slot_numbered others) neighbours
-
--- with those of so many lines
-abbrev pub lines_written : ℕ → ℕ → List ℕ → List Slot → List Slot
-lines_written labels zero lines neighbours = neighbours
-lines_written labels (suc count) lines neighbours = lines_written labels count (drop (labels + 1) lines) (line_written labels (take (labels + 1) lines) neighbours)
+-- the neighbours of so many lines one after another, as slots: a line has the number of a dart and then those of its neighbours
+abbrev pub links_in : ℕ → ℕ → List ℕ → List Slot
+links_in labels zero lines = []
+links_in labels (suc count) lines = map slot_numbered (drop 1 (take (labels + 1) lines)) ++ links_in labels count (drop (labels + 1) lines)
 
 abbrev pub dart_in : ℕ → ℕ → Slab Place → List Slot → List Value → ℕ → Dart
 dart_in labels width places neighbours values slot = record {
@@ -126,6 +118,11 @@ pub record FitTogether (schema : Schema) (labels width : ℕ) (places : Slab Pla
 pub record HasParts (capacity labels width links values : ℕ) : Type 0 where
   pub linked : capacity * labels ≤ links
   pub long : capacity * width ≤ values
+
+-- the places of the names below this one, each at the slot of its own number
+pub record AreNumbered (count : ℕ) (places : Slab Place) : Type 0 where
+  pub here : (slot : ℕ) → slot < count → get places slot ≡ Some (record { name = slot })
+  pub none : (slot : ℕ) → count ≤ slot → get places slot ≡ None
 
 -- where the flag is set, the name of each place is its slot
 abbrev pub AreNamesSlots : Bool → Slab Place → Type 0

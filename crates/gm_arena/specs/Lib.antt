@@ -2,6 +2,8 @@ pub mod ArenaMap
 pub mod ArenaAsMap
 pub mod Lawful
 pub mod InOrder
+pub mod Parts
+pub mod Lines
 pub mod Edits
 pub mod Filled
 pub mod Inside

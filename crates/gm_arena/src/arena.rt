@@ -5,7 +5,7 @@ ghost use Rattle.slab.specs.Slab.{HasRoomFor, slab_len};
 ghost use Rattle.gm_model.specs.Limits.{most_darts, most_names};
 ghost use Rattle.std.specs.Vec.{vec_capacity};
 ghost use Rattle.slab.specs.Slab as slab;
-ghost use Rattle.gm_arena.specs.Inside.{no_slot, names_in, name_in, linked, slot_numbered, lines_written, IsWritten, HasParts, AreNamesSlots};
+ghost use Rattle.gm_arena.specs.Inside.{no_slot, names_in, name_in, linked, slot_numbered, links_in, IsWritten, HasParts, AreNumbered, AreNamesSlots};
 
 use crate::slot::Slot;
 use crate::steps::Steps;
@@ -83,7 +83,8 @@ impl Arena {
     ghost use Rattle.gm_model.specs.Values.{IsValueOf};
     ghost use Rattle.gm_arena.specs.ArenaAsMap.{value};
     ghost use Rattle.gm_arena.specs.Lawful.{IsLawful, AreGoodValues};
-    ghost use Rattle.gm_arena.specs.Edits.{empty_map, with_dart, with_alpha, with_alphas, with_lines, with_value, without_dart, IsAlone};
+    ghost use Rattle.gm_arena.specs.Edits.{empty_map, with_dart, with_alpha, with_alphas, with_value, without_dart, IsAlone};
+    ghost use Rattle.gm_arena.specs.Lines.{line_count, AreLines, HoldsLines};
 
     /// An arena without darts, whose next name is 0. It takes no memory.
     pub fn new(alloc: Global, schema: Schema) -> Arena
@@ -103,6 +104,50 @@ impl Arena {
             bound: 0,
             names_are_slots: true,
         }
+    }
+
+    /// The arena of the darts 0, 1 and so on, each of which has a line: its name, and then those of its
+    /// neighbours by label. What is left behind the last whole line has no meaning. The values of each
+    /// dart by embedding stand one after another in the order of the lines; the arena takes them over
+    /// as they are. It counts 2n+4 steps for each dart, as to add it, to look up its neighbours and to
+    /// set them would.
+    pub fn of_lines<L: Ledger>(
+        alloc: Global,
+        schema: Schema,
+        lines: Vec<u32>,
+        mut values: Vec<Value>,
+        steps: &mut Steps<L>,
+    ) -> Result<Arena, OutOfMemory>
+        requires schema { IsSchema schema }
+        requires lines { AreLines schema lines.items values.items }
+        ensures holds { IfOk result (HoldsLines schema lines.items values.items) }
+        ensures cost { steps.new ≡ steps.old + (2 * schema.dim + 4) * line_count schema lines.items }
+    {
+        let labels = schema.dim.top() as usize + 1;
+        let width = schema.embeds.as_slice().len();
+        let count = lines.len() / (labels + 1);
+        steps.tick_times((count * (2 * labels + 2)) as u64);
+        let table = Table::numbered(alloc, count)?;
+        let mut places = grown(&Slab::new(alloc), count)?;
+        let mut neighbours = Vec::with_capacity(alloc, places.capacity() * labels)?;
+        put_neighbours(&mut neighbours, labels, &lines);
+        // Their room is free again before the places take theirs.
+        drop(lines);
+        widen(&mut values, places.capacity() * width)?;
+        number_places(&mut places, count)?;
+        Ok(Arena {
+            schema,
+            labels,
+            width,
+            places,
+            neighbours,
+            values,
+            table,
+            next: count as u32,
+            spare: 0,
+            bound: count,
+            names_are_slots: true,
+        })
     }
 
     /// The dimension and the embeddings.
@@ -148,7 +193,7 @@ impl Arena {
 
     /// Whether each slot below the bound has the dart of which it is the name, so that no other name
     /// is live. Nothing has to be looked up then. It counts no step.
-    pub fn has_slots_for_names(&self) -> bool
+    fn has_slots_for_names(&self) -> bool
         ensures at { IsTrue result → (name : ℕ) → name < self.now.bound → IsAt self.now name name }
         ensures none { IsTrue result → (name : ℕ) → self.now.bound ≤ name → get self.now.darts name ≡ None }
         ensures count { IsTrue result → self.now.bound ≡ self.now.count }
@@ -355,21 +400,6 @@ impl Arena {
         link(neighbours, self.labels, label as usize, from, to);
     }
 
-    /// Gives darts other neighbours, where each name is its dart's slot. A line for each dart has its
-    /// name and then those of its neighbours, by label; what is left behind the last whole line has no
-    /// meaning. Nothing is changed at the neighbours, and where a dart has several lines, the last one
-    /// counts. It counts a step for each dart, and two for each neighbour, as `slot_of` and
-    /// `set_alpha` would.
-    pub fn link_lines<L: Ledger>(&mut self, lines: &[u32], steps: &mut Steps<L>)
-        requires slots { All (λ name. IsAt self.old name name) lines.now }
-        ensures map { self.new ≡ with_lines (self.old.schema.dim + 2) (length lines.now / (self.old.schema.dim + 2)) lines.now self.old }
-        ensures cost { steps.new ≡ steps.old + (2 * self.old.schema.dim + 3) * (length lines.now / (self.old.schema.dim + 2)) }
-    {
-        let count = lines.len() / (self.labels + 1);
-        steps.tick_times((count * (2 * self.labels + 1)) as u64);
-        write_lines(&mut self.neighbours, self.labels, lines);
-    }
-
     /// Sets the value of the dart at a slot, of an embedding by its index in the schema. The other
     /// darts of the embedding's orbit keep theirs.
     pub fn set_value<L: Ledger>(
@@ -518,45 +548,64 @@ fn link(neighbours: &mut [Slot], labels: usize, label: usize, from: &[Slot], to:
     }
 }
 
-/// Gives the slots of lines other neighbours. A line has a slot and then its neighbours, as numbers.
-// The compiler is told the labels of a surface and of a solid, and does each line without a loop: 20
-// instructions less for a dart of a surface.
-fn write_lines(neighbours: &mut Vec<Slot>, labels: usize, lines: &[u32])
+/// Appends the neighbours of all whole lines, each of which has a slot in front of them. It takes no
+/// memory.
+// The compiler is told the labels of a surface and of a solid, and does each line without a loop.
+fn put_neighbours(neighbours: &mut Vec<Slot>, labels: usize, lines: &[u32])
     requires labels { labels ≤ 8 }
-    requires within { All (λ at. at * labels + labels ≤ length neighbours.old.items) lines.now }
-    ensures items { neighbours.new.items ≡ lines_written labels (length lines.now / (labels + 1)) lines.now neighbours.old.items }
+    requires room { length neighbours.old.items + length lines.now / (labels + 1) * labels ≤ vec_capacity neighbours.old }
+    ensures items { neighbours.new.items ≡ neighbours.old.items ++ links_in labels (length lines.now / (labels + 1)) lines.now }
     ensures capacity { vec_capacity neighbours.old ≤ vec_capacity neighbours.new }
 {
     match labels {
-        3 => write_each_line(neighbours, 3, lines),
-        4 => write_each_line(neighbours, 4, lines),
-        _ => write_each_line(neighbours, labels, lines),
+        3 => put_each_line(neighbours, 3, lines),
+        4 => put_each_line(neighbours, 4, lines),
+        _ => put_each_line(neighbours, labels, lines),
     }
 }
 
 /// The same for labels of which the caller may tell how many there are.
 #[inline(always)]
-fn write_each_line(neighbours: &mut Vec<Slot>, labels: usize, lines: &[u32])
+fn put_each_line(neighbours: &mut Vec<Slot>, labels: usize, lines: &[u32])
     requires labels { labels ≤ 8 }
-    requires within { All (λ at. at * labels + labels ≤ length neighbours.old.items) lines.now }
-    ensures items { neighbours.new.items ≡ lines_written labels (length lines.now / (labels + 1)) lines.now neighbours.old.items }
+    requires room { length neighbours.old.items + length lines.now / (labels + 1) * labels ≤ vec_capacity neighbours.old }
+    ensures items { neighbours.new.items ≡ neighbours.old.items ++ links_in labels (length lines.now / (labels + 1)) lines.now }
     ensures capacity { vec_capacity neighbours.old ≤ vec_capacity neighbours.new }
 {
     for line in lines.chunks_exact(labels + 1) {
-        let start = line[0] as usize * labels;
-        write_slots(&mut neighbours[start..start + labels], &line[1..]);
+        put_slots(neighbours, &line[1..]);
     }
 }
 
-/// Writes the slots of these numbers over a slice that is as long.
+/// Appends the slots of these numbers. It takes no memory.
 #[inline(always)]
-fn write_slots(part: &mut [Slot], numbers: &[u32])
-    requires { length part.old ≡ length numbers.now }
-    ensures { part.new ≡ map slot_numbered numbers.now }
+fn put_slots(slots: &mut Vec<Slot>, numbers: &[u32])
+    requires { length slots.old.items + length numbers.now ≤ vec_capacity slots.old }
+    ensures items { slots.new.items ≡ slots.old.items ++ map slot_numbered numbers.now }
+    ensures capacity { vec_capacity slots.old ≤ vec_capacity slots.new }
 {
-    for (place, at) in numbers.iter().enumerate() {
-        part[place] = Slot { at: *at };
+    for at in numbers {
+        slots.push_reserved(Slot { at: *at });
     }
+}
+
+/// Adds the places of so many names, the name of each being its slot. A slab does not say which key
+/// comes next, so the keys are compared, and one that is another is taken for want of memory.
+fn number_places(places: &mut Slab<Place>, count: usize) -> Result<(), OutOfMemory>
+    requires none { places.old.slots ≡ [] }
+    requires room { count ≤ places.old.capacity }
+    requires few { count ≤ most_darts }
+    ensures numbered { OnOk result (AreNumbered count places.new) }
+    ensures len { OnOk result (slab_len places.new ≡ count) }
+    ensures capacity { places.new.capacity ≡ places.old.capacity }
+{
+    for name in 0..count {
+        let key = places.insert_reserved(Place { name: name as u32 });
+        if key != name {
+            return Err(OutOfMemory);
+        }
+    }
+    Ok(())
 }
 
 /// Makes room for so many more places, the keys of which fit a slot, and for their neighbours and

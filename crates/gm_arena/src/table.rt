@@ -51,6 +51,19 @@ impl Table {
         }
     }
 
+    /// The names from 0 on, so many, each with the slot of its own number.
+    pub(crate) fn numbered(alloc: Global, count: usize) -> Result<Table, OutOfMemory>
+        requires { count ≤ most_names }
+        ensures { IfOk result (λ table. table ≡ range_with_len 0 count) }
+    {
+        Ok(Table {
+            slots: Vec::with_capacity(alloc, count)?,
+            len: count,
+            taken: count as u32,
+            is_listed: false,
+        })
+    }
+
     /// How many names are reserved.
     pub(crate) fn len(&self) -> usize
         ensures { result ≡ length self.now }

@@ -1,5 +1,7 @@
 -- Bytes that a reader gave, one part after the other.
-use Rattle.std.proofs.Common.{ℕ, List, [], ◌++◌, Option, Some, None, Vec, IfOk, OnOk, refl, sym, ap, ◌∙◌, append_assoc, append-nil}
+use Rattle.std.proofs.Common.{◌≡◌, ℕ, ◌+◌, ◌≤◌, List, ◌++◌, length, take, Option, Some, None, Vec, IfOk, OnOk, sym, ap, ◌∙◌, append_assoc, append-nil}
+use Rattle.std.proofs.Math.Seq.{take-append-add}
+use Rattle.std.proofs.lemmas.List.{take-append-le}
 use Rattle.std.specs.Io.KnownBytes.{Consumes, IsAtEnd}
 use Rattle.std.specs.Prelude.{Result, Ok, Err}
 use Rattle.gm_host.specs.declared.fault.LoadFault.{LoadFault}
@@ -7,16 +9,19 @@ use Rattle.gm_host.specs.declared.fault.LoadFault.TheVariants.{Absent, Failed, T
 use Rattle.gm_host.specs.Store.{IfTooLong}
 use Rattle.gm_host.specs.FileStore.{IsAllOf, IsFrontOf}
 
-pub Consumes-nothing : (known : Option (List ℕ)) → Consumes known known []
-Consumes-nothing None = tt
-Consumes-nothing (Some xs) = refl
-
 pub Consumes-append : (before between after : Option (List ℕ)) (xs ys : List ℕ)
     → Consumes before between xs → Consumes between after ys → Consumes before after (xs ++ ys)
 Consumes-append None between after xs ys p q = tt
 Consumes-append (Some bs) None after xs ys p q = absurd p
 Consumes-append (Some bs) (Some cs) None xs ys p q = absurd q
 Consumes-append (Some bs) (Some cs) (Some ds) xs ys p q = p ∙ ap (λ rest. xs ++ rest) q ∙ sym (append_assoc xs ys ds)
+
+-- what a read put behind the front is appended to it, as far as it goes
+pub read_behind : (front now part rest : List ℕ) (held count : ℕ) → length front ≡ held → take held now ≡ front → count ≤ length part
+    → take (held + count) (take held now ++ (part ++ rest)) ≡ front ++ take count part
+read_behind front now part rest held count long same fits =
+    ap (λ xs. take (held + count) (xs ++ (part ++ rest))) same ∙ ap (λ k. take (k + count) (front ++ (part ++ rest))) (sym long)
+    ∙ take-append-add front (part ++ rest) count ∙ ap (λ xs. front ++ xs) (take-append-le count part rest fits)
 
 consumed_to_the_end : (before after : Option (List ℕ)) (bytes : List ℕ)
     → Consumes before after bytes → IsAtEnd after → IsAllOf before bytes

@@ -1,5 +1,6 @@
 //! What a load reads from an opened file, and what a save writes to one.
-ghost use Rattle.std.specs.Prelude.{◌≡◌, ◌+◌, ◌<◌, ◌≤◌, IfOk, OnOk, OnErr, length};
+ghost use Rattle.std.specs.Prelude.{◌≡◌, ◌+◌, ◌<◌, ◌≤◌, [], IfOk, OnOk, OnErr, length, vec_len, vec_capacity};
+ghost use Rattle.std.specs.Io.{StartsWith};
 ghost use Rattle.std.specs.Io.KnownBytes.{Appends, Consumes, IsAtEnd};
 ghost use Rattle.gm_host.specs.Store.{IsAbsent, IsFailed, IfTooLong};
 ghost use Rattle.gm_host.specs.FileStore.{IsAllOf, IsFrontOf};
@@ -8,15 +9,16 @@ ghost use Rattle.gm_host.specs.Saves as saves;
 use crate::fault::{LoadFault, SaveFault};
 use crate::whole::write_whole;
 use gm_model::Items;
-use std::alloc::Global;
+use std::alloc::{AllocError, Global};
+use std::fs::OpenFile;
 use std::io;
 use std::io::{Read, Write};
 
-/// How many bytes one read asks for.
-const PIECE: usize = 65_536;
+/// How many bytes one read asks for at most.
+const PIECE: usize = 131_072;
 
 /// All bytes that an opened file has left, read no further than one byte past the limit.
-pub(crate) fn read_opened<F: Read + Drop>(
+pub(crate) fn read_opened<F: Read + OpenFile + Drop>(
     opened: io::Result<F>,
     alloc: Global,
     limit: usize,
@@ -31,18 +33,15 @@ pub(crate) fn read_opened<F: Read + Drop>(
     let Ok(mut file) = opened else {
         return Err(LoadFault::Failed);
     };
-    let mut piece = vec![in alloc; 0u8; PIECE]?;
-    read_within(&mut file, alloc, &mut piece, limit)
+    read_within(&mut file, alloc, limit)
 }
 
-/// What is left to read, read through the lent piece no further than one byte past the limit.
-fn read_within<F: Read>(
+/// What is left to read, read no further than one byte past the limit.
+fn read_within<F: Read + OpenFile>(
     file: &mut F,
     alloc: Global,
-    piece: &mut [u8],
     limit: usize,
 ) -> Result<Vec<u8>, LoadFault>
-    requires { 0 < length piece.old }
     ensures within_limit { IfOk result (λ bytes. length bytes.items ≤ limit) }
     ensures all_bytes { IfOk result (λ bytes. Consumes (F.remaining file.old) (F.remaining file.new) bytes.items) }
     ensures to_the_end { OnOk result (IsAtEnd (F.remaining file.new)) }
@@ -50,21 +49,54 @@ fn read_within<F: Read>(
     ensures seen_length { IfTooLong result (λ seen. length seen ≡ limit + 1) }
     ensures first_bytes { IfTooLong result (λ seen. Consumes (F.remaining file.old) (F.remaining file.new) seen) }
 {
-    let mut bytes = Vec::new(alloc);
+    let mut bytes = room_for(file, alloc, limit);
     while bytes.len() <= limit {
-        let wanted = (limit - bytes.len()).saturating_add(1).min(piece.len());
-        let part = &mut piece[..wanted];
-        let Ok(count) = file.read(part) else {
+        let held = bytes.len();
+        let wanted = (limit - held).saturating_add(1).min(PIECE);
+        lengthen(&mut bytes, wanted)?;
+        let Ok(count) = file.read(&mut bytes[held..]) else {
             return Err(LoadFault::Failed);
         };
+        bytes.truncate(held + count);
         if count == 0 {
             return Ok(bytes);
         }
-        bytes.extend_from_slice(&part[..count])?;
     }
     Err(LoadFault::TooLong {
         seen: Items::new(bytes),
     })
+}
+
+/// An empty vector with room for what the file says that it holds, and for one byte more, so that
+/// the read that finds the end needs no other room. Where the file does not say, or the memory is
+/// wanting, it has no room.
+fn room_for<F: OpenFile>(file: &F, alloc: Global, limit: usize) -> Vec<u8>
+    ensures empty { result.items ≡ [] }
+    ensures room { vec_capacity result ≤ limit + 1 }
+{
+    let Ok(found) = file.metadata() else {
+        return Vec::new(alloc);
+    };
+    let held = usize::try_from(found.len()).unwrap_or(usize::MAX);
+    match Vec::with_capacity(alloc, held.min(limit).saturating_add(1)) {
+        Ok(room) => room,
+        Err(_) => Vec::new(alloc),
+    }
+}
+
+/// Appends zeros, at least one and at most so many. A vector that has room is lengthened within it.
+fn lengthen(bytes: &mut Vec<u8>, most: usize) -> Result<(), AllocError>
+    requires { 0 < most }
+    ensures kept { OnOk result (StartsWith bytes.new.items bytes.old.items) }
+    ensures longer { OnOk result (vec_len bytes.old < vec_len bytes.new) }
+    ensures fits { OnOk result (vec_len bytes.new ≤ vec_len bytes.old + most) }
+{
+    let held = bytes.len();
+    if held == bytes.capacity() {
+        bytes.reserve(most)?;
+    }
+    let room = bytes.capacity() - held;
+    bytes.resize(held + room.min(most), 0)
 }
 
 /// Writes all of the bytes to a file that was opened to write, and gives the file back.

@@ -1,11 +1,12 @@
 -- One line more: its dart is added with its values, or its name is there already.
-use Rattle.std.proofs.Common.{◌≡◌, ℕ, ◌+◌, ◌-◌, ◌*◌, ◌/◌, ◌<◌, ◌≤◌, ℤ, min, true, List, [], ◌∷◌, ◌++◌, length, take, drop, get_or, Option, Some, None, is_some, inl, inr, refl, sym, ap, subst, ◌∙◌, arith}
+use Rattle.std.proofs.Common.{◌≡◌, ℕ, ◌+◌, ◌-◌, ◌*◌, ◌/◌, ◌<◌, ◌≤◌, min, true, List, [], ◌∷◌, ◌++◌, length, take, drop, get_or, Option, Some, None, is_some, inl, inr, refl, sym, ap, subst, ◌∙◌, arith}
 use Rattle.std.specs.Prelude.{MatchOption}
 use Rattle.std.specs.FinMap.{get}
 use Rattle.std.specs.List.{AllByRecursion}
 use Rattle.std.specs.Option.{option_map}
 use Rattle.std.proofs.lemmas.Bool.{cases_eq}
-use Rattle.std.proofs.lemmas.List.{length-drop, length-take-le}
+use Rattle.std.proofs.lemmas.List.{length-drop}
+use Rattle.gm_model.specs.declared.schema.Embed.{Embed}
 use Rattle.gm_model.specs.declared.schema.Schema.{Schema}
 use Rattle.gm_model.specs.declared.value.Value.{Value}
 use Rattle.gm_arena.specs.ArenaMap.{ArenaMap, Dart}
@@ -17,9 +18,7 @@ use Rattle.gm_mapfile.specs.MapText.{DartRow, bare, rows_of, dart_of}
 use Rattle.gm_mapfile.specs.Building.{IsFresh, IsNextLeast, AreAdded, AreValued}
 use Rattle.gm_mapfile.proofs.Adding.{none_added, none_next, next_more, added_more, added_again}
 use Rattle.gm_mapfile.specs.Rows.{row_in, rows_in, valued, darts_in}
-use Rattle.gm_mapfile.specs.Packed.{size_of_line}
-use Rattle.gm_mapfile.specs.Packed as packing
-use Rattle.gm_mapfile.proofs.Chunks.{lines_cut, name_live, next_among, first_values, darts_line, rows_of_darts_in}
+use Rattle.gm_mapfile.proofs.Chunks.{lines_cut, name_live, next_among, darts_line, rows_of_darts_in}
 use Rattle.gm_mapfile.proofs.Darts.{rows_append, live_dart, dart_of_push_new, dart_of_push_other, dart_of_push_again}
 use Rattle.gm_mapfile.proofs.Named.{none_of}
 
@@ -79,17 +78,17 @@ module _ (n : ℕ) (darts : List DartRow) (dart : DartRow) (m : ArenaMap) (found
 abbrev pub AreGood : Schema → List DartRow → Type 0
 AreGood schema darts = AllByRecursion (λ (dart : DartRow). AreGoodValues schema dart.values) darts
 
-module _ (schema : Schema) (all line rest : List ℕ) (words others : List ℤ) (cut : all ≡ line ++ rest) (wide : length line ≡ schema.dim + 2) (left : others ≡ drop (size_of_line schema.embeds) words) where
+module _ (schema : Schema) (all line rest : List ℕ) (values others : List Value) (cut : all ≡ line ++ rest) (wide : length line ≡ schema.dim + 2) (left : others ≡ drop (length schema.embeds) values) where
   abbrev pub own : DartRow
-  own = valued (row_in line) (first_values schema words)
+  own = valued (row_in line) (take (length schema.embeds) values)
 
-  line_and_left : darts_in schema all words ≡ own ∷ darts_in schema rest others
-  line_and_left = darts_line schema all line rest words cut wide ∙ ap (λ ws. own ∷ darts_in schema rest ws) (sym left)
+  line_and_left : darts_in schema all values ≡ own ∷ darts_in schema rest others
+  line_and_left = darts_line schema all line rest values cut wide ∙ ap (λ vs. own ∷ darts_in schema rest vs) (sym left)
 
-  pub line_split : (front whole : List DartRow) → front ++ darts_in schema all words ≡ whole → (front ++ own ∷ []) ++ darts_in schema rest others ≡ whole
-  line_split front whole so_far = next_among front whole (darts_in schema all words) (darts_in schema rest others) own so_far line_and_left
+  pub line_split : (front whole : List DartRow) → front ++ darts_in schema all values ≡ whole → (front ++ own ∷ []) ++ darts_in schema rest others ≡ whole
+  line_split front whole so_far = next_among front whole (darts_in schema all values) (darts_in schema rest others) own so_far line_and_left
 
-  pub line_good : AreGood schema (darts_in schema all words) → AreGoodValues schema own.values × AreGood schema (darts_in schema rest others)
+  pub line_good : AreGood schema (darts_in schema all values) → AreGoodValues schema own.values × AreGood schema (darts_in schema rest others)
   line_good good = subst (AreGood schema) line_and_left good
 
   lines : length all / (schema.dim + 2) ≡ length rest / (schema.dim + 2) + 1
@@ -98,40 +97,39 @@ module _ (schema : Schema) (all line rest : List ℕ) (words others : List ℤ) 
   pub line_spare : (spare : ℕ) → length all / (schema.dim + 2) ≤ spare → (0 < spare) × (length rest / (schema.dim + 2) ≤ spare - 1)
   line_spare spare room = (omega (arith, lines, room), omega (arith, lines, room))
 
-  pub line_long : length words ≡ length all / (schema.dim + 2) * size_of_line schema.embeds → length others ≡ length rest / (schema.dim + 2) * size_of_line schema.embeds
+  pub line_long : length values ≡ length all / (schema.dim + 2) * length schema.embeds → length others ≡ length rest / (schema.dim + 2) * length schema.embeds
   line_long long =
-      let more : length words ≡ (length rest / (schema.dim + 2) + 1) * size_of_line schema.embeds = long ∙ ap (λ k. k * size_of_line schema.embeds) lines in
-      ap length left ∙ omega (arith, more, length-drop (size_of_line schema.embeds) words)
+      let more : length values ≡ (length rest / (schema.dim + 2) + 1) * length schema.embeds = long ∙ ap (λ k. k * length schema.embeds) lines in
+      ap length left ∙ omega (arith, more, length-drop (length schema.embeds) values)
 
--- a line's words are there
-pub line_words : (schema : Schema) (all line rest : List ℕ) (words : List ℤ) → all ≡ line ++ rest → length line ≡ schema.dim + 2 → length words ≡ length all / (schema.dim + 2) * size_of_line schema.embeds → size_of_line schema.embeds ≤ length words
-line_words schema all line rest words cut wide long =
-    let more : length words ≡ (length rest / (schema.dim + 2) + 1) * size_of_line schema.embeds = long ∙ ap (λ k. k * size_of_line schema.embeds) (lines_cut schema.dim all line rest cut wide) in
+-- a line's values are there
+pub line_values : (schema : Schema) (all line rest : List ℕ) (values : List Value) → all ≡ line ++ rest → length line ≡ schema.dim + 2 → length values ≡ length all / (schema.dim + 2) * length schema.embeds → length schema.embeds ≤ length values
+line_values schema all line rest values cut wide long =
+    let more : length values ≡ (length rest / (schema.dim + 2) + 1) * length schema.embeds = long ∙ ap (λ k. k * length schema.embeds) (lines_cut schema.dim all line rest cut wide) in
     omega (arith, more)
 
 -- a line's name is below what is above all names
-pub line_below : (schema : Schema) (front : List DartRow) (numbers all line rest : List ℕ) (whole words : List ℤ) → front ++ darts_in schema all words ≡ darts_in schema numbers whole → all ≡ line ++ rest → length line ≡ schema.dim + 2
+pub line_below : (schema : Schema) (front : List DartRow) (numbers all line rest : List ℕ) (whole values : List Value) → front ++ darts_in schema all values ≡ darts_in schema numbers whole → all ≡ line ++ rest → length line ≡ schema.dim + 2
     → (bound : ℕ) → AreBelow (rows_in schema.dim numbers) bound → get_or line 0 0 < bound
-line_below schema front numbers all line rest whole words split cut wide bound below =
+line_below schema front numbers all line rest whole values split cut wide bound below =
     let rows : rows_of front ++ rows_in schema.dim all ≡ rows_in schema.dim numbers =
-    ap (λ rs. rows_of front ++ rs) (sym (rows_of_darts_in schema all words)) ∙ (sym (rows_append front (darts_in schema all words)) ∙ (ap rows_of split ∙ rows_of_darts_in schema numbers whole)) in
+    ap (λ rs. rows_of front ++ rs) (sym (rows_of_darts_in schema all values)) ∙ (sym (rows_append front (darts_in schema all values)) ∙ (ap rows_of split ∙ rows_of_darts_in schema numbers whole)) in
     below (get_or line 0 0) (name_live schema.dim (rows_of front) numbers all line rest rows cut wide)
 
 pub schema_kept : (m new : ArenaMap) (slot name : ℕ) (values : List Value) (schema : Schema) → new ≡ with_dart m slot name values → m.schema ≡ schema → new.schema ≡ schema
 schema_kept m new slot name values schema is same = ap (λ (x : ArenaMap). x.schema) is ∙ same
 
--- the words of a line and those behind it, where they are cut by a number that is read before
-module _ (schema : Schema) (size : ℕ) (words own others : List ℤ) (is : size ≡ size_of_line schema.embeds) where
-  pub behind_read : others ≡ drop size words → others ≡ drop (size_of_line schema.embeds) words
-  behind_read cut = cut ∙ ap (λ k. drop k words) is
+-- how many values a line has, where a schema is read for that of an arena
+pub width_read : (embeds : List Embed) (read schema : Schema) → embeds ≡ read.embeds → read ≡ schema → length embeds ≡ length schema.embeds
+width_read embeds read schema embeds_are schema_is = ap length embeds_are ∙ ap (λ (s : Schema). length s.embeds) schema_is
 
-  pub values_read : (read : Schema) → read ≡ schema → own ≡ take size words → first_values schema words ≡ packing.values_in read.embeds own
-  values_read read same cut = sym (ap (λ (s : Schema). packing.values_in s.embeds own) same ∙ (ap (packing.values_in schema.embeds) cut ∙ ap (λ k. packing.values_in schema.embeds (take k words)) is))
+-- the values of a line and those behind it, where they are cut by a number that is read before
+module _ (schema : Schema) (width : ℕ) (values own others : List Value) (is : width ≡ length schema.embeds) where
+  pub behind_read : others ≡ drop width values → others ≡ drop (length schema.embeds) values
+  behind_read cut = cut ∙ ap (λ k. drop k values) is
 
-  pub good_read : (read : Schema) → read ≡ schema → own ≡ take size words → AreGoodValues schema (first_values schema words) → AreGoodValues read (packing.values_in read.embeds own)
-  good_read read same cut good = subst (λ (s : Schema). AreGoodValues s (packing.values_in s.embeds own)) (sym same) (subst (AreGoodValues schema) (values_read schema refl cut) good)
+  pub values_read : own ≡ take width values → take (length schema.embeds) values ≡ own
+  values_read cut = sym (cut ∙ ap (λ k. take k values) is)
 
-  pub own_long : (read : Schema) → read ≡ schema → own ≡ take size words → size_of_line schema.embeds ≤ length words → size_of_line read.embeds ≤ length own
-  own_long read same cut long =
-      let taken : length own ≡ size = ap length cut ∙ length-take-le size words (omega (arith, is, long)) in
-      subst (λ (s : Schema). size_of_line s.embeds ≤ length own) (sym same) (omega (arith, taken, is))
+  pub good_read : (read : Schema) → read ≡ schema → own ≡ take width values → AreGoodValues schema (take (length schema.embeds) values) → AreGoodValues read own
+  good_read read same cut good = subst (λ (s : Schema). AreGoodValues s own) (sym same) (subst (AreGoodValues schema) (values_read cut) good)

@@ -1,6 +1,7 @@
--- What was built of numbers and packed values, said of the darts that these are.
-use Rattle.std.proofs.Common.{◌≡◌, ℕ, ◌+◌, ◌*◌, ◌≤◌, ℤ, List, length, Option, Some, None, refl, sym, ap, subst, ◌∙◌, arith}
+-- What was built of numbers and values, said of the darts that these are.
+use Rattle.std.proofs.Common.{◌≡◌, ℕ, ◌+◌, ◌*◌, ◌≤◌, List, length, Option, Some, None, refl, sym, ap, subst, ◌∙◌, arith}
 use Rattle.gm_model.specs.declared.schema.Schema.{Schema}
+use Rattle.gm_model.specs.declared.value.Value.{Value}
 use Rattle.gm_arena.specs.ArenaMap.{ArenaMap}
 use Rattle.gm_mapfile.specs.declared.fault.MapFault.TheVariants as faults
 use Rattle.gm_mapfile.specs.MapText.{Version, First, Second, DartRow, rows_of}
@@ -15,15 +16,15 @@ not_below : (version : Version) (n : ℕ) (darts : List DartRow) (d : ℕ) → A
 not_below First n darts d once least = absurd least
 not_below (Second next) n darts d once least = (once, least)
 
-module _ (start old : ArenaMap) (numbers : List ℕ) (words : List ℤ) where
+module _ (start old : ArenaMap) (numbers : List ℕ) (values : List Value) where
   abbrev darts : List DartRow
-  darts = darts_in start.schema numbers words
+  darts = darts_in start.schema numbers values
 
   rows_are : (s : Schema) → s ≡ start.schema → rows_in s.dim numbers ≡ rows_of darts
-  rows_are s same = ap (λ (t : Schema). rows_in t.dim numbers) same ∙ sym (rows_of_darts_in start.schema numbers words)
+  rows_are s same = ap (λ (t : Schema). rows_in t.dim numbers) same ∙ sym (rows_of_darts_in start.schema numbers values)
 
   many : (s : Schema) → s ≡ start.schema → length (rows_in s.dim numbers) ≡ length darts
-  many s same = ap (λ (t : Schema). length (rows_in t.dim numbers)) same ∙ sym (length_darts_in start.schema numbers words)
+  many s same = ap (λ (t : Schema). length (rows_in t.dim numbers)) same ∙ sym (length_darts_in start.schema numbers values)
 
   pub steps_added : (before after : ℕ) → after ≤ before + 2 * length (rows_in start.schema.dim numbers) → after ≤ before + (2 * start.schema.dim + 5) * length darts
   steps_added before after most = omega (arith, many start.schema refl, most)

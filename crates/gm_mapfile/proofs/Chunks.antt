@@ -1,24 +1,25 @@
--- The rows of numbers, line by line, and the darts of numbers and packed values.
-use Rattle.std.proofs.Common.{◌≡◌, ℕ, zero, suc, ◌+◌, ◌*◌, ◌/◌, ◌<◌, ◌≤◌, eqb, inl, inr, ℤ, List, [], ◌∷◌, ◌++◌, length, take, drop, get_or, All, refl, sym, ap, ap₂, subst, ◌∙◌, arith}
+-- The rows of numbers, line by line, and the darts of numbers and values.
+use Rattle.std.proofs.Common.{◌≡◌, ℕ, zero, suc, ◌+◌, ◌*◌, ◌/◌, ◌<◌, ◌≤◌, eqb, inl, inr, List, [], ◌∷◌, ◌++◌, length, map, take, drop, get_or, slice_get, Some, All, refl, sym, ap, ap₂, subst, ◌∙◌, arith}
 use Rattle.std.proofs.Math.Nat.{add-div_left, div-eq_of_lt, div-mul-le_self}
 use Rattle.std.proofs.Math.Seq.{take-append_seam, drop-append_seam}
 use Rattle.std.specs.List.{AllByRecursion}
 use Rattle.std.proofs.lemmas.Bool.{cases_Bool, eqb-true}
-use Rattle.std.proofs.lemmas.List.{length-map, length-append, length-drop, length-take-le, append_assoc, append-nil}
+use Rattle.std.proofs.lemmas.List.{length-map, length-append, length-drop, length-take-le, drop-drop, append_assoc, append-nil}
 use Rattle.std.proofs.lemmas.List.Elements.{All-drop, All-take}
+use Rattle.std.proofs.lemmas.Option.{slice_get-map}
+use Rattle.std.specs.Option.{option_map}
 use Rattle.gm_model.specs.declared.schema.Embed.{Embed}
 use Rattle.gm_model.specs.declared.schema.Schema.{Schema}
 use Rattle.gm_model.specs.declared.value.Value.{Value}
 use Rattle.gm_model.specs.GMap.{Row, IsLive}
-use Rattle.gm_arena.specs.Lawful.{AreGoodValues}
+use Rattle.gm_model.specs.Values.{kind_of}
 use Rattle.gm_mapfile.specs.MapFaults.{AreBelow}
 use Rattle.gm_mapfile.specs.MapText.{DartRow, bare, rows_of}
-use Rattle.gm_mapfile.specs.MapReading.{IsWhole}
-use Rattle.gm_mapfile.specs.Draft.{line_in, numbers_of, words_of_darts}
-use Rattle.gm_mapfile.specs.Packed.{packed, size_of_line, values_in}
+use Rattle.gm_mapfile.specs.MapReading.{AreOfKinds, IsWhole}
+use Rattle.gm_mapfile.specs.Draft.{line_in, numbers_of, values_of_darts}
+use Rattle.gm_mapfile.specs.Ordering.{counted_from}
 use Rattle.gm_mapfile.specs.Rows.{row_in, rows_from, rows_in, valued, darts_from, darts_in}
 use Rattle.gm_mapfile.proofs.Named.{live_among}
-use Rattle.gm_mapfile.proofs.Unpacked.{length_packed, values_back}
 
 -- each dart has so many neighbours
 abbrev pub AreLong : ℕ → List DartRow → Type 0
@@ -118,57 +119,103 @@ alphas_long n (name ∷ alphas) long = omega (arith, long)
 
 -- ---- darts with their values
 
-pub rows_of_valued : (embeds : List Embed) (rows : List Row) (words : List ℤ) → rows_of (darts_from embeds rows words) ≡ rows
-rows_of_valued embeds [] words = refl
-rows_of_valued embeds (row ∷ rows) words = ap (λ (others : List Row). row ∷ others) (rows_of_valued embeds rows (drop (size_of_line embeds) words))
+pub rows_of_valued : (width : ℕ) (rows : List Row) (values : List Value) → rows_of (darts_from width rows values) ≡ rows
+rows_of_valued width [] values = refl
+rows_of_valued width (row ∷ rows) values = ap (λ (others : List Row). row ∷ others) (rows_of_valued width rows (drop width values))
 
-pub rows_of_darts_in : (schema : Schema) (numbers : List ℕ) (words : List ℤ) → rows_of (darts_in schema numbers words) ≡ rows_in schema.dim numbers
-rows_of_darts_in schema numbers words = rows_of_valued schema.embeds (rows_in schema.dim numbers) words
+pub rows_of_darts_in : (schema : Schema) (numbers : List ℕ) (values : List Value) → rows_of (darts_in schema numbers values) ≡ rows_in schema.dim numbers
+rows_of_darts_in schema numbers values = rows_of_valued (length schema.embeds) (rows_in schema.dim numbers) values
 
-pub length_darts_in : (schema : Schema) (numbers : List ℕ) (words : List ℤ) → length (darts_in schema numbers words) ≡ length (rows_in schema.dim numbers)
-length_darts_in schema numbers words = sym (length-map (darts_in schema numbers words) bare) ∙ ap length (rows_of_darts_in schema numbers words)
-
--- the values of the first line
-abbrev pub first_values : Schema → List ℤ → List Value
-first_values schema words = values_in schema.embeds (take (size_of_line schema.embeds) words)
+pub length_darts_in : (schema : Schema) (numbers : List ℕ) (values : List Value) → length (darts_in schema numbers values) ≡ length (rows_in schema.dim numbers)
+length_darts_in schema numbers values = sym (length-map (darts_in schema numbers values) bare) ∙ ap length (rows_of_darts_in schema numbers values)
 
 -- one line and the darts of the rest
-pub darts_line : (schema : Schema) (all line rest : List ℕ) (words : List ℤ) → all ≡ line ++ rest → length line ≡ schema.dim + 2
-    → darts_in schema all words ≡ valued (row_in line) (first_values schema words) ∷ darts_in schema rest (drop (size_of_line schema.embeds) words)
-darts_line schema all line rest words split long = ap (λ rows. darts_from schema.embeds rows words) (ap (rows_in schema.dim) split ∙ rows_line schema.dim line rest long)
+pub darts_line : (schema : Schema) (all line rest : List ℕ) (values : List Value) → all ≡ line ++ rest → length line ≡ schema.dim + 2
+    → darts_in schema all values ≡ valued (row_in line) (take (length schema.embeds) values) ∷ darts_in schema rest (drop (length schema.embeds) values)
+darts_line schema all line rest values split long = ap (λ rows. darts_from (length schema.embeds) rows values) (ap (rows_in schema.dim) split ∙ rows_line schema.dim line rest long)
 
-pub darts_end : (schema : Schema) (rest : List ℕ) (words : List ℤ) → length rest < schema.dim + 2 → darts_in schema rest words ≡ []
-darts_end schema rest words short = ap (λ rows. darts_from schema.embeds rows words) (rows_end schema.dim rest short)
+pub darts_end : (schema : Schema) (rest : List ℕ) (values : List Value) → length rest < schema.dim + 2 → darts_in schema rest values ≡ []
+darts_end schema rest values short = ap (λ rows. darts_from (length schema.embeds) rows values) (rows_end schema.dim rest short)
+
+-- ---- the dart on each line
+
+pub length_counted : (start count : ℕ) → length (counted_from start count) ≡ count
+length_counted start zero = refl
+length_counted start (suc count) = ap suc (length_counted (suc start) count)
+
+counted_at : (start count k : ℕ) → k < count → slice_get (counted_from start count) k ≡ Some (start + k)
+counted_at start zero k within = absurd (omega (arith, within))
+counted_at start (suc count) zero within = ap Some (omega arith)
+counted_at start (suc count) (suc k) within = counted_at (suc start) count k (omega (arith, within)) ∙ ap Some (omega arith)
+
+behind : {A : Type 0} (width line : ℕ) (all : List A) → drop width (drop (line * width) all) ≡ drop (suc line * width) all
+behind width line all = drop-drop width (line * width) all ∙ ap (λ k. drop k all) (omega arith)
+
+-- the dart on the line behind so many
+abbrev pub dart_on : Schema → List ℕ → List Value → ℕ → DartRow
+dart_on schema numbers values line = valued (row_in (take (schema.dim + 2) (drop (line * (schema.dim + 2)) numbers))) (take (length schema.embeds) (drop (line * length schema.embeds) values))
+
+module _ (schema : Schema) (numbers : List ℕ) (values : List Value) where
+  abbrev size : ℕ
+  size = schema.dim + 2
+
+  abbrev width : ℕ
+  width = length schema.embeds
+
+  darts_counted : (start many : ℕ) → darts_from width (rows_from schema.dim many (drop (start * size) numbers)) (drop (start * width) values) ≡ map (dart_on schema numbers values) (counted_from start many)
+  darts_counted start zero = refl
+  darts_counted start (suc many) =
+      let rest = ap₂ (λ ns vs. darts_from width (rows_from schema.dim many ns) vs) (behind size start numbers) (behind width start values) in
+      ap (λ (darts : List DartRow). dart_on schema numbers values start ∷ darts) (rest ∙ darts_counted (suc start) many)
+
+  pub darts_all : darts_in schema numbers values ≡ map (dart_on schema numbers values) (counted_from 0 (length numbers / (schema.dim + 2)))
+  darts_all =
+      let first : 0 ≡ 0 * size = omega arith in
+      let own : 0 ≡ 0 * width = omega arith in
+      ap₂ (λ a b. darts_from width (rows_from schema.dim (length numbers / size) (drop a numbers)) (drop b values)) first own ∙ darts_counted 0 (length numbers / size)
+
+  pub many_darts : length (darts_in schema numbers values) ≡ length numbers / (schema.dim + 2)
+  many_darts = ap length darts_all ∙ (length-map (counted_from 0 (length numbers / size)) (dart_on schema numbers values) ∙ length_counted 0 (length numbers / size))
+
+  pub dart_at_line : (k : ℕ) → k < length numbers / (schema.dim + 2) → slice_get (darts_in schema numbers values) k ≡ Some (dart_on schema numbers values k)
+  dart_at_line k within =
+      ap (λ darts. slice_get darts k) darts_all
+      ∙ (slice_get-map (dart_on schema numbers values) (counted_from 0 (length numbers / size)) k
+      ∙ ap (option_map (dart_on schema numbers values)) (counted_at 0 (length numbers / size) k within ∙ ap Some (omega arith)))
+
+-- ---- the darts of a text
+
+-- so many values as there are kinds
+length_kinds : (embeds : List Embed) (values : List Value) → AreOfKinds embeds values → length values ≡ length embeds
+length_kinds embeds values kinds = sym (length-map values kind_of) ∙ (ap length kinds ∙ length-map embeds (λ (embed : Embed). embed.kind))
 
 module _ (schema : Schema) where
-  -- darts with good values are those of their rows and words
-  darts_of_words : (darts : List DartRow) → AllByRecursion (λ (dart : DartRow). AreGoodValues schema dart.values) darts → darts_from schema.embeds (rows_of darts) (words_of_darts darts) ≡ darts
-  darts_of_words [] good = refl
-  darts_of_words (dart ∷ darts) good =
-      let size = size_of_line schema.embeds in
-      let own = packed dart.values in
-      let more = words_of_darts darts in
-      let long : length own ≡ size = length_packed schema.embeds dart.values good.0.kinds in
-      let front : take size (own ++ more) ≡ own = ap (λ k. take k (own ++ more)) (sym long) ∙ take-append_seam own more in
-      let back : drop size (own ++ more) ≡ more = ap (λ k. drop k (own ++ more)) (sym long) ∙ drop-append_seam own more in
-      let values : values_in schema.embeds (take size (own ++ more)) ≡ dart.values = ap (values_in schema.embeds) front ∙ values_back schema.embeds dart.values good.0.kinds good.0.ranges in
-      ap₂ (λ v vs. valued (bare dart) v ∷ darts_from schema.embeds (rows_of darts) vs) values back ∙ ap (λ others. dart ∷ others) (darts_of_words darts good.1)
+  -- whole darts are those of their rows and values
+  darts_of_values : (darts : List DartRow) → AllByRecursion (IsWhole schema) darts → darts_from (length schema.embeds) (rows_of darts) (values_of_darts darts) ≡ darts
+  darts_of_values [] whole = refl
+  darts_of_values (dart ∷ darts) whole =
+      let own = dart.values in
+      let more = values_of_darts darts in
+      let long : length own ≡ length schema.embeds = length_kinds schema.embeds own whole.0.1 in
+      let front : take (length schema.embeds) (own ++ more) ≡ own = ap (λ k. take k (own ++ more)) (sym long) ∙ take-append_seam own more in
+      let back : drop (length schema.embeds) (own ++ more) ≡ more = ap (λ k. drop k (own ++ more)) (sym long) ∙ drop-append_seam own more in
+      ap₂ (λ v vs. valued (bare dart) v ∷ darts_from (length schema.embeds) (rows_of darts) vs) front back ∙ ap (λ others. dart ∷ others) (darts_of_values darts whole.1)
 
-  length_words_of : (darts : List DartRow) → AllByRecursion (IsWhole schema) darts → length (words_of_darts darts) ≡ length darts * size_of_line schema.embeds
-  length_words_of [] whole = omega arith
-  length_words_of (dart ∷ darts) whole = omega (arith, length-append (packed dart.values) (words_of_darts darts), length_packed schema.embeds dart.values whole.0.1, length_words_of darts whole.1)
+  length_values_of : (darts : List DartRow) → AllByRecursion (IsWhole schema) darts → length (values_of_darts darts) ≡ length darts * length schema.embeds
+  length_values_of [] whole = omega arith
+  length_values_of (dart ∷ darts) whole = omega (arith, length-append dart.values (values_of_darts darts), length_kinds schema.embeds dart.values whole.0.1, length_values_of darts whole.1)
 
   pub long_of_whole : (darts : List DartRow) → AllByRecursion (IsWhole schema) darts → AreLong schema.dim darts
   long_of_whole [] whole = tt
   long_of_whole (dart ∷ darts) whole = (whole.0.0, long_of_whole darts whole.1)
 
-  -- whole darts with good values are those of their numbers and words
-  pub darts_of_lines : (darts : List DartRow) → AllByRecursion (IsWhole schema) darts → AllByRecursion (λ (dart : DartRow). AreGoodValues schema dart.values) darts → darts_in schema (numbers_of darts) (words_of_darts darts) ≡ darts
-  darts_of_lines darts whole good =
-      ap (λ rows. darts_from schema.embeds rows (words_of_darts darts)) (rows_of_lines schema.dim darts (long_of_whole darts whole))
-      ∙ darts_of_words darts good
+  -- whole darts are those of their numbers and values
+  pub darts_of_lines : (darts : List DartRow) → AllByRecursion (IsWhole schema) darts → darts_in schema (numbers_of darts) (values_of_darts darts) ≡ darts
+  darts_of_lines darts whole =
+      ap (λ rows. darts_from (length schema.embeds) rows (values_of_darts darts)) (rows_of_lines schema.dim darts (long_of_whole darts whole))
+      ∙ darts_of_values darts whole
 
-  pub words_of_lines : (darts : List DartRow) → AllByRecursion (IsWhole schema) darts → length (words_of_darts darts) ≡ length (numbers_of darts) / (schema.dim + 2) * size_of_line schema.embeds
-  words_of_lines darts whole =
-      length_words_of darts whole
-      ∙ ap (λ k. k * size_of_line schema.embeds) (sym (lines_of_rows schema.dim darts (long_of_whole darts whole)))
+  pub values_of_lines : (darts : List DartRow) → AllByRecursion (IsWhole schema) darts → length (values_of_darts darts) ≡ length (numbers_of darts) / (schema.dim + 2) * length schema.embeds
+  values_of_lines darts whole =
+      length_values_of darts whole
+      ∙ ap (λ k. k * length schema.embeds) (sym (lines_of_rows schema.dim darts (long_of_whole darts whole)))

@@ -12,7 +12,6 @@ use Rattle.gm_model.specs.Values.{kind_of}
 use Rattle.gm_text.specs.Cursor.{Cursor}
 use Rattle.gm_text.specs.declared.schema_fault.SchemaFault.{SchemaFault}
 use Rattle.gm_mapfile.specs.Draft.{line_in}
-use Rattle.gm_mapfile.specs.Packed.{words_of, packed}
 use Rattle.gm_mapfile.specs.MapText.{DartRow, DartName}
 use Rattle.gm_mapfile.specs.MapReading.{Want, TheNumber, value_wants, values_wants, dart_wants, darts_wants, Takes, Misses, numbers_in, all_numbers, AreOfKinds, IsWhole, ReadsNames, ReadsValues, ReadsDarts}
 use Rattle.gm_mapfile.proofs.Joined.{takes_nothing, takes_then, misses_first, misses_then}
@@ -55,17 +54,14 @@ names_stop count k old between before names fault lt (more, is, long, takes) mis
 abbrev wants_of : Embed → List Want
 wants_of embed = value_wants embed.kind
 
-pub values_none : (old : Cursor) (before : List ℤ) → ReadsValues [] old old before before
+pub values_none : (old : Cursor) (before : List Value) → ReadsValues [] old old before before
 values_none old before = ([], sym (append-nil before), refl, takes_nothing old)
 
-packed_push : (vs : List Value) (value : Value) → packed vs ++ words_of value ≡ packed (vs ++ value ∷ [])
-packed_push vs value = ap (λ (ws : List ℤ). packed vs ++ ws) (sym (append-nil (words_of value))) ∙ sym (flat_map-append words_of vs (value ∷ []))
-
-pub values_more : (embeds : List Embed) (embed : Embed) (old between new : Cursor) (before words : List ℤ) (value : Value) → ReadsValues embeds old between before words
-    → Takes (value_wants embed.kind) (components value) between new → kind_of value ≡ embed.kind → ReadsValues (embeds ++ embed ∷ []) old new before (words ++ words_of value)
-values_more embeds embed old between new before words value (more, is, kinds, takes) one kind = (
+pub values_more : (embeds : List Embed) (embed : Embed) (old between new : Cursor) (before values : List Value) (value : Value) → ReadsValues embeds old between before values
+    → Takes (value_wants embed.kind) (components value) between new → kind_of value ≡ embed.kind → ReadsValues (embeds ++ embed ∷ []) old new before (values ++ value ∷ [])
+values_more embeds embed old between new before values value (more, is, kinds, takes) one kind = (
   more ++ value ∷ [],
-  ap (λ (ws : List ℤ). ws ++ words_of value) is ∙ append_assoc before (packed more) (words_of value) ∙ ap (λ (ws : List ℤ). before ++ ws) (packed_push more value),
+  ap (λ (vs : List Value). vs ++ value ∷ []) is ∙ append_assoc before more (value ∷ []),
   map-append kind_of more (value ∷ []) ∙ ap₂ (λ (ks : List Kind) (k : Kind). ks ++ k ∷ []) kinds kind ∙ sym (map-append (λ (e : Embed). e.kind) embeds (embed ∷ [])),
   takes_as (values_wants embeds ++ value_wants embed.kind) (values_wants (embeds ++ embed ∷ [])) (flat_map components more ++ components value) (flat_map components (more ++ value ∷ [])) old new
       (ap (λ (ws : List Want). values_wants embeds ++ ws) (sym (append-nil (value_wants embed.kind))) ∙ sym (flat_map-append wants_of embeds (embed ∷ [])))
@@ -73,8 +69,8 @@ values_more embeds embed old between new before words value (more, is, kinds, ta
       (takes_then (values_wants embeds) (value_wants embed.kind) (flat_map components more) (components value) old between new takes one),
 )
 
-pub values_stop : (embeds rest : List Embed) (embed : Embed) (old between : Cursor) (before words : List ℤ) (fault : SchemaFault) → ReadsValues embeds old between before words → Misses (value_wants embed.kind) between fault → Misses (values_wants (embeds ++ embed ∷ rest)) old fault
-values_stop embeds rest embed old between before words fault (more, is, kinds, takes) misses =
+pub values_stop : (embeds rest : List Embed) (embed : Embed) (old between : Cursor) (before values : List Value) (fault : SchemaFault) → ReadsValues embeds old between before values → Misses (value_wants embed.kind) between fault → Misses (values_wants (embeds ++ embed ∷ rest)) old fault
+values_stop embeds rest embed old between before values fault (more, is, kinds, takes) misses =
     misses_as (values_wants embeds ++ (value_wants embed.kind ++ values_wants rest)) (values_wants (embeds ++ embed ∷ rest)) old fault (sym (flat_map-append wants_of embeds (embed ∷ rest)))
     (misses_then (values_wants embeds) (value_wants embed.kind ++ values_wants rest) (flat_map components more) old between fault takes (misses_first (value_wants embed.kind) (values_wants rest) between fault misses))
 
@@ -97,35 +93,35 @@ wants_add schema (suc j) k =
 
 module _ (schema : Schema) where
   pub lines_none : (old : Cursor) → ReadsDarts schema 0 old old [] []
-  lines_none old = record { darts = []; whole = tt; counted = refl; numbers_are = refl; words_are = refl; takes = takes_nothing old }
+  lines_none old = record { darts = []; whole = tt; counted = refl; numbers_are = refl; values_are = refl; takes = takes_nothing old }
 
   whole_more : (darts : List DartRow) (dart : DartRow) → AllByRecursion (IsWhole schema) darts → IsWhole schema dart → AllByRecursion (IsWhole schema) (darts ++ dart ∷ [])
   whole_more [] dart all one = (one, tt)
   whole_more (first ∷ darts) dart all one = (all.0, whole_more darts dart all.1 one)
 
-  module _ (k : ℕ) (old between : Cursor) (numbers : List ℕ) (words : List ℤ) (reads : ReadsDarts schema k old between numbers words) where
-    line_more : (name : ℕ) (alphas numbers' : List ℕ) (words' : List ℤ) (more : List Value) (new : Cursor) → numbers' ≡ numbers ++ name ∷ alphas → length alphas ≡ schema.dim + 1 → words' ≡ words ++ packed more → AreOfKinds schema.embeds more
-        → Takes (dart_wants schema) (map pos (name ∷ alphas) ++ flat_map components more) between new → ReadsDarts schema (k + 1) old new numbers' words'
-    line_more name alphas numbers' words' more new numbers_are long words_are kinds takes =
+  module _ (k : ℕ) (old between : Cursor) (numbers : List ℕ) (values : List Value) (reads : ReadsDarts schema k old between numbers values) where
+    line_more : (name : ℕ) (alphas numbers' : List ℕ) (values' : List Value) (more : List Value) (new : Cursor) → numbers' ≡ numbers ++ name ∷ alphas → length alphas ≡ schema.dim + 1 → values' ≡ values ++ more → AreOfKinds schema.embeds more
+        → Takes (dart_wants schema) (map pos (name ∷ alphas) ++ flat_map components more) between new → ReadsDarts schema (k + 1) old new numbers' values'
+    line_more name alphas numbers' values' more new numbers_are long values_are kinds takes =
         let dart : DartRow = record { name = name; alphas = alphas; values = more } in
         record {
           darts = reads.darts ++ dart ∷ [];
           whole = whole_more reads.darts dart reads.whole (long, kinds);
           counted = length-append reads.darts (dart ∷ []) ∙ ap (λ (n : ℕ). n + 1) reads.counted;
           numbers_are = numbers_are ∙ ap₂ (λ (ns ms : List ℕ). ns ++ ms) reads.numbers_are (sym (append-nil (name ∷ alphas))) ∙ sym (flat_map-append line_in reads.darts (dart ∷ []));
-          words_are = words_are ∙ ap₂ (λ (vs ws : List ℤ). vs ++ ws) reads.words_are (sym (append-nil (packed more))) ∙ sym (flat_map-append (λ (d : DartRow). packed d.values) reads.darts (dart ∷ []));
+          values_are = values_are ∙ ap₂ (λ (vs ws : List Value). vs ++ ws) reads.values_are (sym (append-nil more)) ∙ sym (flat_map-append (λ (d : DartRow). d.values) reads.darts (dart ∷ []));
           takes = takes_as (darts_wants schema k ++ dart_wants schema) (darts_wants schema (k + 1)) (all_numbers reads.darts ++ numbers_in dart) (all_numbers (reads.darts ++ dart ∷ [])) old new
               (ap (λ (ws : List Want). darts_wants schema k ++ ws) (sym (append-nil (dart_wants schema))) ∙ sym (wants_add schema k 1))
               (ap (λ (xs : List ℤ). all_numbers reads.darts ++ xs) (sym (append-nil (numbers_in dart))) ∙ sym (flat_map-append numbers_in reads.darts (dart ∷ [])))
               (takes_then (darts_wants schema k) (dart_wants schema) (all_numbers reads.darts) (numbers_in dart) old between new reads.takes takes);
         }
 
-    pub lines_more : (numbers' : List ℕ) (words' : List ℤ) (behind new : Cursor) → ReadsNames (schema.dim + 2) between behind numbers numbers' → ReadsValues schema.embeds behind new words words' → ReadsDarts schema (k + 1) old new numbers' words'
-    lines_more numbers' words' behind new (names, numbers_are, long, names_take) (more, words_are, kinds, values_take) = go names numbers_are long (takes_then (replicate (schema.dim + 2) (TheNumber DartName)) (values_wants schema.embeds) (map pos names) (flat_map components more) between behind new names_take values_take)
+    pub lines_more : (numbers' : List ℕ) (values' : List Value) (behind new : Cursor) → ReadsNames (schema.dim + 2) between behind numbers numbers' → ReadsValues schema.embeds behind new values values' → ReadsDarts schema (k + 1) old new numbers' values'
+    lines_more numbers' values' behind new (names, numbers_are, long, names_take) (more, values_are, kinds, values_take) = go names numbers_are long (takes_then (replicate (schema.dim + 2) (TheNumber DartName)) (values_wants schema.embeds) (map pos names) (flat_map components more) between behind new names_take values_take)
       where
-        go : (ns : List ℕ) → numbers' ≡ numbers ++ ns → length ns ≡ schema.dim + 2 → Takes (dart_wants schema) (map pos ns ++ flat_map components more) between new → ReadsDarts schema (k + 1) old new numbers' words'
+        go : (ns : List ℕ) → numbers' ≡ numbers ++ ns → length ns ≡ schema.dim + 2 → Takes (dart_wants schema) (map pos ns ++ flat_map components more) between new → ReadsDarts schema (k + 1) old new numbers' values'
         go [] is none takes = absurd (omega (arith, none))
-        go (name ∷ alphas) is all takes = line_more name alphas numbers' words' more new is (omega (arith, all)) words_are kinds takes
+        go (name ∷ alphas) is all takes = line_more name alphas numbers' values' more new is (omega (arith, all)) values_are kinds takes
 
     line_stop : (count : ℕ) (fault : SchemaFault) → k < count → Misses (dart_wants schema) between fault → Misses (darts_wants schema count) old fault
     line_stop count fault lt misses =

@@ -1,4 +1,3 @@
-pub mod Unpacked
 pub mod GoodListing
 pub mod MapMoves
 pub mod MapLed
@@ -43,9 +42,10 @@ pub mod AddedDarts
 pub mod NextName
 pub mod Linking
 pub mod LinkedLine
-pub mod LinkedLines
 pub mod HeldRows
 pub mod NamesOf
+pub mod HeldInOrder
+pub mod OwnLines
 pub mod Whole
 pub mod Built
 pub mod Reordered

@@ -3,6 +3,7 @@ use Rattle.std.proofs.Common.{◌≡◌, ℕ, ℤ, List, [], ◌∷◌, ◌++◌
 use Rattle.std.proofs.lemmas.List.{map-append}
 use Rattle.std.specs.List.{AllByRecursion}
 use Rattle.gm_model.specs.declared.schema.Schema.{Schema}
+use Rattle.gm_model.specs.declared.value.Value.{Value}
 use Rattle.gm_model.specs.Maps.{IsSchema}
 use Rattle.gm_model.specs.Symbols.{Symbol, Mark, symbols, marks_of}
 use Rattle.gm_model.specs.Reading.{Part, TextEndsAt, LimitStandsAt, symbols_in, the_end}
@@ -34,8 +35,8 @@ within_end : (parts : List (Part Role)) → AreWithin parts → AreWithin (parts
 within_end [] within = (refl, tt)
 within_end (part ∷ parts) within = (within.0, within_end parts within.1)
 
-pub draft_listed : (text : List ℕ) (stated : Option ℕ) (schema : Schema) (numbers : List ℕ) (words : List ℤ) → IsSchema schema → ReadsMap (record { text = text; place = 0 }) stated schema numbers words → IsDraft text (version_in stated) schema numbers words
-draft_listed text stated schema numbers words good reads =
+pub draft_listed : (text : List ℕ) (stated : Option ℕ) (schema : Schema) (numbers : List ℕ) (values : List Value) → IsSchema schema → ReadsMap (record { text = text; place = 0 }) stated schema numbers values → IsDraft text (version_in stated) schema numbers values
+draft_listed text stated schema numbers values good reads =
     let head : Head = record { version = version_in stated; schema = schema } in
     let last = among head (all_numbers reads.darts) [] in
     let read = run_reads passed_of never (nested.role_at nesting) (nested.move nesting) start last 0 reads.before reads.runs in
@@ -58,7 +59,7 @@ draft_listed text stated schema numbers words good reads =
       schema_is = schema_is;
       rows = subst (λ (s : Schema). AreRows s.embeds form.darts reads.darts) (sym schema_is) rows;
     } in
-    (reads.darts, listed, reads.numbers_are, reads.words_are)
+    (reads.darts, listed, reads.numbers_are, reads.values_are)
 
 -- ---- its first fault
 

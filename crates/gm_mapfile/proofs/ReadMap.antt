@@ -1,11 +1,12 @@
 -- What was read and built, said of the text.
-use Rattle.std.proofs.Common.{◌≡◌, ℕ, ◌+◌, ◌*◌, ◌/◌, ◌<◌, ◌≤◌, ℤ, List, [], ◌∷◌, ◌++◌, length, slice_get, All, Option, Some, None, is_some, option_map, refl, sym, ap, ap₂, subst, ◌∙◌, arith}
+use Rattle.std.proofs.Common.{◌≡◌, ℕ, ◌+◌, ◌*◌, ◌/◌, ◌<◌, ◌≤◌, List, [], ◌∷◌, ◌++◌, length, slice_get, All, Option, Some, None, is_some, option_map, refl, sym, ap, ap₂, subst, ◌∙◌, arith}
 use Rattle.std.specs.List.{AllByRecursion}
 use Rattle.std.proofs.lemmas.Nat.{mul-le}
 use Rattle.std.proofs.lemmas.List.Elements.{All-from_recursion}
 use Rattle.std.proofs.lemmas.List.Sorted.{length_permutation}
 use Rattle.gm_model.specs.declared.schema.Embed.{Embed}
 use Rattle.gm_model.specs.declared.schema.Schema.{Schema}
+use Rattle.gm_model.specs.declared.value.Value.{Value}
 use Rattle.gm_model.specs.Breaches.{IsFirstOneWay, IsFirstCrossing, IsFirstUnshared}
 use Rattle.gm_model.specs.GMap.{row_of}
 use Rattle.gm_model.specs.Limits.{most_names}
@@ -27,11 +28,10 @@ use Rattle.gm_mapfile.specs.MapText.{Version, First, Second, DartRow, ListedMap,
 use Rattle.gm_mapfile.specs.MapFaults as first
 use Rattle.gm_mapfile.specs.Answered.{map_fault_of_text, map_fault_of_laws, name_told}
 use Rattle.gm_mapfile.specs.Draft.{numbers_of, IsDraft, IsFaultIn}
-use Rattle.gm_mapfile.specs.Packed.{size_of_line}
 use Rattle.gm_mapfile.specs.Rows.{darts_in, darts_of, listed_of}
 use Rattle.gm_mapfile.specs.Faults.{IsFaultOf, IsNamedBreachOf, IsNamedFaultOf, IsNameFault}
 use Rattle.gm_mapfile.specs.Building.{AreInRoom, IsHeld}
-use Rattle.gm_mapfile.proofs.Chunks.{AreLong, long_of_whole, lines_of_rows, darts_of_lines, words_of_lines}
+use Rattle.gm_mapfile.proofs.Chunks.{AreLong, long_of_whole, lines_of_rows, darts_of_lines, values_of_lines}
 use Rattle.gm_mapfile.proofs.GoodListing.{IsSmall, IsGoodListing}
 use Rattle.gm_mapfile.proofs.HeldRows.{held_ascending, held_found, held_permuted, live_each, alpha_each, of_rows, map_of_listed}
 use Rattle.gm_mapfile.proofs.Listed.{listed_good}
@@ -73,12 +73,12 @@ small_numbers (dart ∷ darts) small = (small.0.0, all_both (λ x. x < most_name
 both_within : (square size before middle after : ℕ) → middle ≤ before + 12 * square * size → after ≤ middle + 20 * square * size → after ≤ before + 32 * square * size
 both_within square size before middle after one other = omega (arith, one, other)
 
-module _ (text : List ℕ) (version : Version) (schema : Schema) (numbers : List ℕ) (words : List ℤ) (draft : IsDraft text version schema numbers words) where
+module _ (text : List ℕ) (version : Version) (schema : Schema) (numbers : List ℕ) (values : List Value) (draft : IsDraft text version schema numbers values) where
   abbrev darts : List DartRow
   darts = draft.0
 
   abbrev cut : List DartRow
-  cut = darts_in schema numbers words
+  cut = darts_in schema numbers values
 
   good : IsGoodListing version schema darts
   good = listed_good text version schema darts draft.1
@@ -87,7 +87,7 @@ module _ (text : List ℕ) (version : Version) (schema : Schema) (numbers : List
   long = long_of_whole schema darts good.whole
 
   darts_are : cut ≡ darts
-  darts_are = ap₂ (darts_in schema) draft.2 draft.3 ∙ darts_of_lines schema darts good.whole good.values
+  darts_are = ap₂ (darts_in schema) draft.2 draft.3 ∙ darts_of_lines schema darts good.whole
 
   listed : IsListed text version schema cut
   listed = subst (IsListed text version schema) (sym darts_are) draft.1
@@ -95,11 +95,11 @@ module _ (text : List ℕ) (version : Version) (schema : Schema) (numbers : List
   lines_are : length numbers / (schema.dim + 2) ≡ length darts
   lines_are = ap (λ xs. length xs / (schema.dim + 2)) draft.2 ∙ lines_of_rows schema.dim darts long
 
-  pub in_room : AreInRoom schema numbers words
+  pub in_room : AreInRoom schema numbers values
   in_room = record {
     few = omega (arith, lines_are, good.few);
     small = subst (All (λ x. x < most_names)) (sym draft.2) (All-from_recursion (λ x. x < most_names) (numbers_of darts) (small_numbers darts good.small));
-    long = ap length draft.3 ∙ (words_of_lines schema darts good.whole ∙ ap (λ xs. length xs / (schema.dim + 2) * size_of_line schema.embeds) (sym draft.2));
+    long = ap length draft.3 ∙ (values_of_lines schema darts good.whole ∙ ap (λ xs. length xs / (schema.dim + 2) * length schema.embeds) (sym draft.2));
     good = subst (AllByRecursion _) (sym darts_are) good.values;
   }
 

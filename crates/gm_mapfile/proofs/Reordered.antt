@@ -1,16 +1,17 @@
 -- A draft whose lines are taken in another order lists the same darts in another order, and an arena of the one is an arena of the other.
-use Rattle.std.proofs.Common.{◌≡◌, ℕ, zero, suc, ◌+◌, ◌-◌, ◌*◌, ◌/◌, ◌<◌, ◌≤◌, ℤ, List, [], ◌∷◌, ◌++◌, length, map, take, drop, slice_index_or, is_some, All, refl, sym, ap, ap₂, subst, ◌∙◌, arith}
+use Rattle.std.proofs.Common.{◌≡◌, ℕ, zero, suc, ◌+◌, ◌-◌, ◌*◌, ◌/◌, ◌<◌, ◌≤◌, List, [], ◌∷◌, ◌++◌, length, map, take, drop, slice_index_or, is_some, All, sym, ap, ap₂, subst, ◌∙◌, arith}
 use Rattle.std.specs.Prelude.{IsPermutation}
 use Rattle.std.specs.Option.{option_map, option_map_or}
 use Rattle.std.proofs.Math.Nat.{div-mul-le_self, mul-div_left}
 use Rattle.std.proofs.Math.Seq.{take-append_seam, drop-append_seam}
 use Rattle.std.specs.List.{AllByRecursion}
 use Rattle.std.proofs.lemmas.Nat.{mul-le}
-use Rattle.std.proofs.lemmas.List.{drop-drop, length-drop, length-take-le, length-append}
+use Rattle.std.proofs.lemmas.List.{length-drop, length-take-le, length-append}
 use Rattle.std.proofs.lemmas.List.Elements.{All-take, All-drop, All-append, All-from_recursion}
 use Rattle.std.proofs.lemmas.List.Sorted.{IsPermutation-map, length_permutation, sum_by-IsPermutation}
 use Rattle.gm_model.specs.Breaches.{IsFirstWithoutTarget}
 use Rattle.gm_model.specs.declared.schema.Schema.{Schema}
+use Rattle.gm_model.specs.declared.value.Value.{Value}
 use Rattle.gm_model.specs.GMap.{Row, IsLive, alpha, row_of}
 use Rattle.gm_model.specs.Limits.{most_names}
 use Rattle.gm_arena.specs.ArenaMap.{ArenaMap}
@@ -20,13 +21,12 @@ use Rattle.gm_mapfile.specs.Faults.{IsNameFault}
 use Rattle.gm_mapfile.specs.MapFaults.{rows_named, AreNamedOnce, IsLeastTwice, IsLeastNotBelow, AreBelowStated}
 use Rattle.gm_mapfile.specs.MapText.{Version, First, Second, DartRow, bare, rows_of, dart_of}
 use Rattle.gm_mapfile.specs.Ordering.{counted_from, on_line, on_lines}
-use Rattle.gm_mapfile.specs.Packed.{size_of_line, values_in}
-use Rattle.gm_mapfile.specs.Rows.{row_in, rows_from, rows_in, valued, darts_from, darts_in}
+use Rattle.gm_mapfile.specs.Rows.{row_in, rows_in, valued, darts_from, darts_in}
 use Rattle.gm_mapfile.specs.declared.fault.MapFault.{MapFault}
 use Rattle.gm_mapfile.specs.declared.ordering.Line.{Line}
 use Rattle.gm_mapfile.specs.declared.fault.MapFault.TheVariants as faults
 use Rattle.gm_mapfile.proofs.Again.{moved}
-use Rattle.gm_mapfile.proofs.Chunks.{rows_line, rows_end}
+use Rattle.gm_mapfile.proofs.Chunks.{rows_line, rows_end, length_counted, dart_on, darts_all}
 use Rattle.gm_mapfile.proofs.Darts.{live_dart, row_of_dart}
 use Rattle.gm_mapfile.proofs.Moved.{distinct_moved, same_moved, of_look_ups}
 use Rattle.gm_mapfile.proofs.Named.{one_if}
@@ -39,10 +39,6 @@ counted_push start zero = ap (λ x. x ∷ []) (omega arith)
 counted_push start (suc count) =
     let e : suc count + 1 ≡ suc (count + 1) = omega arith in
     rw e (ap (λ xs. start ∷ xs) (counted_push (suc start) count ∙ ap (λ x. counted_from (suc start) count ++ x ∷ []) (omega arith)))
-
-pub length_counted : (start count : ℕ) → length (counted_from start count) ≡ count
-length_counted start zero = refl
-length_counted start (suc count) = ap suc (length_counted (suc start) count)
 
 counted_below : (start count bound : ℕ) → start + count ≤ bound → AllByRecursion (λ x. x < bound) (counted_from start count)
 counted_below start zero bound within = tt
@@ -101,48 +97,27 @@ within_of all lines seen width wide same as_wide within =
 
 -- ---- the darts of lines
 
-module _ (schema : Schema) (numbers : List ℕ) (words : List ℤ) where
-  abbrev size : ℕ
-  size = size_of_line schema.embeds
+module _ (schema : Schema) (numbers : List ℕ) (values : List Value) where
+  abbrev width : ℕ
+  width = length schema.embeds
 
-  abbrev dart_on : ℕ → DartRow
-  dart_on line = valued (row_in (on_line (schema.dim + 2) numbers line)) (values_in schema.embeds (on_line size words line))
-
-  behind : {A : Type 0} (width line : ℕ) (all : List A) → drop width (drop (line * width) all) ≡ drop (suc line * width) all
-  behind width line all = drop-drop width (line * width) all ∙ ap (λ k. drop k all) (omega arith)
-
-  darts_counted : (start many : ℕ) → darts_from schema.embeds (rows_from schema.dim many (drop (start * (schema.dim + 2)) numbers)) (drop (start * size) words) ≡ map dart_on (counted_from start many)
-  darts_counted start zero = refl
-  darts_counted start (suc many) =
-      let first : valued (row_in (take (schema.dim + 2) (drop (start * (schema.dim + 2)) numbers))) (values_in schema.embeds (take size (drop (start * size) words))) ≡ dart_on start =
-      ap₂ (λ l ws. valued (row_in l) (values_in schema.embeds ws)) (sym (is_taken (schema.dim + 2) numbers start)) (sym (is_taken size words start)) in
-      let rest = ap₂ (λ ns ws. darts_from schema.embeds (rows_from schema.dim many ns) ws) (behind (schema.dim + 2) start numbers) (behind size start words) in
-      ap₂ (λ (dart : DartRow) (darts : List DartRow). dart ∷ darts) first (rest ∙ darts_counted (suc start) many)
-
-  darts_all : darts_in schema numbers words ≡ map dart_on (counted_from 0 (length numbers / (schema.dim + 2)))
-  darts_all =
-      let many = length numbers / (schema.dim + 2) in
-      let first : 0 ≡ 0 * (schema.dim + 2) = omega arith in
-      let own : 0 ≡ 0 * size = omega arith in
-      ap₂ (λ a b. darts_from schema.embeds (rows_from schema.dim many (drop a numbers)) (drop b words)) first own ∙ darts_counted 0 many
-
-  pub darts_on_lines : (lines : List ℕ) → AreWithin (schema.dim + 2) numbers lines → AreWithin (size_of_line schema.embeds) words lines
-      → darts_in schema (on_lines (schema.dim + 2) numbers lines) (on_lines (size_of_line schema.embeds) words lines) ≡ map dart_on lines
-  darts_on_lines [] within within' = ap (λ rows. darts_from schema.embeds rows []) (rows_end schema.dim [] (omega arith))
+  pub darts_on_lines : (lines : List ℕ) → AreWithin (schema.dim + 2) numbers lines → AreWithin (length schema.embeds) values lines
+      → darts_in schema (on_lines (schema.dim + 2) numbers lines) (on_lines (length schema.embeds) values lines) ≡ map (dart_on schema numbers values) lines
+  darts_on_lines [] within within' = ap (λ rows. darts_from width rows []) (rows_end schema.dim [] (omega arith))
   darts_on_lines (line ∷ lines) within within' =
       let own = on_line (schema.dim + 2) numbers line in
-      let ws = on_line size words line in
+      let vs = on_line width values line in
       let others = on_lines (schema.dim + 2) numbers lines in
-      let more = on_lines size words lines in
+      let more = on_lines width values lines in
       let long : length own ≡ schema.dim + 2 = length_on_line (schema.dim + 2) numbers line within.0 in
-      let long' : length ws ≡ size = length_on_line size words line within'.0 in
-      let front : take size (ws ++ more) ≡ ws = ap (λ k. take k (ws ++ more)) (sym long') ∙ take-append_seam ws more in
-      let back : drop size (ws ++ more) ≡ more = ap (λ k. drop k (ws ++ more)) (sym long') ∙ drop-append_seam ws more in
-      ap (λ rows. darts_from schema.embeds rows (ws ++ more)) (rows_line schema.dim own others long)
-      ∙ (ap₂ (λ v rest. valued (row_in own) (values_in schema.embeds v) ∷ darts_from schema.embeds (rows_in schema.dim others) rest) front back
-      ∙ ap (λ darts. dart_on line ∷ darts) (darts_on_lines lines within.1 within'.1))
+      let long' : length vs ≡ width = length_on_line width values line within'.0 in
+      let front : take width (vs ++ more) ≡ vs = ap (λ k. take k (vs ++ more)) (sym long') ∙ take-append_seam vs more in
+      let back : drop width (vs ++ more) ≡ more = ap (λ k. drop k (vs ++ more)) (sym long') ∙ drop-append_seam vs more in
+      ap (λ rows. darts_from width rows (vs ++ more)) (rows_line schema.dim own others long)
+      ∙ (ap₂ (λ v rest. valued (row_in own) v ∷ darts_from width (rows_in schema.dim others) rest) front back
+      ∙ ap₂ (λ (dart : DartRow) darts. dart ∷ darts) (ap₂ (λ l v. valued (row_in l) v) (is_taken (schema.dim + 2) numbers line) (is_taken width values line)) (darts_on_lines lines within.1 within'.1))
 
-  module _ (room : AreInRoom schema numbers words) (lines : List ℕ) (same : IsPermutation (counted_from 0 (length numbers / (schema.dim + 2))) lines) where
+  module _ (room : AreInRoom schema numbers values) (lines : List ℕ) (same : IsPermutation (counted_from 0 (length numbers / (schema.dim + 2))) lines) where
     each_below : AllByRecursion (λ line. line < length numbers / (schema.dim + 2)) lines
     each_below = moved (λ line. line < length numbers / (schema.dim + 2)) (counted_from 0 (length numbers / (schema.dim + 2))) lines same (counted_below 0 (length numbers / (schema.dim + 2)) (length numbers / (schema.dim + 2)) (omega arith))
 
@@ -155,19 +130,19 @@ module _ (schema : Schema) (numbers : List ℕ) (words : List ℤ) where
     pub numbers_within : AreWithin (schema.dim + 2) numbers lines
     numbers_within = within_all (schema.dim + 2) numbers (div-mul-le_self (length numbers) (schema.dim + 2)) lines each_below
 
-    pub words_within : AreWithin (size_of_line schema.embeds) words lines
-    words_within = within_all size words (omega (arith, room.long)) lines each_below
+    pub values_within : AreWithin (length schema.embeds) values lines
+    values_within = within_all width values (omega (arith, room.long)) lines each_below
 
     abbrev new_numbers : List ℕ
     new_numbers = on_lines (schema.dim + 2) numbers lines
 
-    abbrev new_words : List ℤ
-    new_words = on_lines size words lines
+    abbrev new_values : List Value
+    new_values = on_lines width values lines
 
-    pub darts_moved : IsPermutation (darts_in schema numbers words) (darts_in schema (on_lines (schema.dim + 2) numbers lines) (on_lines (size_of_line schema.embeds) words lines))
+    pub darts_moved : IsPermutation (darts_in schema numbers values) (darts_in schema (on_lines (schema.dim + 2) numbers lines) (on_lines (length schema.embeds) values lines))
     darts_moved =
-        subst (λ darts. IsPermutation darts (darts_in schema new_numbers new_words)) (sym darts_all)
-        (subst (IsPermutation (map dart_on (counted_from 0 (length numbers / (schema.dim + 2))))) (sym (darts_on_lines lines numbers_within words_within)) (IsPermutation-map dart_on (counted_from 0 (length numbers / (schema.dim + 2))) lines same))
+        subst (λ darts. IsPermutation darts (darts_in schema new_numbers new_values)) (sym (darts_all schema numbers values))
+        (subst (IsPermutation (map (dart_on schema numbers values) (counted_from 0 (length numbers / (schema.dim + 2))))) (sym (darts_on_lines lines numbers_within values_within)) (IsPermutation-map (dart_on schema numbers values) (counted_from 0 (length numbers / (schema.dim + 2))) lines same))
 
     lines_are : length new_numbers / (schema.dim + 2) ≡ length lines
     lines_are = ap (λ k. k / (schema.dim + 2)) (length_on_lines (schema.dim + 2) numbers lines numbers_within) ∙ mul-div_left (length lines) (omega arith)
@@ -175,29 +150,29 @@ module _ (schema : Schema) (numbers : List ℕ) (words : List ℤ) where
     as_many : length lines ≡ length numbers / (schema.dim + 2)
     as_many = length_permutation (counted_from 0 (length numbers / (schema.dim + 2))) lines same ∙ length_counted 0 (length numbers / (schema.dim + 2))
 
-    pub room_moved : AreInRoom schema (on_lines (schema.dim + 2) numbers lines) (on_lines (size_of_line schema.embeds) words lines)
+    pub room_moved : AreInRoom schema (on_lines (schema.dim + 2) numbers lines) (on_lines (length schema.embeds) values lines)
     room_moved = record {
       few = omega (arith, lines_are, as_many, room.few);
       small = all_on_lines (schema.dim + 2) numbers (λ x. x < most_names) room.small lines;
-      long = length_on_lines size words lines words_within ∙ ap (λ k. k * size) (sym lines_are);
-      good = moved (λ (dart : DartRow). AreGoodValues schema dart.values) (darts_in schema numbers words) (darts_in schema new_numbers new_words) darts_moved room.good;
+      long = length_on_lines width values lines values_within ∙ ap (λ k. k * width) (sym lines_are);
+      good = moved (λ (dart : DartRow). AreGoodValues schema dart.values) (darts_in schema numbers values) (darts_in schema new_numbers new_values) darts_moved room.good;
     }
 
--- the same of what was taken of the numbers and of the words
-module _ (schema : Schema) (numbers : List ℕ) (words : List ℤ) (room : AreInRoom schema numbers words) (lines : List Line) (order : IsPermutation (counted_from 0 (length numbers / (schema.dim + 2))) (map (λ (line : Line). line.at) lines))
-    (new_numbers : List ℕ) (new_words : List ℤ) (numbers_are : on_lines (schema.dim + 2) numbers (map (λ (line : Line). line.at) lines) ≡ new_numbers) (words_are : on_lines (size_of_line schema.embeds) words (map (λ (line : Line). line.at) lines) ≡ new_words) where
+-- the same of what was taken of the numbers and of the values
+module _ (schema : Schema) (numbers : List ℕ) (values : List Value) (room : AreInRoom schema numbers values) (lines : List Line) (order : IsPermutation (counted_from 0 (length numbers / (schema.dim + 2))) (map (λ (line : Line). line.at) lines))
+    (new_numbers : List ℕ) (new_values : List Value) (numbers_are : on_lines (schema.dim + 2) numbers (map (λ (line : Line). line.at) lines) ≡ new_numbers) (values_are : on_lines (length schema.embeds) values (map (λ (line : Line). line.at) lines) ≡ new_values) where
   abbrev places : List ℕ
   places = map (λ (line : Line). line.at) lines
 
-  pub room_in : AreInRoom schema new_numbers new_words
+  pub room_in : AreInRoom schema new_numbers new_values
   room_in =
-      subst (AreInRoom schema new_numbers) words_are
-      (subst (λ ns. AreInRoom schema ns (on_lines (size_of_line schema.embeds) words places)) numbers_are (room_moved schema numbers words room places order))
+      subst (AreInRoom schema new_numbers) values_are
+      (subst (λ ns. AreInRoom schema ns (on_lines (length schema.embeds) values places)) numbers_are (room_moved schema numbers values room places order))
 
-  pub darts_ordered : IsPermutation (darts_in schema numbers words) (darts_in schema new_numbers new_words)
+  pub darts_ordered : IsPermutation (darts_in schema numbers values) (darts_in schema new_numbers new_values)
   darts_ordered =
-      subst (λ ws. IsPermutation (darts_in schema numbers words) (darts_in schema new_numbers ws)) words_are
-      (subst (λ ns. IsPermutation (darts_in schema numbers words) (darts_in schema ns (on_lines (size_of_line schema.embeds) words places))) numbers_are (darts_moved schema numbers words room places order))
+      subst (λ vs. IsPermutation (darts_in schema numbers values) (darts_in schema new_numbers vs)) values_are
+      (subst (λ ns. IsPermutation (darts_in schema numbers values) (darts_in schema ns (on_lines (length schema.embeds) values places))) numbers_are (darts_moved schema numbers values room places order))
 
 -- ---- what holds of the darts in the one order
 
@@ -263,7 +238,7 @@ module _ (darts others : List DartRow) (same : IsPermutation darts others) where
   pub most_moved : (each before after : ℕ) → after ≤ before + each * length others → after ≤ before + each * length darts
   most_moved each before after = subst (λ k. after ≤ before + each * k) (length_permutation darts others same)
 
--- the numbers and words as they are lent
-pub same_read : (darts : List DartRow) (schema : Schema) (numbers xs : List ℕ) (words vs : List ℤ) → xs ≡ numbers → vs ≡ words → IsPermutation darts (darts_in schema numbers words) → IsPermutation darts (darts_in schema xs vs)
-same_read darts schema numbers xs words vs numbers_are words_are same =
-    subst (λ ns. IsPermutation darts (darts_in schema ns vs)) (sym numbers_are) (subst (λ ws. IsPermutation darts (darts_in schema numbers ws)) (sym words_are) same)
+-- the numbers and values as they are lent
+pub same_read : (darts : List DartRow) (schema : Schema) (numbers xs : List ℕ) (values vs : List Value) → xs ≡ numbers → vs ≡ values → IsPermutation darts (darts_in schema numbers values) → IsPermutation darts (darts_in schema xs vs)
+same_read darts schema numbers xs values vs numbers_are values_are same =
+    subst (λ ns. IsPermutation darts (darts_in schema ns vs)) (sym numbers_are) (subst (λ lent. IsPermutation darts (darts_in schema numbers lent)) (sym values_are) same)

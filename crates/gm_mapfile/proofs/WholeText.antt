@@ -1,7 +1,8 @@
 -- The readings of the head, the lines and the end of a map's text as the reading of the whole.
-use Rattle.std.proofs.Common.{ℕ, ℤ, List, [], ◌++◌, Option, refl, ap, subst, ◌∙◌}
+use Rattle.std.proofs.Common.{ℕ, List, [], ◌++◌, Option, refl, ap, subst, ◌∙◌}
 use Rattle.std.proofs.lemmas.List.{append-nil}
 use Rattle.gm_model.specs.declared.schema.Schema.{Schema}
+use Rattle.gm_model.specs.declared.value.Value.{Value}
 use Rattle.gm_model.specs.Symbols.{End, Mark}
 use Rattle.gm_text.specs.Cursor.{Cursor}
 use Rattle.gm_text.specs.declared.schema_fault.SchemaFault.{SchemaFault}
@@ -19,7 +20,7 @@ module _ (stated : Option ℕ) (schema : Schema) (count : ℕ) (old between : Cu
         let stops = subst (λ (ws : List Want). Stops (among head [] ws) between fault) (append-nil (darts_wants schema count)) (misses head [] []) in
         stops_then start (among head [] (darts_wants schema count)) old between fault reads stops
 
-    module _ (new : Cursor) (numbers : List ℕ) (words : List ℤ) (lines : ReadsDarts schema count between new numbers words) where
+    module _ (new : Cursor) (numbers : List ℕ) (values : List Value) (lines : ReadsDarts schema count between new numbers values) where
       all_read : Reads start old new (among (record { version = version_in stated; schema = schema }) (all_numbers lines.darts) [])
       all_read =
           let head : Head = record { version = version_in stated; schema = schema } in
@@ -31,14 +32,14 @@ module _ (stated : Option ℕ) (schema : Schema) (count : ℕ) (old between : Cu
           let head : Head = record { version = version_in stated; schema = schema } in
           stops_then start (among head (all_numbers lines.darts) []) old new fault all_read (more_stops head (all_numbers lines.darts) new fault more)
 
-      pub map_reads : IsEndNext new → ReadsMap old stated schema numbers words
+      pub map_reads : IsEndNext new → ReadsMap old stated schema numbers values
       map_reads (place, marks) =
           let all = all_read in
           record {
             darts = lines.darts;
             whole = lines.whole;
             numbers_are = lines.numbers_are;
-            words_are = lines.words_are;
+            values_are = lines.values_are;
             before = all.before;
             end = record { symbol = End; place = place };
             split = all.split ∙ ap (λ (ms : List Mark). all.before ++ ms) marks;

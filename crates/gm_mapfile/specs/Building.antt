@@ -1,5 +1,5 @@
 -- How far an arena has the darts of a text: which of them, and with which of their neighbours.
-use Rattle.std.specs.Prelude.{◌≡◌, ◌≢◌, ℕ, ◌+◌, ◌*◌, ◌/◌, ◌<◌, ◌≤◌, ℤ, List, length, All, Option, Some, None, is_some, MatchOption, slice_index}
+use Rattle.std.specs.Prelude.{◌≡◌, ◌≢◌, ℕ, ◌+◌, ◌*◌, ◌/◌, ◌<◌, ◌≤◌, List, length, All, Option, Some, None, is_some, MatchOption, slice_index}
 use Rattle.std.specs.FinMap.{get}
 use Rattle.std.specs.List.{AllByRecursion}
 use Rattle.std.specs.Option.{option_map}
@@ -13,15 +13,14 @@ use Rattle.gm_arena.specs.ArenaMap.{ArenaMap, Dart, IsAt, IsLiveName, alpha}
 use Rattle.gm_arena.specs.Lawful.{AreGoodValues}
 use Rattle.gm_mapfile.specs.MapText.{Version, First, Second, DartRow, IsNext, names, rows_of, dart_of}
 use Rattle.gm_mapfile.specs.MapFaults.{AreNamedOnce, IsLeastTwice, IsLeastNotBelow, AreBelow, HaveTargets}
-use Rattle.gm_mapfile.specs.Packed.{size_of_line}
 use Rattle.gm_mapfile.specs.Rows.{darts_in}
 
--- numbers and packed values that fit an arena over the schema: of so many lines, each number a name, and each line's values good
-pub record AreInRoom (schema : Schema) (numbers : List ℕ) (words : List ℤ) : Type 0 where
+-- numbers and values that fit an arena over the schema: of so many lines, each number a name, and each line's values good
+pub record AreInRoom (schema : Schema) (numbers : List ℕ) (values : List Value) : Type 0 where
   pub few : length numbers / (schema.dim + 2) ≤ most_darts
   pub small : All (λ x. x < most_names) numbers
-  pub long : length words ≡ length numbers / (schema.dim + 2) * size_of_line schema.embeds
-  pub good : AllByRecursion (λ (dart : DartRow). AreGoodValues schema dart.values) (darts_in schema numbers words)
+  pub long : length values ≡ length numbers / (schema.dim + 2) * length schema.embeds
+  pub good : AllByRecursion (λ (dart : DartRow). AreGoodValues schema dart.values) (darts_in schema numbers values)
 
 -- each dart has one neighbour for each label from 0 to n
 abbrev pub AreWhole : ℕ → ArenaMap → Type 0

@@ -1,7 +1,6 @@
 pub mod MapText
 pub mod MapFaults
 pub mod Words
-pub mod Packed
 pub mod Draft
 pub mod MapReading
 pub mod Rows

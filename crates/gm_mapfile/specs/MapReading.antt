@@ -18,8 +18,7 @@ use Rattle.gm_text.specs.SchemaAnswers.{marks_left}
 use Rattle.gm_text.specs.SchemaReading as schema
 use Rattle.gm_text.specs.SchemaText as text
 use Rattle.gm_text.specs.SchemaText.{Passed, LimitOf, Again}
-use Rattle.gm_mapfile.specs.Draft.{numbers_of, words_of_darts, version_in}
-use Rattle.gm_mapfile.specs.Packed.{packed}
+use Rattle.gm_mapfile.specs.Draft.{numbers_of, values_of_darts, version_in}
 use Rattle.gm_text.specs.declared.schema_fault.SchemaFault.{SchemaFault}
 use Rattle.gm_text.specs.declared.schema_fault.SchemaFault.TheVariants as faults
 use Rattle.gm_text.specs.ValueText.{signed}
@@ -216,25 +215,25 @@ IsWhole schema dart = (length dart.alphas ≡ schema.dim + 1) × AreOfKinds sche
 abbrev pub ReadsNames : ℕ → Cursor → Cursor → List ℕ → List ℕ → Type 0
 ReadsNames count old new before names = (more : List ℕ) × (names ≡ before ++ more) × (length more ≡ count) × Takes (replicate count (TheNumber DartName)) (map pos more) old new
 
--- a value of each embedding is read, and packed behind the words before them
-abbrev pub ReadsValues : List Embed → Cursor → Cursor → List ℤ → List ℤ → Type 0
-ReadsValues embeds old new before words = (more : List Value) × (words ≡ before ++ packed more) × AreOfKinds embeds more × Takes (values_wants embeds) (flat_map components more) old new
+-- a value of each embedding is read, behind the values before them
+abbrev pub ReadsValues : List Embed → Cursor → Cursor → List Value → List Value → Type 0
+ReadsValues embeds old new before values = (more : List Value) × (values ≡ before ++ more) × AreOfKinds embeds more × Takes (values_wants embeds) (flat_map components more) old new
 
--- these darts are read, and these are the numbers and the packed values of their lines
-pub record ReadsDarts (schema : Schema) (count : ℕ) (old new : Cursor) (numbers : List ℕ) (words : List ℤ) : Type 0 where
+-- these darts are read, and these are the numbers and the values of their lines
+pub record ReadsDarts (schema : Schema) (count : ℕ) (old new : Cursor) (numbers : List ℕ) (values : List Value) : Type 0 where
   pub darts : List DartRow
   pub whole : AllByRecursion (IsWhole schema) darts
   pub counted : length darts ≡ count
   pub numbers_are : numbers ≡ numbers_of darts
-  pub words_are : words ≡ words_of_darts darts
+  pub values_are : values ≡ values_of_darts darts
   pub takes : Takes (darts_wants schema count) (all_numbers darts) old new
 
 -- the whole text is read, up to its end
-pub record ReadsMap (old : Cursor) (stated : Option ℕ) (schema : Schema) (numbers : List ℕ) (words : List ℤ) : Type 0 where
+pub record ReadsMap (old : Cursor) (stated : Option ℕ) (schema : Schema) (numbers : List ℕ) (values : List Value) : Type 0 where
   pub darts : List DartRow
   pub whole : AllByRecursion (IsWhole schema) darts
   pub numbers_are : numbers ≡ numbers_of darts
-  pub words_are : words ≡ words_of_darts darts
+  pub values_are : values ≡ values_of_darts darts
   pub before : List Mark
   pub end : Mark
   pub split : marks_left old ≡ before ++ end ∷ []

@@ -1,13 +1,11 @@
--- The darts that an arena holds as a list, and the darts of which numbers and packed values are the lines.
-use Rattle.std.specs.Prelude.{ℕ, zero, suc, ◌+◌, ◌/◌, ℤ, List, [], ◌∷◌, map, length, take, drop}
+-- The darts that an arena holds as a list, and the darts of which numbers and values are the lines.
+use Rattle.std.specs.Prelude.{ℕ, zero, suc, ◌+◌, ◌/◌, List, [], ◌∷◌, map, length, take, drop}
 use Rattle.std.specs.FinMap.{entries}
-use Rattle.gm_model.specs.declared.schema.Embed.{Embed}
 use Rattle.gm_model.specs.declared.schema.Schema.{Schema}
 use Rattle.gm_model.specs.declared.value.Value.{Value}
 use Rattle.gm_model.specs.GMap.{Row}
 use Rattle.gm_arena.specs.ArenaMap.{ArenaMap, Dart}
 use Rattle.gm_mapfile.specs.MapText.{DartRow, ListedMap}
-use Rattle.gm_mapfile.specs.Packed.{size_of_line, values_in}
 
 abbrev pub dart_of_entry : ℕ × Dart → DartRow
 dart_of_entry e = record { name = e.0; alphas = e.1.alphas; values = e.1.values }
@@ -20,7 +18,7 @@ darts_of m = map dart_of_entry (entries m.darts)
 abbrev pub listed_of : ArenaMap → ListedMap
 listed_of m = record { schema = m.schema; darts = darts_of m; next = m.next }
 
--- ---- darts written as numbers and packed values
+-- ---- darts written as numbers and values
 
 -- a line is a name and its neighbours
 abbrev pub row_in : List ℕ → Row
@@ -40,11 +38,11 @@ rows_in n numbers = rows_from n (length numbers / (n + 2)) numbers
 abbrev pub valued : Row → List Value → DartRow
 valued row values = record { name = row.name; alphas = row.alphas; values = values }
 
--- the darts of the rows, with a value of each embedding, from its words
-abbrev pub darts_from : List Embed → List Row → List ℤ → List DartRow
-darts_from embeds [] words = []
-darts_from embeds (row ∷ rows) words = valued row (values_in embeds (take (size_of_line embeds) words)) ∷ darts_from embeds rows (drop (size_of_line embeds) words)
+-- the darts of the rows, each with so many values
+abbrev pub darts_from : ℕ → List Row → List Value → List DartRow
+darts_from width [] values = []
+darts_from width (row ∷ rows) values = valued row (take width values) ∷ darts_from width rows (drop width values)
 
--- the darts of all whole lines
-abbrev pub darts_in : Schema → List ℕ → List ℤ → List DartRow
-darts_in schema numbers words = darts_from schema.embeds (rows_in schema.dim numbers) words
+-- the darts of all whole lines, each with a value of each embedding
+abbrev pub darts_in : Schema → List ℕ → List Value → List DartRow
+darts_in schema numbers values = darts_from (length schema.embeds) (rows_in schema.dim numbers) values

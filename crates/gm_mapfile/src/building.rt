@@ -1,18 +1,16 @@
 //! The arena of the darts that a text lists.
 //!
 //! The lines are brought into the order of their names where the text has another, so that slots follow
-//! names. Then the darts are added with their values, each free for every label, and then linked to
-//! their neighbours. A name above all that were added is that of no dart, and where the names run from 0
-//! on each is its dart's slot: so names are looked up only where two lines have one, or where some number
-//! is missing among them.
+//! names. Where the names then run from 0 on and each neighbour is one of them, the arena is made of the
+//! lines at once and takes their values over, and nothing is looked up. Else the darts are added one
+//! after another, each free for every label, and then linked to their neighbours. A name above all that
+//! were added is that of no dart.
 ghost use Rattle.gm_model.specs.Limits.{most_names};
 ghost use Rattle.gm_model.specs.Maps.{IsSchema};
-ghost use Rattle.std.specs.Prelude.{◌≡◌, ◌+◌, ◌*◌, ◌/◌, ◌<◌, ◌≤◌, length, min, nat_lt, if◌then◌else◌, None, All, IsTrue, MatchOption, IfOk, IfErr, IfSome, OnSome, OnOk};
+ghost use Rattle.std.specs.Prelude.{◌≡◌, ℕ, ◌+◌, ◌*◌, ◌/◌, ◌<◌, ◌≤◌, length, get_or, min, nat_lt, if◌then◌else◌, None, All, IsTrue, MatchOption, IfOk, IfErr, IfSome, OnSome, OnOk};
 ghost use Rattle.std.specs.FinMap.{get};
 ghost use Rattle.gm_arena.specs.ArenaMap.{IsAt, IsLiveName};
-ghost use Rattle.gm_arena.specs.Edits.{with_dart};
-ghost use Rattle.gm_arena.specs.Lawful.{AreGoodValues};
-ghost use Rattle.gm_mapfile.specs.Packed.{size_of_line, values_in};
+ghost use Rattle.gm_arena.specs.Lines.{AreLines};
 ghost use Rattle.gm_mapfile.specs.Draft.{version_in};
 ghost use Rattle.gm_mapfile.specs.MapFaults.{AreBelow, AreBelowStated};
 ghost use Rattle.gm_mapfile.specs.Rows.{rows_in, darts_in};
@@ -21,10 +19,9 @@ ghost use Rattle.gm_mapfile.specs.Building.{AreInRoom, AreSlotsLive, AreWhole, A
 
 use crate::fault::MapFault;
 use crate::ordering::in_order;
-use crate::packed::{line_size, unpack_line};
 use crate::reading::Draft;
 use gm_arena::{Arena, Slot, Steps};
-use gm_model::{MOST_EMBEDS, Schema, Value};
+use gm_model::{Schema, Value};
 use std::alloc::Global;
 use std::sync::ledger::Ledger;
 
@@ -37,22 +34,80 @@ pub(crate) fn build<L: Ledger>(
     steps: &mut Steps<L>,
 ) -> Result<Arena, MapFault>
     requires schema { IsSchema draft.schema }
-    requires room { AreInRoom draft.schema draft.numbers.items draft.words.items }
+    requires room { AreInRoom draft.schema draft.numbers.items draft.values.items }
     requires next { IfSome draft.stated (λ next. next ≤ most_names) }
-    ensures held { IfOk result (IsHeld (version_in draft.stated) draft.schema (darts_in draft.schema draft.numbers.items draft.words.items)) }
-    ensures fault { IfErr result (IsNameFault (version_in draft.stated) draft.schema.dim (darts_in draft.schema draft.numbers.items draft.words.items)) }
-    ensures most { steps.new ≤ steps.old + (2 * draft.schema.dim + 5) * length (darts_in draft.schema draft.numbers.items draft.words.items) }
+    ensures held { IfOk result (IsHeld (version_in draft.stated) draft.schema (darts_in draft.schema draft.numbers.items draft.values.items)) }
+    ensures fault { IfErr result (IsNameFault (version_in draft.stated) draft.schema.dim (darts_in draft.schema draft.numbers.items draft.values.items)) }
+    ensures most { steps.new ≤ steps.old + (2 * draft.schema.dim + 5) * length (darts_in draft.schema draft.numbers.items draft.values.items) }
     ensures least { IfOk result (λ arena. steps.old + arena.count ≤ steps.new) }
 {
     let Draft {
         stated,
         schema,
         mut numbers,
-        mut words,
+        mut values,
     } = draft;
-    let end = in_order(alloc, &schema, &mut numbers, &mut words)?;
-    let (numbers, words) = (numbers.as_slice(), words.as_slice());
-    build_lines(alloc, schema, stated, end, numbers, words, steps)
+    let end = in_order(alloc, &schema, &mut numbers, &mut values)?;
+    let width = schema.dim.top() as usize + 2;
+    let count = numbers.len() / width;
+    if are_numbered(&numbers, width) && are_below(&numbers, count as u32) {
+        return take_lines(alloc, schema, stated, numbers, values, steps);
+    }
+    let (numbers, values) = (numbers.as_slice(), values.as_slice());
+    build_lines(alloc, schema, stated, end, numbers, values, steps)
+}
+
+/// Whether the name on each line, of so many numbers, is how many lines stand before it.
+fn are_numbered(numbers: &[u32], width: usize) -> bool
+    requires { 0 < width }
+    ensures { IsTrue result → (at : ℕ) → at < length numbers.now / width → get_or numbers.now (at * width) 0 ≡ at }
+{
+    for at in 0..numbers.len() / width {
+        if numbers[at * width] as usize != at {
+            return false;
+        }
+    }
+    true
+}
+
+/// Whether each of the numbers is below the end. All are compared, so that many are at once.
+fn are_below(numbers: &[u32], end: u32) -> bool
+    ensures { IsTrue result → All (λ x. x < end) numbers.now }
+{
+    let mut below = true;
+    for number in numbers {
+        below &= *number < end;
+    }
+    below
+}
+
+/// The arena of lines that are those of the darts 0, 1 and so on.
+fn take_lines<L: Ledger>(
+    alloc: Global,
+    schema: Schema,
+    stated: Option<u32>,
+    numbers: Vec<u32>,
+    values: Vec<Value>,
+    steps: &mut Steps<L>,
+) -> Result<Arena, MapFault>
+    requires schema { IsSchema schema }
+    requires lines { AreLines schema numbers.items values.items }
+    requires next { IfSome stated (λ next. next ≤ most_names) }
+    ensures held { IfOk result (IsHeld (version_in stated) schema (darts_in schema numbers.items values.items)) }
+    ensures fault { IfErr result (IsNameFault (version_in stated) schema.dim (darts_in schema numbers.items values.items)) }
+    ensures most { steps.new ≤ steps.old + (2 * schema.dim + 5) * length (darts_in schema numbers.items values.items) }
+    ensures least { IfOk result (λ arena. steps.old + arena.count ≤ steps.new) }
+{
+    let mut arena = Arena::of_lines(alloc, schema, numbers, values, steps)?;
+    let Some(next) = stated else {
+        return Ok(arena);
+    };
+    if next < arena.count() {
+        drop(arena);
+        return Err(MapFault::Next { dart: next });
+    }
+    arena.set_next(next);
+    Ok(arena)
 }
 
 /// The same of the lines in their order, where the text may state the next name. No name reaches
@@ -63,21 +118,21 @@ fn build_lines<L: Ledger>(
     stated: Option<u32>,
     end: u32,
     numbers: &[u32],
-    words: &[i64],
+    values: &[Value],
     steps: &mut Steps<L>,
 ) -> Result<Arena, MapFault>
     requires schema { IsSchema schema }
-    requires room { AreInRoom schema numbers.now words.now }
+    requires room { AreInRoom schema numbers.now values.now }
     requires end { AreBelow (rows_in schema.dim numbers.now) end }
     requires names { end ≤ most_names }
     requires next { IfSome stated (λ next. next ≤ most_names) }
-    ensures held { IfOk result (IsHeld (version_in stated) schema (darts_in schema numbers.now words.now)) }
-    ensures fault { IfErr result (IsNameFault (version_in stated) schema.dim (darts_in schema numbers.now words.now)) }
-    ensures most { steps.new ≤ steps.old + (2 * schema.dim + 5) * length (darts_in schema numbers.now words.now) }
+    ensures held { IfOk result (IsHeld (version_in stated) schema (darts_in schema numbers.now values.now)) }
+    ensures fault { IfErr result (IsNameFault (version_in stated) schema.dim (darts_in schema numbers.now values.now)) }
+    ensures most { steps.new ≤ steps.old + (2 * schema.dim + 5) * length (darts_in schema numbers.now values.now) }
     ensures least { IfOk result (λ arena. steps.old + arena.count ≤ steps.new) }
 {
     let mut arena = Arena::new(alloc, schema);
-    if let Err(fault) = fill_with_room(&mut arena, stated, end, numbers, words, steps) {
+    if let Err(fault) = fill_with_room(&mut arena, stated, end, numbers, values, steps) {
         drop(arena);
         return Err(fault);
     }
@@ -91,23 +146,22 @@ fn fill_with_room<L: Ledger>(
     stated: Option<u32>,
     end: u32,
     numbers: &[u32],
-    words: &[i64],
+    values: &[Value],
     steps: &mut Steps<L>,
 ) -> Result<(), MapFault>
     requires fresh { IsFresh arena.old }
-    requires embeds { length arena.old.schema.embeds ≤ 8 }
-    requires room { AreInRoom arena.old.schema numbers.now words.now }
+    requires room { AreInRoom arena.old.schema numbers.now values.now }
     requires end { AreBelow (rows_in arena.old.schema.dim numbers.now) end }
     requires names { end ≤ most_names }
     requires next { IfSome stated (λ next. next ≤ most_names) }
-    ensures held { OnOk result (IsHeld (version_in stated) arena.old.schema (darts_in arena.old.schema numbers.now words.now) arena.new) }
-    ensures fault { IfErr result (IsNameFault (version_in stated) arena.old.schema.dim (darts_in arena.old.schema numbers.now words.now)) }
-    ensures most { steps.new ≤ steps.old + (2 * arena.old.schema.dim + 5) * length (darts_in arena.old.schema numbers.now words.now) }
+    ensures held { OnOk result (IsHeld (version_in stated) arena.old.schema (darts_in arena.old.schema numbers.now values.now) arena.new) }
+    ensures fault { IfErr result (IsNameFault (version_in stated) arena.old.schema.dim (darts_in arena.old.schema numbers.now values.now)) }
+    ensures most { steps.new ≤ steps.old + (2 * arena.old.schema.dim + 5) * length (darts_in arena.old.schema numbers.now values.now) }
     ensures least { OnOk result (steps.old + arena.new.count ≤ steps.new) }
 {
     let width = arena.schema().dim.top() as usize + 2;
     arena.reserve((numbers.len() / width) as u32, end)?;
-    fill(arena, stated, numbers, words, steps)
+    fill(arena, stated, numbers, values, steps)
 }
 
 /// Adds the darts of the lines to an arena without darts, sets the next name where it is stated, and
@@ -116,21 +170,20 @@ fn fill<L: Ledger>(
     arena: &mut Arena,
     stated: Option<u32>,
     numbers: &[u32],
-    words: &[i64],
+    values: &[Value],
     steps: &mut Steps<L>,
 ) -> Result<(), MapFault>
     requires fresh { IsFresh arena.old }
-    requires embeds { length arena.old.schema.embeds ≤ 8 }
-    requires room { AreInRoom arena.old.schema numbers.now words.now }
+    requires room { AreInRoom arena.old.schema numbers.now values.now }
     requires spare { length numbers.now / (arena.old.schema.dim + 2) ≤ arena.old.spare }
     requires reserved { AreBelow (rows_in arena.old.schema.dim numbers.now) arena.old.reserved }
     requires next { IfSome stated (λ next. next ≤ most_names) }
-    ensures held { OnOk result (IsHeld (version_in stated) arena.old.schema (darts_in arena.old.schema numbers.now words.now) arena.new) }
-    ensures fault { IfErr result (IsNameFault (version_in stated) arena.old.schema.dim (darts_in arena.old.schema numbers.now words.now)) }
-    ensures most { steps.new ≤ steps.old + (2 * arena.old.schema.dim + 5) * length (darts_in arena.old.schema numbers.now words.now) }
+    ensures held { OnOk result (IsHeld (version_in stated) arena.old.schema (darts_in arena.old.schema numbers.now values.now) arena.new) }
+    ensures fault { IfErr result (IsNameFault (version_in stated) arena.old.schema.dim (darts_in arena.old.schema numbers.now values.now)) }
+    ensures most { steps.new ≤ steps.old + (2 * arena.old.schema.dim + 5) * length (darts_in arena.old.schema numbers.now values.now) }
     ensures least { OnOk result (steps.old + arena.new.count ≤ steps.new) }
 {
-    if let Some(dart) = add_darts(arena, numbers, words, steps) {
+    if let Some(dart) = add_darts(arena, numbers, values, steps) {
         return Err(MapFault::DartTwice { dart });
     }
     if let Some(dart) = set_stated(arena, numbers, stated) {
@@ -149,31 +202,29 @@ fn fill<L: Ledger>(
 fn add_darts<L: Ledger>(
     arena: &mut Arena,
     numbers: &[u32],
-    words: &[i64],
+    values: &[Value],
     steps: &mut Steps<L>,
 ) -> Option<u32>
     requires fresh { IsFresh arena.old }
-    requires embeds { length arena.old.schema.embeds ≤ 8 }
-    requires room { AreInRoom arena.old.schema numbers.now words.now }
+    requires room { AreInRoom arena.old.schema numbers.now values.now }
     requires spare { length numbers.now / (arena.old.schema.dim + 2) ≤ arena.old.spare }
     requires reserved { AreBelow (rows_in arena.old.schema.dim numbers.now) arena.old.reserved }
     ensures schema { arena.new.schema ≡ arena.old.schema }
     ensures added { AreAdded arena.old.schema.dim (rows_in arena.old.schema.dim numbers.now) arena.new result }
-    ensures values { AreValued (darts_in arena.old.schema numbers.now words.now) arena.new }
+    ensures values { AreValued (darts_in arena.old.schema numbers.now values.now) arena.new }
     ensures next { IsNextLeast arena.new }
     ensures most { steps.new ≤ steps.old + 2 * length (rows_in arena.old.schema.dim numbers.now) }
     ensures least { steps.old + length (rows_in arena.old.schema.dim numbers.now) ≤ steps.new }
 {
-    let size = line_size(arena.schema().embeds.as_slice());
-    let mut row = [Value::Int(0); MOST_EMBEDS];
-    let mut rest = words;
+    let width = arena.schema().embeds.as_slice().len();
+    let mut rest = values;
     let mut twice: Option<u32> = None;
     for line in numbers.chunks_exact(arena.schema().dim.top() as usize + 2) {
         let name = line[0];
-        let (own, others) = rest.split_at(size);
+        let (own, others) = rest.split_at(width);
         rest = others;
         if slot_there(arena, name, steps).is_none() {
-            add_packed(arena, name, own, &mut row, steps);
+            arena.add(name, own, steps);
         } else {
             twice = Some(lesser(twice, name));
         }
@@ -194,31 +245,6 @@ fn slot_there<L: Ledger>(arena: &Arena, name: u32, steps: &mut Steps<L>) -> Opti
         return None;
     }
     arena.slot_of(name, steps)
-}
-
-/// Adds the dart with the values that the words stand for, free for every label. The row is lent for
-/// the values, whatever it holds.
-fn add_packed<L: Ledger>(
-    arena: &mut Arena,
-    name: u32,
-    words: &[i64],
-    row: &mut [Value; MOST_EMBEDS],
-    steps: &mut Steps<L>,
-) -> Slot
-    requires room { 0 < arena.old.spare }
-    requires reserved { name < arena.old.reserved }
-    requires new_name { get arena.old.darts name ≡ None }
-    requires embeds { length arena.old.schema.embeds ≤ 8 }
-    requires words { size_of_line arena.old.schema.embeds ≤ length words.now }
-    requires values { AreGoodValues arena.old.schema (values_in arena.old.schema.embeds words.now) }
-    ensures slot { get arena.old.slots result.at ≡ None }
-    ensures map { arena.new ≡ with_dart arena.old result.at name (values_in arena.old.schema.embeds words.now) }
-    ensures cost { steps.new ≡ steps.old + 1 }
-{
-    let embeds = arena.schema().embeds.as_slice();
-    let count = embeds.len();
-    unpack_line(embeds, words, row);
-    arena.add(name, &row[..count], steps)
 }
 
 /// The lesser of the name and of one that was found before.
@@ -270,36 +296,6 @@ fn least_not_below(arena: &Arena, numbers: &[u32], next: u32) -> Option<u32>
 /// Links the dart of each line to its neighbours. The answer is the first dart and label whose
 /// neighbour is no dart.
 fn link_darts<L: Ledger>(
-    arena: &mut Arena,
-    numbers: &[u32],
-    steps: &mut Steps<L>,
-) -> Option<(u32, u8)>
-    requires added { AreAdded arena.old.schema.dim (rows_in arena.old.schema.dim numbers.now) arena.old None }
-    ensures relinked { IsRelinked arena.old.schema.dim arena.old arena.new }
-    ensures linked { AreLinkedUnless arena.old.schema.dim arena.old arena.new (rows_in arena.old.schema.dim numbers.now) result }
-    ensures most { steps.new ≤ steps.old + (2 * arena.old.schema.dim + 3) * length (rows_in arena.old.schema.dim numbers.now) }
-    ensures least { steps.old ≤ steps.new }
-{
-    if arena.has_slots_for_names() && are_below(numbers, arena.count()) {
-        arena.link_lines(numbers, steps);
-        return None;
-    }
-    look_up_neighbours(arena, numbers, steps)
-}
-
-/// Whether each of the numbers is below the end. All are compared, so that many are at once.
-fn are_below(numbers: &[u32], end: u32) -> bool
-    ensures { IsTrue result → All (λ x. x < end) numbers.now }
-{
-    let mut below = true;
-    for number in numbers {
-        below &= *number < end;
-    }
-    below
-}
-
-/// The same, where each name is looked up.
-fn look_up_neighbours<L: Ledger>(
     arena: &mut Arena,
     numbers: &[u32],
     steps: &mut Steps<L>,

@@ -6,7 +6,6 @@ mod building;
 mod fault;
 mod laws;
 mod ordering;
-mod packed;
 mod printing;
 mod reading;
 mod values;
@@ -19,6 +18,6 @@ pub use laws::{
     a_canonical_text_stands_for_its_map, one_first_fault_at_most, one_map_at_most,
     what_is_printed_is_read_again,
 };
-pub use printing::print_map;
-pub use reading::{MapRead, read_map, take_map};
+pub use printing::{print_map, print_map_over};
+pub use reading::{MapRead, read_map, read_map_or_why, take_map};
 pub use version::MapVersion;

@@ -10,8 +10,7 @@ ghost use Rattle.gm_mapfile.specs.MapFaults.{AreBelow};
 ghost use Rattle.gm_mapfile.specs.Rows.{darts_in, rows_in};
 ghost use Rattle.gm_mapfile.specs.declared.ordering.Line.{Line};
 
-use crate::packed::line_size;
-use gm_model::{OutOfMemory, Schema};
+use gm_model::{OutOfMemory, Schema, Value};
 use std::alloc::{AllocError, Global};
 
 /// Where a dart's line stands.
@@ -27,19 +26,18 @@ pub(crate) fn in_order(
     alloc: Global,
     schema: &Schema,
     numbers: &mut Vec<u32>,
-    words: &mut Vec<i64>,
+    values: &mut Vec<Value>,
 ) -> Result<u32, OutOfMemory>
-    requires embeds { length schema.now.embeds ≤ 8 }
-    requires room { AreInRoom schema.now numbers.old.items words.old.items }
-    ensures room { IfOk result (λ _. AreInRoom schema.now numbers.new.items words.new.items) }
-    ensures darts { IfOk result (λ _. IsPermutation (darts_in schema.now numbers.old.items words.old.items) (darts_in schema.now numbers.new.items words.new.items)) }
+    requires room { AreInRoom schema.now numbers.old.items values.old.items }
+    ensures room { IfOk result (λ _. AreInRoom schema.now numbers.new.items values.new.items) }
+    ensures darts { IfOk result (λ _. IsPermutation (darts_in schema.now numbers.old.items values.old.items) (darts_in schema.now numbers.new.items values.new.items)) }
     ensures end { IfOk result (AreBelow (rows_in schema.now.dim numbers.new.items)) }
     ensures names { IfOk result (λ end. end ≤ most_names) }
 {
     if let Some(end) = ascending_end(numbers.as_slice(), schema.dim.top()) {
         return Ok(end);
     }
-    order(alloc, schema, numbers, words)?;
+    order(alloc, schema, numbers, values)?;
     Ok(names_end(numbers.as_slice()))
 }
 
@@ -48,18 +46,17 @@ fn order(
     alloc: Global,
     schema: &Schema,
     numbers: &mut Vec<u32>,
-    words: &mut Vec<i64>,
+    values: &mut Vec<Value>,
 ) -> Result<(), OutOfMemory>
-    requires embeds { length schema.now.embeds ≤ 8 }
-    requires room { AreInRoom schema.now numbers.old.items words.old.items }
-    ensures room { OnOk result (AreInRoom schema.now numbers.new.items words.new.items) }
-    ensures darts { OnOk result (IsPermutation (darts_in schema.now numbers.old.items words.old.items) (darts_in schema.now numbers.new.items words.new.items)) }
+    requires room { AreInRoom schema.now numbers.old.items values.old.items }
+    ensures room { OnOk result (AreInRoom schema.now numbers.new.items values.new.items) }
+    ensures darts { OnOk result (IsPermutation (darts_in schema.now numbers.old.items values.old.items) (darts_in schema.now numbers.new.items values.new.items)) }
 {
     let width = schema.dim.top() as usize + 2;
-    let size = line_size(schema.embeds.as_slice());
+    let count = schema.embeds.as_slice().len();
     let lines = lines_by_name(alloc, numbers.as_slice(), width)?;
     order_lines(alloc, lines.as_slice(), width, numbers)?;
-    order_lines(alloc, lines.as_slice(), size, words)
+    order_lines(alloc, lines.as_slice(), count, values)
 }
 
 /// One more than the last name, where the lines stand in ascending order of their names, or 0 where

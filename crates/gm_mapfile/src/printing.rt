@@ -49,7 +49,24 @@ pub fn print_map<L: Ledger>(
     ensures most { steps.new ≤ steps.old + 8 * ((arena.now.schema.dim + 1) * (arena.now.schema.dim + 1)) * (arena.now.count + 1) }
     ensures least { IfOk result (λ _. steps.old + arena.now.count ≤ steps.new) }
 {
-    let mut text = Text::with_room(alloc, room_for(arena))?;
+    print_map_over(Vec::new(alloc), arena, version, steps)
+}
+
+/// The same, in the room of the bytes, which are forgotten: those of the text that the map was read
+/// from, say, so that a map that is saved takes no room beside it.
+pub fn print_map_over<L: Ledger>(
+    bytes: Vec<u8>,
+    arena: &Arena,
+    version: MapVersion,
+    steps: &mut Steps<L>,
+) -> Result<Vec<u8>, OutOfMemory>
+    ensures text { IfOk result (λ text. text.items ≡ canonical version (listed_of arena.now)) }
+    ensures canonical { IfOk result (λ text. IsSound (as_map arena.now) → IsCanonicalTextOf version (listed_of arena.now) text.items) }
+    ensures stands { IfOk result (λ text. IsSound (as_map arena.now) → MapText text.items version (renumbered version (listed_of arena.now))) }
+    ensures most { steps.new ≤ steps.old + 8 * ((arena.now.schema.dim + 1) * (arena.now.schema.dim + 1)) * (arena.now.count + 1) }
+    ensures least { IfOk result (λ _. steps.old + arena.now.count ≤ steps.new) }
+{
+    let mut text = Text::in_room_of(bytes, room_for(arena))?;
     print_text(&mut text, arena, version, steps)?;
     Ok(text.into_bytes())
 }

@@ -20,13 +20,12 @@ ghost use Rattle.gm_mapfile.specs.declared.version.MapVersion.{MapVersion};
 
 use crate::building::build;
 use crate::fault::{MapFault, NoMap};
-use crate::packed::line_size;
 use crate::values::read_values;
 use crate::version::MapVersion;
 use crate::words::{Numeral, read_number, read_word, small_numeral};
 use gm_arena::{Arena, Steps};
 use gm_laws::{LawFault, MapBreach, check_map};
-use gm_model::{Embed, LimitKind, MOST_DARTS, MOST_NAMES, Name, Schema};
+use gm_model::{Embed, LimitKind, MOST_DARTS, MOST_NAMES, Name, Schema, Value};
 use gm_text::{Lexer, SchemaFault, read_schema};
 use std::alloc::Global;
 use std::sync::ledger::Ledger;
@@ -39,8 +38,8 @@ pub(crate) struct Draft {
     pub schema: Schema,
     /// For each dart its name, and then its neighbours from label 0 on.
     pub numbers: Vec<u32>,
-    /// For each dart its values, packed, by embedding.
-    pub words: Vec<i64>,
+    /// For each dart its values, by embedding.
+    pub values: Vec<Value>,
 }
 
 /// What stands before the darts.
@@ -53,7 +52,7 @@ struct Head {
 /// The lines of the darts.
 struct Lines {
     numbers: Vec<u32>,
-    words: Vec<i64>,
+    values: Vec<Value>,
 }
 
 /// The format and its version: whether it is the second.
@@ -202,22 +201,22 @@ fn read_darts(
 ) -> Result<Lines, SchemaFault>
     requires schema { IsSchema schema.now }
     requires few { count ≤ most_darts }
-    ensures reads { IfOk result (λ lines. ReadsDarts schema.now count lexer.old lexer.new lines.numbers.items lines.words.items) }
+    ensures reads { IfOk result (λ lines. ReadsDarts schema.now count lexer.old lexer.new lines.numbers.items lines.values.items) }
     ensures stops { IfErr result (Misses (darts_wants schema.now count) lexer.old) }
 {
     let embeds = schema.embeds.as_slice();
     let width = schema.dim.top() as usize + 2;
     let room = count.min(bytes / (2 * width) + 1);
     let mut numbers = Vec::with_capacity(alloc, room * width)?;
-    let mut words = Vec::with_capacity(alloc, room * line_size(embeds))?;
+    let mut values = Vec::with_capacity(alloc, room * embeds.len())?;
     // The copy stays in registers.
     let mut ahead = lexer.fork();
     for _ in 0..count {
         read_names(&mut ahead, width, &mut numbers)?;
-        read_values(&mut ahead, embeds, &mut words)?;
+        read_values(&mut ahead, embeds, &mut values)?;
     }
     *lexer = ahead;
-    Ok(Lines { numbers, words })
+    Ok(Lines { numbers, values })
 }
 
 /// Nothing but the end.
@@ -233,7 +232,7 @@ fn read_end(lexer: &mut Lexer<'_>) -> Result<(), SchemaFault>
 }
 
 fn read_all(alloc: Global, bytes: &[u8]) -> Result<Draft, SchemaFault>
-    ensures reads { IfOk result (λ draft. ReadsMap (record { text = bytes.now; place = 0 }) draft.stated draft.schema draft.numbers.items draft.words.items) }
+    ensures reads { IfOk result (λ draft. ReadsMap (record { text = bytes.now; place = 0 }) draft.stated draft.schema draft.numbers.items draft.values.items) }
     ensures stops { IfErr result (Stops start (record { text = bytes.now; place = 0 })) }
     ensures schema { IfOk result (λ draft. IsSchema draft.schema) }
     ensures next { IfOk result (λ draft. IfSome draft.stated (λ next. next ≤ most_names)) }
@@ -244,19 +243,19 @@ fn read_all(alloc: Global, bytes: &[u8]) -> Result<Draft, SchemaFault>
         schema,
         count,
     } = read_head(alloc, &mut lexer)?;
-    let Lines { numbers, words } = read_darts(alloc, &mut lexer, &schema, count, bytes.len())?;
+    let Lines { numbers, values } = read_darts(alloc, &mut lexer, &schema, count, bytes.len())?;
     read_end(&mut lexer)?;
     Ok(Draft {
         stated,
         schema,
         numbers,
-        words,
+        values,
     })
 }
 
 /// The darts that the text lists, or its first fault from left to right.
 pub(crate) fn read_text(alloc: Global, bytes: &[u8]) -> Result<Draft, SchemaFault>
-    ensures draft { IfOk result (λ draft. IsDraft bytes.now (version_in draft.stated) draft.schema draft.numbers.items draft.words.items) }
+    ensures draft { IfOk result (λ draft. IsDraft bytes.now (version_in draft.stated) draft.schema draft.numbers.items draft.values.items) }
     ensures schema { IfOk result (λ draft. IsSchema draft.schema) }
     ensures next { IfOk result (λ draft. IfSome draft.stated (λ next. next ≤ most_names)) }
     ensures fault { IfErr result (IsFaultIn bytes.now) }
@@ -341,11 +340,26 @@ pub fn read_map<L: Ledger>(
     ensures most { (version : MapVersion) (map : ListedMap) → MapText bytes.now version map → steps.new ≤ steps.old + 32 * ((map.schema.dim + 1) * (map.schema.dim + 1)) * (length map.darts + 1) }
     ensures least { IfOk result (λ read. steps.old + read.arena.count ≤ steps.new) }
 {
-    let draft = read_text(alloc, bytes)?;
-    match map_of(alloc, draft, steps) {
+    match read_map_or_why(alloc, bytes, steps) {
         Ok(read) => Ok(read),
         Err(no_map) => Err(no_map.fault),
     }
+}
+
+/// The same, with the name of the embedding whose values differ, where that is the fault.
+pub fn read_map_or_why<L: Ledger>(
+    alloc: Global,
+    bytes: &[u8],
+    steps: &mut Steps<L>,
+) -> Result<MapRead, NoMap>
+    ensures map { IfOk result (λ read. MapText bytes.now read.version (listed_of read.arena)) }
+    ensures sound { IfOk result (λ read. IsSound (as_map read.arena)) }
+    ensures fault { IfErr result (IsWhyNot bytes.now) }
+    ensures most { (version : MapVersion) (map : ListedMap) → MapText bytes.now version map → steps.new ≤ steps.old + 32 * ((map.schema.dim + 1) * (map.schema.dim + 1)) * (length map.darts + 1) }
+    ensures least { IfOk result (λ read. steps.old + read.arena.count ≤ steps.new) }
+{
+    let draft = read_text(alloc, bytes)?;
+    map_of(alloc, draft, steps)
 }
 
 /// The same, where the text is let go as soon as its darts are known, so that it is never held

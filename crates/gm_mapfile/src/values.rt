@@ -8,7 +8,6 @@ ghost use Rattle.gm_text.specs.ValueText.{is_channel};
 ghost use Rattle.gm_mapfile.specs.Words.{IsSignedNext, IsNoSignedNext};
 ghost use Rattle.gm_mapfile.specs.MapReading.{Takes, Misses, TheSign, Component, value_wants, values_wants, ReadsValues};
 
-use crate::packed::pack;
 use crate::words::{Numeral, read_number, read_sign, small_numeral};
 use gm_model::{Embed, Kind, LimitKind, TokenKind, Value};
 use gm_text::{Lexer, SchemaFault, next_token, signed_value};
@@ -188,20 +187,20 @@ fn read_value(lexer: &mut Lexer<'_>, kind: Kind) -> Result<Value, SchemaFault>
     }
 }
 
-/// The words of a value of each embedding, behind those before them.
+/// A value of each embedding, behind those before them.
 // Inlined, as `read_number` is.
 #[inline(always)]
 pub(crate) fn read_values(
     lexer: &mut Lexer<'_>,
     embeds: &[Embed],
-    words: &mut Vec<i64>,
+    values: &mut Vec<Value>,
 ) -> Result<(), SchemaFault>
-    ensures reads { OnOk result (ReadsValues embeds.now lexer.old lexer.new words.old.items words.new.items) }
+    ensures reads { OnOk result (ReadsValues embeds.now lexer.old lexer.new values.old.items values.new.items) }
     ensures stops { IfErr result (Misses (values_wants embeds.now) lexer.old) }
 {
     for embed in embeds {
         let value = read_value(lexer, embed.kind)?;
-        pack(value, words)?;
+        values.push(value)?;
     }
     Ok(())
 }

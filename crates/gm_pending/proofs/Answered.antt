@@ -93,9 +93,6 @@ module _ (m : ArenaMap) (table : RuleTable) (placed : Placed) (answers : List (O
   pub decided_within : e < length answers
   decided_within = asked_within m table placed answers e (some_decider _ k low)
 
-  pub never_unanswered : slice_get answers e ≡ Some None → ⊥
-  never_unanswered there = false≢true (subst IsSome (unanswered_at answers e there) (some_decider _ k low))
-
   pub decider_within : (orbits : DecidedOrbits) → slice_get answers e ≡ Some (Some orbits) → k < length orbits.instances.items
   decider_within orbits there = subst (λ o. k < length (unwrap_or o [])) (answered_at answers e orbits there) low
 

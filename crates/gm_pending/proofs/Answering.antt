@@ -1,8 +1,7 @@
 -- What is pending after one more embedding was asked for, or a value was given.
-use Rattle.std.proofs.Common.{◌≡◌, ℕ, zero, suc, ◌<◌, ◌⊎◌, List, [], ◌∷◌, ◌++◌, take, drop, length, set, get_or, Contains, Option, Some, None, slice_get, refl, sym, ◌∙◌, ap, subst, inl, inr, arith}
+use Rattle.std.proofs.Common.{◌≡◌, ℕ, zero, suc, ◌<◌, ◌⊎◌, List, [], ◌∷◌, length, set, get_or, Contains, Option, Some, None, slice_get, refl, sym, ◌∙◌, ap, subst, inl, inr, arith}
 use Rattle.std.proofs.lemmas.Bool.{cases_eq}
 use Rattle.std.proofs.lemmas.Option.{slice_get-get_or}
-use Rattle.std.specs.List.{refill}
 use Rattle.std.specs.Prelude.{unwrap_or}
 use Rattle.std.proofs.lemmas.List.{map-set, length-map, length-set, get_or-set_same, get_or-set_other}
 use Rattle.gm_model.specs.declared.schema.Embed.{Embed}
@@ -32,14 +31,6 @@ module _ {A : Type 0} where
   set_elsewhere (y ∷ xs) zero (suc j) x h = refl
   set_elsewhere (y ∷ xs) (suc k) zero x h = refl
   set_elsewhere (y ∷ xs) (suc k) (suc j) x h = set_elsewhere xs k j x (λ e. h (ap suc e))
-
-take_front : {A : Type 0} (xs ys : List A) → take (length xs) (xs ++ ys) ≡ xs
-take_front [] ys = refl
-take_front (x ∷ xs) ys = ap (λ rest. x ∷ rest) (take_front xs ys)
-
--- a list of as many elements replaces them all
-pub refilled : {A : Type 0} (xs ws : List A) → length ws ≡ length xs → refill (length xs) xs ws ≡ ws
-refilled xs ws e = ap (λ n. take n (ws ++ drop (length ws) xs)) (sym e) ∙ take_front ws (drop (length ws) xs)
 
 -- an element of a list that was read is there
 pub read_there : {A : Type 0} (xs ys : List A) (k : ℕ) (x : A) → x ≡ get_or xs k x → xs ≡ ys → k < length ys → slice_get ys k ≡ Some x

@@ -18,7 +18,7 @@ use Rattle.gm_arena.specs.declared.slot.Slot.{Slot}
 use Rattle.gm_arena.specs.ArenaAsMap.{as_map, value}
 use Rattle.gm_arena.specs.ArenaMap.{ArenaMap, Dart, IsAt, IsLiveName, name_at, alpha}
 use Rattle.gm_arena.specs.Edits.{IsAlone}
-use Rattle.gm_arena.specs.Inside.{part_of}
+use Rattle.gm_arena.specs.Parts.{part_of}
 use Rattle.gm_arena.proofs.InsideLemmas.{is_some_at, part_long, some_from_map}
 use Rattle.gm_arena.proofs.ValueLemmas.{length-values}
 use Rattle.gm_arena.proofs.MapLemmas.{name_at-is, IsAt-name_at, IsLiveName-name_at, name_below, alpha-alike}

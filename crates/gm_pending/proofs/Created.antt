@@ -1,11 +1,10 @@
 -- The match of a rule without left nodes: one position, and no slots.
-use Rattle.std.proofs.Common.{◌≡◌, ℕ, ◌<◌, List, [], ◌∷◌, length, false, not, IsTrue, ◌⊎◌, is_some, refl, sym, ◌∙◌, inl, inr, arith}
+use Rattle.std.proofs.Common.{◌≡◌, ℕ, ◌<◌, List, [], ◌∷◌, length, IsTrue, is_some, refl, sym, ◌∙◌, arith}
 use Rattle.std.specs.FinMap.{get, get-empty}
 use Rattle.std.proofs.lemmas.Bool.{false≢true}
-use Rattle.gm_model.specs.declared.rule.Side.TheVariants.{Left, Right}
+use Rattle.gm_model.specs.declared.rule.Side.TheVariants.{Left}
 use Rattle.gm_model.specs.Matches.{Created}
-use Rattle.gm_model.specs.Rules.{Rule, has_word, is_added}
-use Rattle.gm_model.specs.Structure.{IsInRange}
+use Rattle.gm_model.specs.Rules.{Rule, has_word}
 use Rattle.gm_model.specs.declared.schema.Schema.{Schema}
 use Rattle.gm_model.specs.Maps.{IsGeneralised}
 use Rattle.gm_arena.specs.ArenaAsMap.{as_map}
@@ -15,7 +14,6 @@ use Rattle.gm_plan.specs.InArena.{AreMatched}
 use Rattle.gm_plan.specs.Placed.{Placed}
 use Rattle.gm_plan.specs.Plans.{IsLeftCount}
 use Rattle.gm_theory.proofs.Lists.{none_some}
-use Rattle.gm_theory.proofs.Tests.{and_true, true_or_false, true_not, not_both}
 use Rattle.gm_theory.proofs.Turns.{no_places}
 
 no_length : (xs : List ℕ) → length xs ≡ 0 → xs ≡ []
@@ -46,15 +44,6 @@ created m rule placed none hooks nodes one places = record {
 
     not_left : (x : ℕ) → IsTrue (has_word rule Left x) → ⊥
     not_left x l = let h : x < 0 = (none x).0 l in omega arith
-
--- each node of such a rule is added
-pub all_added : (schema : Schema) (rule : Rule) (x : ℕ) → IsInRange schema rule → IsLeftCount rule 0 → x < length rule.nodes → IsTrue (is_added rule x)
-all_added schema rule x in_range none h = go (true_or_false (has_word rule Left x)) (in_range.some_word x h)
-  where
-    go : IsTrue (has_word rule Left x) ⊎ (has_word rule Left x ≡ false) → IsTrue (has_word rule Left x) ⊎ IsTrue (has_word rule Right x) → IsTrue (is_added rule x)
-    go (inl l) some = absurd (let k : x < 0 = (none x).0 l in omega arith)
-    go (inr a) (inl l) = not_both (has_word rule Left x) l a
-    go (inr a) (inr r) = and_true (not (has_word rule Left x)) (has_word rule Right x) (true_not (has_word rule Left x) a) r
 
 -- a map without darts is a generalised map
 pub empty_generalised : (m : ArenaMap) (schema : Schema) → m ≡ empty_map schema → IsGeneralised (as_map m)

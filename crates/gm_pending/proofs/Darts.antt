@@ -1,15 +1,13 @@
 -- Slots and instances of an application: which dart of the result a slot, or an instance of a right node, is.
-use Rattle.std.proofs.Common.{◌≡◌, ◌≢◌, ℕ, ◌+◌, ◌*◌, ◌<◌, ◌≤◌, ◌⊎◌, not, false, IsTrue, Some, refl, sym, ap, ◌∙◌, subst, inl, inr, arith}
+use Rattle.std.proofs.Common.{◌≡◌, ◌≢◌, ℕ, ◌<◌, ◌≤◌, ◌⊎◌, not, false, IsTrue, refl, sym, ap, ◌∙◌, subst, inl, inr, arith}
 use Rattle.std.proofs.lemmas.Bool.{cases_lt}
 use Rattle.gm_model.specs.declared.rule.Side.TheVariants.{Left, Right}
 use Rattle.gm_model.specs.Rules.{Rule, has_word}
 use Rattle.gm_model.specs.Unfolding.{IsDartAfter, IsGone, IsMadeArc, IsArcAfter}
-use Rattle.gm_arena.specs.declared.slot.Slot.{Slot}
 use Rattle.gm_arena.specs.ArenaMap.{IsAt, IsLiveSlot, name_at, alpha}
 use Rattle.gm_arena.proofs.InsideLemmas.{is_some_at}
 use Rattle.gm_arena.proofs.MapLemmas.{name_at-is, IsAt-name_at, IsLiveName-name_at}
 use Rattle.gm_plan.specs.InArena.{slot_number}
-use Rattle.gm_plan.specs.Placed.{Placed}
 use Rattle.gm_plan.specs.Plans.{IsLeftCount}
 use Rattle.gm_theory.proofs.Arcs.{kept_name, right_dart, arc_to}
 use Rattle.gm_theory.proofs.Scenes.{IsRightAt}

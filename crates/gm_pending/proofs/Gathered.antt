@@ -1,9 +1,9 @@
 -- The new values of old darts, gathered embedding by embedding and dart by dart.
-use Rattle.std.proofs.Common.{◌≡◌, ℕ, ◌+◌, ◌<◌, ◌≤◌, ◌⊎◌, List, [], ◌∷◌, ◌++◌, length, take, drop, get_or, Some, slice_get, refl, sym, ap, ◌∙◌, subst, inl, inr, arith}
+use Rattle.std.proofs.Common.{◌≡◌, ℕ, ◌+◌, ◌<◌, ◌≤◌, ◌⊎◌, List, [], ◌∷◌, ◌++◌, length, take, get_or, Some, slice_get, refl, sym, ap, ◌∙◌, subst, inl, inr, arith}
 use Rattle.std.specs.List.{Contains, sum}
 use Rattle.std.proofs.lemmas.Bool.{cases_eq}
-use Rattle.std.proofs.lemmas.List.{length_push, take_all, take-append-drop}
-use Rattle.std.proofs.lemmas.List.Sums.{sum_by_more, sum_by-append}
+use Rattle.std.proofs.lemmas.List.{length_push, take_all}
+use Rattle.std.proofs.lemmas.List.Sums.{sum_by_more}
 use Rattle.std.proofs.lemmas.Option.{same_Some, slice_get-get_or, slice_get_cases, slice_get_within}
 use Rattle.gm_model.specs.declared.schema.Embed.{Embed}
 use Rattle.gm_model.specs.declared.value.Value.{Value}
@@ -175,9 +175,6 @@ module _ (app : PendingOf) (e : ℕ) (reached : List Mark) (are : AreAllReached 
 
 pub sum_more : (xs : List ℕ) (k : ℕ) → k < length xs → sum (take (k + 1) xs) ≡ sum (take k xs) + get_or xs k 0
 sum_more xs k h = sum_by_more (λ x. x) xs k 0 h
-
-pub sum_front : (xs : List ℕ) (k : ℕ) → sum (take k xs) ≤ sum xs
-sum_front xs k = omega (arith, ap sum (take-append-drop k xs), sum_by-append (λ x. x) (take k xs) (drop k xs))
 
 module _ (app : PendingOf) where
   -- how many darts an embedding reaches, of a sum over all

@@ -12,7 +12,7 @@ use Rattle.gm_model.specs.NewValues.{IsValueAfter, Decided, Kept, Added}
 use Rattle.gm_model.specs.Rules.{has_word}
 use Rattle.gm_model.specs.Values.{kind_of, IsValueOf}
 use Rattle.gm_arena.specs.ArenaAsMap.{as_map}
-use Rattle.gm_arena.specs.Inside.{part_of}
+use Rattle.gm_arena.specs.Parts.{part_of}
 use Rattle.gm_arena.specs.Lawful.{AreGoodValues}
 use Rattle.gm_arena.proofs.InsideLemmas.{part_long}
 use Rattle.gm_theory.proofs.Keeps.{rules_keep_generalised_maps}

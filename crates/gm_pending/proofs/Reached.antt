@@ -1,5 +1,5 @@
 -- One more reached dart.
-use Rattle.std.proofs.Common.{◌≡◌, ◌≢◌, ℕ, zero, suc, ◌*◌, ◌%◌, ◌^◌, ◌<◌, ◌⊎◌, bit_or, w64, Bool, true, false, List, [], ◌∷◌, ◌++◌, length, take, get_or, Option, Some, None, is_some, not, slice_get, MatchOption, Contains, refl, sym, ◌∙◌, ap, subst, inl, inr, arith}
+use Rattle.std.proofs.Common.{◌≡◌, ◌≢◌, ℕ, zero, suc, ◌*◌, ◌%◌, ◌^◌, ◌<◌, ◌⊎◌, bit_or, w64, true, false, List, [], ◌∷◌, ◌++◌, length, take, get_or, Option, Some, None, is_some, slice_get, MatchOption, Contains, refl, sym, ◌∙◌, ap, subst, inl, inr, arith}
 use Rattle.std.specs.Prelude.{Result, Ok, Err, OnOk, OnErr}
 use Rattle.std.specs.Int.{bit_at}
 use Rattle.std.specs.Option.{option_map}
@@ -10,9 +10,8 @@ use Rattle.gm_theory.proofs.Lists.{some_same, none_some, contained_at, get_conta
 use Rattle.gm_pending.specs.declared.marks.Mark.{Mark}
 use Rattle.gm_pending.specs.declared.at.At.{At}
 use Rattle.gm_plan.specs.Indices.{AreTheSame, IsOneMore}
-use Rattle.gm_pending.specs.Marks.{ByKey, bit_of, reached_by, HasKey, AreMarked, AreSeen, IsIndex, IsMarkedBy, IsMarkedMore, IsPut, HasDistinctKeys}
+use Rattle.gm_pending.specs.Marks.{ByKey, bit_of, reached_by, HasKey, AreMarked, AreSeen, IsIndex, IsMarkedBy, IsMarkedMore, HasDistinctKeys}
 use Rattle.gm_pending.specs.Keys.{key_of}
-use Rattle.gm_pending.proofs.Whole.{contains_none}
 
 -- ---- a list with one more element
 
@@ -69,9 +68,6 @@ fresh_key reached i d distinct within (entry, among, same) =
 
 -- ---- what is kept of a dart
 
-pub none_indexed : (by_key : ByKey) → ((key : ℕ) → by_key key ≡ None) → IsIndex [] by_key
-none_indexed by_key none = record { marked = λ entry c. absurd (contains_none entry c); only = λ key k e. none_some k (sym (none key) ∙ e) }
-
 -- an element and the others
 module _ (reached : List Mark) (old new : ByKey) (kept : IsIndex reached old) (entry : Mark) (absent : HasKey reached (key_of entry.at) → ⊥) (put : IsOneMore old new (key_of entry.at) entry.instance) where
   here : new (key_of entry.at) ≡ Some entry.instance
@@ -112,11 +108,15 @@ pub put_fresh : (reached : List Mark) (old new : ByKey) → IsIndex reached old 
 put_fresh reached old new kept entry None was put absent = indexed_more reached old new kept entry absent put
 put_fresh reached old new kept entry (Some j) was put absent = absurd (let m : IsMarkedBy reached (key_of entry.at) j = kept.only (key_of entry.at) j (sym was) in absent (m.0, m.1, m.2))
 
-pub put_any : (reached : List Mark) (old new : ByKey) → IsIndex reached old → (entry : Mark) (had : Option ℕ) (is_new : Bool) → is_some had ≡ not is_new → had ≡ old (key_of entry.at) → WasPut old new entry had → IsPut reached entry is_new new
-put_any reached old new kept entry None false told was put = absurd (false≢true told)
-put_any reached old new kept entry (Some j) true told was put = absurd (false≢true (sym told))
-put_any reached old new kept entry (Some j) false told was put = let m : IsMarkedBy reached (key_of entry.at) j = kept.only (key_of entry.at) j (sym was) in inr (refl, (m.0, m.1, m.2), indexed_still reached old new kept put)
-put_any reached old new kept entry None true told was put = inl (refl, none, indexed_more reached old new kept entry none put)
+-- a dart was put that was there: the index is as it was
+pub put_again : (reached : List Mark) (old new : ByKey) → IsIndex reached old → (entry : Mark) (had : Option ℕ) → is_some had ≡ true → had ≡ old (key_of entry.at) → WasPut old new entry had → HasKey reached (key_of entry.at) × IsIndex reached new
+put_again reached old new kept entry None again was put = absurd (false≢true again)
+put_again reached old new kept entry (Some j) again was put = let m : IsMarkedBy reached (key_of entry.at) j = kept.only (key_of entry.at) j (sym was) in ((m.0, m.1, m.2), indexed_still reached old new kept put)
+
+-- a dart was put that is new
+pub put_new : (reached : List Mark) (old new : ByKey) → IsIndex reached old → (entry : Mark) (had : Option ℕ) → is_some had ≡ false → had ≡ old (key_of entry.at) → WasPut old new entry had → (HasKey reached (key_of entry.at) → ⊥) × IsIndex (reached ++ entry ∷ []) new
+put_new reached old new kept entry (Some j) fresh was put = absurd (false≢true (sym fresh))
+put_new reached old new kept entry None fresh was put = (none, indexed_more reached old new kept entry none put)
   where
     none : HasKey reached (key_of entry.at) → ⊥
     none (other, c, same) = none_some other.instance (was ∙ ap old (sym same) ∙ kept.marked other c)
@@ -167,11 +167,6 @@ indexed_at reached by_key index key None e = none
   where
     none : HasKey reached key → ⊥
     none (entry, c, same) = none_some entry.instance (e ∙ ap by_key (sym same) ∙ index.marked entry c)
-
--- a dart that is new in an index
-pub put_new : (reached : List Mark) (entry : Mark) (new : Bool) (by_key : ByKey) → IsPut reached entry new by_key → new ≡ true → (HasKey reached (key_of entry.at) → ⊥) × IsIndex (reached ++ entry ∷ []) by_key
-put_new reached entry new by_key (inl (is, absent, index)) yes_new = (absent, index)
-put_new reached entry new by_key (inr (is, there, index)) yes_new = absurd (false≢true (sym is ∙ yes_new))
 
 -- one more dart, where there is no index
 pub marked_few : {E B : Type 0} (view : B → ByKey) (before after : List Mark) (by_key : Option B) (bits : ℕ) (entry : Mark) (pushed : Result Unit E) → is_some by_key ≡ false → AreMarked before (option_map view by_key) bits → (HasKey before (key_of entry.at) → ⊥) → OnOk pushed (after ≡ before ++ entry ∷ []) → OnErr pushed (after ≡ before) → AreMarked after (option_map view by_key) (with_bit bits (key_of entry.at))

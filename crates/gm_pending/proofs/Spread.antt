@@ -108,13 +108,6 @@ module _ (app : PendingOf) (prepared : IsPrepared app) where
     pub orbit_step : (d c i : ℕ) → IsInOrbit result.alpha (type_of embed) d c → IsTrue (type_of embed i) → IsInOrbit result.alpha (type_of embed) d (result.alpha i c)
     orbit_step d c i orbit t = orbit_through result.alpha (type_of embed) d c (result.alpha i c) orbit (i ∷ [], (t, tt), refl)
 
-    pub orbit_live : (d c : ℕ) → IsDartOf result d → IsInOrbit result.alpha (type_of embed) d c → IsDartOf result c
-    orbit_live d c live (path, all, f) = go path d live all f
-      where
-        go : (path : List ℕ) (d : ℕ) → IsDartOf result d → IsPathIn (type_of embed) path → follow result.alpha path d ≡ c → IsDartOf result c
-        go [] d live all f = subst (IsDartOf result) f live
-        go (i ∷ path) d live all f = go path (result.alpha i d) (after_map.stays d i live (label_within i all.0)) all.1 f
-
     -- a closed list of marks has the same index all over an orbit
     pub closed_along : (reached : List Mark) (d c k : ℕ) → IsClosed app embed result reached → HasMark app reached d k → IsInOrbit result.alpha (type_of embed) d c → HasMark app reached c k
     closed_along reached d c k closed mark (path, all, f) = go path d mark all f

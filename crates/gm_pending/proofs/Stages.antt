@@ -8,7 +8,7 @@ use Rattle.gm_model.specs.Maps.{IsDart, IsGeneralised}
 use Rattle.gm_arena.specs.declared.slot.Slot.{Slot}
 use Rattle.gm_arena.specs.ArenaAsMap.{as_map}
 use Rattle.gm_arena.specs.ArenaMap.{ArenaMap, alpha}
-use Rattle.gm_arena.specs.Inside.{part_of}
+use Rattle.gm_arena.specs.Parts.{part_of}
 use Rattle.gm_arena.specs.Lawful.{AreGoodValues}
 use Rattle.gm_theory.proofs.Results.{unfolding_generalised}
 use Rattle.gm_pending.specs.Arcs.{Arc}

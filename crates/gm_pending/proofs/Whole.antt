@@ -1,5 +1,5 @@
 -- Arenas whose darts have a neighbour for each label stay so, and elements of a list with one more.
-use Rattle.std.proofs.Common.{◌≡◌, ℕ, zero, suc, ◌+◌, ◌<◌, ◌≤◌, ◌⊎◌, List, [], ◌∷◌, length, get_or, drop, add-one, drop-cons, Option, Some, None, is_some, refl, sym, ap, ◌∙◌, subst, inl, inr, arith}
+use Rattle.std.proofs.Common.{◌≡◌, ℕ, zero, suc, ◌+◌, ◌<◌, ◌≤◌, ◌⊎◌, List, [], ◌∷◌, length, get_or, Option, Some, None, is_some, refl, sym, ap, ◌∙◌, subst, inl, inr, arith}
 use Rattle.std.specs.FinMap.{get}
 use Rattle.std.specs.List.{Contains}
 use Rattle.std.specs.Option.{option_map, option_map_or}
@@ -32,10 +32,6 @@ module _ {A : Type 0} where
 module _ {A : Type 0} where
   pub contains_at : (xs : List A) (i : ℕ) (d : A) → i < length xs → Contains xs (get_or xs i d)
   contains_at xs i d h = (i, h, get_or_default xs i (get_or xs i d) d h)
-
-  -- the front of what remains, and the rest
-  pub drop_next : (xs : List A) (i : ℕ) (d : A) → i < length xs → drop i xs ≡ get_or xs i d ∷ drop (i + 1) xs
-  drop_next xs i d h = rw (add-one, drop-cons xs i d)
 
 -- ---- darts with a neighbour for each label
 

@@ -1,5 +1,5 @@
 -- How reached darts are kept. No public clause cites this module.
-use Rattle.std.specs.Prelude.{◌≡◌, ◌≢◌, ℕ, ◌+◌, ◌*◌, ◌/◌, ◌%◌, ◌<◌, ◌⊎◌, List, [], ◌∷◌, ◌++◌, Bool, true, false, Option, Some, IfSome, slice_get}
+use Rattle.std.specs.Prelude.{◌≡◌, ◌≢◌, ℕ, ◌+◌, ◌/◌, ◌%◌, ◌<◌, ◌⊎◌, List, [], ◌∷◌, ◌++◌, Option, Some, IfSome, slice_get}
 use Rattle.std.specs.Int.{bit_at}
 use Rattle.std.specs.List.{Contains}
 use Rattle.gm_pending.specs.declared.at.At.{At}
@@ -37,10 +37,6 @@ HasDistinctKeys reached = (k l : ℕ) (a b : Mark) → k < l → slice_get reach
 pub record IsIndex (reached : List Mark) (by_key : ByKey) : Type 0 where
   pub marked : (entry : Mark) → Contains reached entry → by_key (key_of entry.at) ≡ Some entry.instance
   pub only : (key k : ℕ) → by_key key ≡ Some k → IsMarkedBy reached key k
-
--- one more dart has its index there, which is new; or it is as it was, and the dart is there
-abbrev pub IsPut : List Mark → Mark → Bool → ByKey → Type 0
-IsPut reached entry new by_key = ((new ≡ true) × (HasKey reached (key_of entry.at) → ⊥) × IsIndex (reached ++ entry ∷ []) by_key) ⊎ ((new ≡ false) × HasKey reached (key_of entry.at) × IsIndex reached by_key)
 
 -- the bit of each dart is set
 abbrev pub AreSeen : List Mark → ℕ → Type 0

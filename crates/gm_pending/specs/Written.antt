@@ -8,7 +8,7 @@ use Rattle.gm_model.specs.Maps.{IsEmbedAt}
 use Rattle.gm_model.specs.Values.{IsValueOf}
 use Rattle.gm_arena.specs.declared.slot.Slot.{Slot}
 use Rattle.gm_arena.specs.ArenaMap.{ArenaMap, Dart, IsAt, IsLiveSlot, IsLiveName, name_at}
-use Rattle.gm_arena.specs.Inside.{part_of}
+use Rattle.gm_arena.specs.Parts.{part_of}
 use Rattle.gm_arena.specs.Edits.{IsAlone, with_alpha, with_value, without_dart}
 use Rattle.gm_pending.specs.Arcs.{Arc}
 use Rattle.gm_pending.specs.Arcs.{End}

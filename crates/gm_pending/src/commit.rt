@@ -6,7 +6,7 @@ ghost use Rattle.std.specs.Vec.{vec_capacity};
 ghost use Rattle.gm_model.specs.declared.step.Step.TheVariants.{Imp};
 ghost use Rattle.gm_model.specs.Maps.{IsGeneralised};
 ghost use Rattle.gm_arena.specs.ArenaAsMap.{as_map};
-ghost use Rattle.gm_arena.specs.Inside.{part_of};
+ghost use Rattle.gm_arena.specs.Parts.{part_of};
 ghost use Rattle.gm_arena.specs.Lawful.{AreGoodValues};
 ghost use Rattle.gm_plan.specs.Placed.{turn_at};
 ghost use Rattle.gm_pending.specs.Arcs.{Arc};

@@ -1,5 +1,5 @@
 //! What is found for each embedding that is asked for: its deciding instances, and the darts that they reach.
-ghost use Rattle.std.specs.Prelude.{◌≡◌, ◌<◌, length, replicate, slice_set, Some, None, IfOk};
+ghost use Rattle.std.specs.Prelude.{◌≡◌, replicate, None, IfOk};
 
 use crate::deciding_instance::DecidingInstance;
 use crate::marks::Marks;
@@ -32,12 +32,4 @@ pub(crate) fn no_orbits(alloc: Global, embeds: usize) -> Result<OrbitsByEmbed, O
         orbits.push(None)?;
     }
     Ok(orbits)
-}
-
-/// Keeps the orbits of an embedding.
-pub(crate) fn put_orbits(by_embed: &mut OrbitsByEmbed, embed: u8, orbits: DecidedOrbits)
-    requires { embed < length by_embed.old.items }
-    ensures { by_embed.new.items ≡ slice_set by_embed.old.items embed (Some orbits) }
-{
-    by_embed[embed as usize] = Some(orbits);
 }

@@ -16,7 +16,7 @@ ghost use Rattle.gm_pending.specs.Pairs.{IsPair};
 ghost use Rattle.gm_pending.specs.Reached.{AreReached, AreResultDarts, AreSomeReached, IsClosed, IsGrown, IsSpreadTo, IsFollowedTo, IsFollowed, IsFollowedAlong, IsGrownAlong, IsDecidedUpTo, IsAlwaysOneOrbit, IsUnmarked, AreMarkedTo, ungiven};
 ghost use Rattle.gm_pending.specs.Results.{IsPrepared, AreDecidingInstances, IsAsked, IsResultDart, IsUnfoldedIn, IsWithinReach, instances_of, with_instances, name_of, rule_in};
 
-use crate::decided_orbits::{DecidedOrbits, DecidingInstances, put_orbits};
+use crate::decided_orbits::{DecidedOrbits, DecidingInstances};
 use crate::deciding_instance::DecidingInstance;
 use crate::marks::{Mark, Marks};
 use crate::packed::PackedAt;
@@ -50,7 +50,7 @@ impl Pending<'_, '_> {
         self.look_up(embed)?;
         let orbits = self.decide(embed, steps)?;
         let count = orbits.instances.len() as u32;
-        put_orbits(&mut self.orbits, embed, orbits);
+        self.orbits[embed as usize] = Some(orbits);
         Ok(count)
     }
 

@@ -1,7 +1,8 @@
 //! The darts of a result that are reached from deciding instances.
 ghost use Rattle.std.specs.Prelude.{◌≡◌, List, ◌∷◌, ◌++◌, ◌<◌, [], length, slice_get, Some, MatchOption, ◌↔◌, IsTrue, IfOk, IfSome, OnOk, OnErr};
+ghost use Rattle.std.specs.Vec.{vec_capacity};
 ghost use Rattle.gm_pending.specs.declared.marks.Mark.{Mark};
-ghost use Rattle.gm_pending.specs.Marks.{bit_of, reached_by, HasKey, IsIndex, IsMarkedBy, IsMarkedMore, IsPut, HasDistinctKeys};
+ghost use Rattle.gm_pending.specs.Marks.{bit_of, reached_by, HasKey, IsIndex, IsMarkedBy, IsMarkedMore, HasDistinctKeys};
 ghost use Rattle.gm_plan.specs.Indices.{index_at};
 ghost use Rattle.gm_pending.specs.Keys.{key_of};
 
@@ -188,16 +189,16 @@ impl Marks {
         ensures distinct { HasDistinctKeys self.old }
     {
         self.reached.reserve(1)?;
-        let index = index(
+        let mut index = index(
             self.alloc,
             self.index.take(),
             &self.reached,
             self.room,
             self.slots,
         )?;
-        let (index, is_new) = put(index, &self.reached, Mark { at, instance, over })?;
+        let had = index.put(at.key(), instance)?;
         self.index = Some(index);
-        if !is_new {
+        if had.is_some() {
             return Ok(false);
         }
         self.bits |= 1 << bit(at.key());
@@ -213,10 +214,21 @@ pub(crate) fn push<T: Copy>(entries: &mut Vec<T>, entry: T, room: usize) -> Resu
     ensures err { OnErr result (entries.new.items ≡ entries.old.items) }
 {
     if entries.len() >= entries.capacity() {
-        entries.reserve(room.max(1))?;
+        make_room(entries, room)?;
     }
     entries.push_reserved(entry);
     Ok(())
+}
+
+/// Makes room for so many more entries, and for one at least.
+// Cold and on its own, so that `push` stays a test and a write where darts are walked.
+#[cold]
+#[inline(never)]
+fn make_room<T>(entries: &mut Vec<T>, room: usize) -> Result<(), OutOfMemory>
+    ensures items { entries.new.items ≡ entries.old.items }
+    ensures room { OnOk result (length entries.new.items < vec_capacity entries.new) }
+{
+    Ok(entries.reserve(room.max(1))?)
 }
 
 /// The index of the deciding instance of each dart: the one that there is, or a new one with room for
@@ -240,19 +252,6 @@ fn index(
         index.put(entry.at.key(), entry.instance)?;
     }
     Ok(Box::new(alloc, index)?)
-}
-
-/// The index with one more dart, and whether it is new there. A dart that isn't keeps its instance.
-fn put(
-    mut index: Box<Index>,
-    reached: &[Mark],
-    entry: Mark,
-) -> Result<(Box<Index>, bool), OutOfMemory>
-    requires index { IsIndex reached.now (index_at index.value) }
-    ensures { IfOk result (λ put. IsPut reached.now entry put.1 (index_at put.0.value)) }
-{
-    let had = index.put(entry.at.key(), entry.instance)?;
-    Ok((index, had.is_none()))
 }
 
 /// The index of the deciding instance of the dart with this key. It begins with the last dart, since

@@ -70,15 +70,6 @@ impl PackedAt {
         }
     }
 
-    /// The node and the position of a new dart.
-    #[inline(always)]
-    pub(crate) fn instance(self) -> (u8, u32)
-        requires { is_old self ≡ false }
-        ensures { self ≡ New result.0 result.1 }
-    {
-        ((self.key / 2 % 32) as u8, (self.key / 64) as u32)
-    }
-
     /// The dart as callers see it.
     #[inline(always)]
     pub(crate) fn unpack(self) -> At
@@ -87,8 +78,10 @@ impl PackedAt {
         if self.is_old() {
             return At::Old(self.slot());
         }
-        let (node, position) = self.instance();
-        At::New { node, position }
+        At::New {
+            node: (self.key / 2 % 32) as u8,
+            position: (self.key / 64) as u32,
+        }
     }
 
     /// The number.

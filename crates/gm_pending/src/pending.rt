@@ -171,10 +171,10 @@ impl<'a, 'm> Pending<'a, 'm> {
             ((x p : ℕ) → IsRightInstance self.now x p → name_of self.now at ≢ (scene_in self.now).name_of x p)
             (λ i. IsRightInstance self.now i.0 i.1 × (name_of self.now at ≡ (scene_in self.now).name_of i.0 i.1)) }
     {
-        if at.is_old() {
-            return self.left_instance(at.slot());
+        match at.unpack() {
+            At::Old(slot) => self.left_instance(slot),
+            At::New { node, position } => Some((node, position)),
         }
-        Some(at.instance())
     }
 
     /// The left node and the position that lie at the slot; none where no instance does.

@@ -3,7 +3,7 @@ use Rattle.std.proofs.Common.{◌≡◌, ℕ, ◌+◌, ◌*◌, ◌%◌, ◌^◌
 use mir.Val.{bits}
 use Rattle.std.specs.Int.{Width, bit_at}
 use Rattle.std.proofs.lemmas.Bool.{cases_eq, eq-eqb, false≢true}
-use Rattle.std.proofs.lemmas.Nat.Bits.{bit_at-zero, bit_at_set_same, bit_at_set_other}
+use Rattle.std.proofs.lemmas.Nat.Bits.{bit_at_set_same, bit_at_set_other}
 use Rattle.gm_plan.specs.Changes.{has_bit}
 
 -- of the first numbers, so many of them, those that are out have no bit, and no later number has one
@@ -18,9 +18,6 @@ same_tests true false same = same.1 refl
 same_tests false b same = sym (same.0 refl)
 
 module _ (IsOut : ℕ → Type 0) where
-  pub none_told : AreTold IsOut 0 0
-  none_told = record { told = λ x h. absurd (omega arith); unset = λ x h. bit_at-zero x }
-
   module _ (count set : ℕ) (old : AreTold IsOut count set) where
     -- one more number that is out
     pub one_out : IsOut count → AreTold IsOut (count + 1) set

@@ -82,13 +82,6 @@ first_bad IsGood decide count = go (least_below (λ x. IsGood x → ⊥) (λ x. 
     go (inl (x, b, (fails, before))) = inr (x, record { within = b; fails = fails; before = λ y h. stable (decide y) (before y h) })
     go (inr none) = inl (λ x b. stable (decide x) (none x b))
 
-pub decide_good : (IsGood : ℕ → Type 0) → ((x : ℕ) → IsDecided (IsGood x)) → (count : ℕ) → IsDecided (AreGood IsGood count)
-decide_good IsGood decide count = go (first_bad IsGood decide count)
-  where
-    go : AreGood IsGood count ⊎ ((bad : ℕ) × IsFirstBad IsGood count bad) → IsDecided (AreGood IsGood count)
-    go (inl all) = inl all
-    go (inr (bad, first)) = inr (λ all. first.fails (all bad first.within))
-
 -- the least of all, where they lie below a bound
 pub least_of_all : (P : ℕ → Type 0) → ((x : ℕ) → IsDecided (P x)) → (count : ℕ) → ((x : ℕ) → P x → x < count) → ((x : ℕ) × IsLeast P x) ⊎ ((x : ℕ) → P x → ⊥)
 least_of_all P decide count below = go (least_below P decide count)

@@ -8,7 +8,7 @@ use Rattle.gm_arena.specs.declared.slot.Slot.{Slot}
 use Rattle.gm_model.specs.Orbits.{IsPairBefore}
 use Rattle.gm_plan.specs.InArena.{slot_number}
 use Rattle.gm_plan.specs.Placed.{Placed, slot_at}
-use Rattle.gm_theory.proofs.Lists.{some_same, none_some}
+use Rattle.gm_theory.proofs.Lists.{some_same}
 use Rattle.gm_plan.specs.Lookup.{BySlot, IsWithin, IsAtSlot, IsLookupUpTo, IsLookup}
 use Rattle.gm_plan.proofs.Indices.{other_key}
 
@@ -17,16 +17,6 @@ pub slot_answered : (placed : Placed) (x p : ℕ) (slot : Slot) → slot_at plac
 slot_answered placed x p slot e = ap (λ (s : Slot). s.at) (get_or_from_slice_get placed.slots (p * placed.nodes + x) slot (record { at = 0 }) e)
 
 module _ (placed : Placed) where
-  pub nothing_looked_up : (instances : BySlot) → ((slot : ℕ) → get nat_eq instances slot ≡ None) → IsLookupUpTo placed instances 0 0
-  nothing_looked_up instances none = record {
-    there = λ slot i e. none_some i (sym (none slot) ∙ e);
-    all = λ y q within before. absurd (first y q before);
-  }
-    where
-      first : (y q : ℕ) → IsPairBefore y q 0 0 → ⊥
-      first y q (inl h) = omega arith
-      first y q (inr h) = omega (arith, h.1)
-
   pub looked_up_more : (old new : BySlot) (x p slot : ℕ) → IsWithin placed x p → slot_number placed x p ≡ slot → Updates nat_eq old new slot (Some (x, p)) → IsLookupUpTo placed old x p → IsLookupUpTo placed new x (p + 1)
   looked_up_more old new x p slot within lies put so_far = record {
     there = λ s i e. there s i e (cases_eq s slot);
@@ -50,16 +40,6 @@ module _ (placed : Placed) where
               side : (q ≡ p) ⊎ (q ≡ p → ⊥) → q < p
               side (inl e) = absurd (apart (ap (slot_number placed y) e ∙ ap (λ z. slot_number placed z p) h.0 ∙ lies))
               side (inr e) = omega (arith, h.1)
-
-  pub node_looked_up : (instances : BySlot) (x : ℕ) → IsLookupUpTo placed instances x placed.positions → IsLookupUpTo placed instances (x + 1) 0
-  node_looked_up instances x so_far = record { there = so_far.there; all = λ y q w before. so_far.all y q w (go y q w before) }
-    where
-      go : (y q : ℕ) → IsWithin placed y q → IsPairBefore y q (x + 1) 0 → IsPairBefore y q x placed.positions
-      go y q w (inr h) = absurd (omega (arith, h.1))
-      go y q w (inl h) = elim (cases_eq y x) [
-        | inl same ↦ inr (same, w.1)
-        | inr other ↦ inl (omega arith)
-      ]
 
   pub looked_up : (instances : BySlot) (slot : ℕ) → IsLookup placed instances → (o : Option (ℕ × ℕ)) → o ≡ get nat_eq instances slot → MatchOption o ((x p : ℕ) → IsWithin placed x p → slot_number placed x p ≢ slot) (λ i. IsAtSlot placed slot i.0 i.1)
   looked_up instances slot all (Some i) e = all.there slot i (sym e)

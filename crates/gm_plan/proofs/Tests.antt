@@ -49,13 +49,6 @@ node_before x i q (inr (same, less)) = absurd (omega (arith, less))
 -- ---- one step more
 
 module _ (steps : ℕ → ℕ → Step) (labels : ℕ) where
-  pub none_listed : (tests : List Test) → tests ≡ [] → AreListed steps labels 0 0 tests
-  none_listed tests none = subst (AreListed steps labels 0 0) (sym none) (record {
-    each = λ t test at. absurd (omega (arith, slice_get_within [] t test at));
-    all = λ x i before low. absurd (omega (arith, node_before x i 0 before));
-    few = omega arith;
-  })
-
   module _ (q l : ℕ) (tests : List Test) (old : AreListed steps labels q l tests) where
     more : (test : Test) → IsListed steps labels q l test → IsListed steps labels q (l + 1) test
     more test is = record { before = before_more test.node test.label q l is.before; low = is.low; is = is.is; some = is.some }

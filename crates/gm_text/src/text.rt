@@ -39,6 +39,15 @@ impl Text {
         })
     }
 
+    /// No bytes, in the room that these had, which is made greater where it isn't enough for so many.
+    pub fn in_room_of(mut bytes: Vec<u8>, room: usize) -> Result<Text, OutOfMemory>
+        ensures { IfOk result (λ text. text ≡ []) }
+    {
+        bytes.clear();
+        bytes.reserve(room)?;
+        Ok(Text { bytes })
+    }
+
     /// How many bytes there are.
     pub fn len(&self) -> usize
         ensures { result ≡ length self.now }

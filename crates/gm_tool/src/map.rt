@@ -15,7 +15,7 @@ use crate::refusal::{NoText, Stop};
 use crate::reply::{Reply, reply_within_limit};
 use gm_arena::{Arena, Steps};
 use gm_lines::map_line;
-use gm_mapfile::{MapRead, MapVersion, NoMap, print_map, take_map};
+use gm_mapfile::{MapRead, MapVersion, NoMap, print_map, read_map_or_why, take_map};
 use gm_model::MOST_DARTS;
 use std::alloc::Global;
 use std::sync::ledger::Ledger;
@@ -57,13 +57,13 @@ pub fn refused(alloc: Global, no_map: NoMap) -> Result<Reply, NoText>
 }
 
 /// The map that a file's text stands for, or the line that refuses it.
-pub fn read<L: Ledger>(alloc: Global, bytes: Vec<u8>, steps: &mut Steps<L>) -> Result<MapRead, Stop>
-    ensures map { IfOk result (IsReadMap bytes.items) }
-    ensures stop { IfErr result (IsBadFor TheMap (IsBadMap bytes.items)) }
-    ensures most { BytesReadWithin bytes.items steps.old steps.new }
+pub fn read<L: Ledger>(alloc: Global, bytes: &[u8], steps: &mut Steps<L>) -> Result<MapRead, Stop>
+    ensures map { IfOk result (IsReadMap bytes.now) }
+    ensures stop { IfErr result (IsBadFor TheMap (IsBadMap bytes.now)) }
+    ensures most { BytesReadWithin bytes.now steps.old steps.new }
     ensures least { IfOk result (λ read. steps.old + read.arena.count ≤ steps.new) }
 {
-    match take_map(alloc, bytes, steps) {
+    match read_map_or_why(alloc, bytes, steps) {
         Ok(read) => Ok(read),
         Err(no_map) => Err(Stop::because(map_line(alloc, no_map))),
     }

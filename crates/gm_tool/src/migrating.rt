@@ -21,7 +21,7 @@ use crate::running::{Made, load_map, saved};
 use gm_arena::{Arena, Steps};
 use gm_host::Store;
 use gm_lines::put_at;
-use gm_mapfile::{MapVersion, print_map};
+use gm_mapfile::{MapVersion, print_map_over};
 use gm_model::{MOST_DARTS, OutOfMemory};
 use gm_text::Text;
 use std::alloc::Global;
@@ -38,15 +38,21 @@ fn line_of(alloc: Global, arena: &Arena) -> Result<Vec<u8>, OutOfMemory>
     Ok(text.into_bytes())
 }
 
-/// The text of the map in the second version of the format, and the line that is put.
-fn prepared<L: Ledger>(alloc: Global, arena: &Arena, steps: &mut Steps<L>) -> Result<Made, NoText>
+/// The text of the map in the second version of the format, in the room of these bytes, and the line
+/// that is put.
+fn prepared<L: Ledger>(
+    alloc: Global,
+    arena: &Arena,
+    room: Vec<u8>,
+    steps: &mut Steps<L>,
+) -> Result<Made, NoText>
     ensures lawful { IsLawful arena.now }
     ensures made { IsMigrated (listed_of arena.now) result }
     ensures map { IfOk result (λ made. IsSound (as_map arena.now) → IsMapBytes made.map.items) }
     ensures most { steps.new ≤ steps.old + printing arena.now.schema.dim arena.now.count }
 {
     prove!(arena.count() <= MOST_DARTS);
-    let map = print_map(alloc, arena, MapVersion::Two, steps)?;
+    let map = print_map_over(room, arena, MapVersion::Two, steps)?;
     if map.len() > MOST_BYTES {
         return Err(NoText::Refused(Refusal::SizeOutput));
     }
@@ -80,10 +86,11 @@ pub fn answer<S: Store, L: Ledger>(
     ensures saves { CountsSaves (status_given result) (S.saves store.old) (S.saves store.new) }
     ensures no_save_fault { IfOk result (λ _. S.save_faults store.new ≡ S.save_faults store.old) }
 {
-    let read = match load_map(alloc, files.map, store, steps) {
+    let mut text = Vec::new(alloc);
+    let read = match load_map(alloc, files.map, &mut text, store, steps) {
         Ok(read) => read,
         Err(stop) => return stopped(stop),
     };
-    let made = prepared(alloc, &read.arena, steps)?;
+    let made = prepared(alloc, &read.arena, text, steps)?;
     saved(files.out, made, store)
 }

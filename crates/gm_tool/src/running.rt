@@ -29,7 +29,7 @@ use crate::reply::{MOST_BYTES, Reply, stopped};
 use crate::{book, map, script};
 use gm_arena::{Arena, Steps};
 use gm_host::{SaveFault, Store};
-use gm_mapfile::{MapRead, MapVersion, print_map};
+use gm_mapfile::{MapRead, MapVersion, print_map_over};
 use gm_model::{Book, Embed, MOST_DARTS, Schema, Script};
 use gm_plan::Plan;
 use gm_run::{Outcome, Report, print_report};
@@ -44,10 +44,19 @@ pub struct Made {
     pub map: Vec<u8>,
 }
 
-/// The map in the file of this name, or why there is none.
+/// What a map is printed on: in which version, and in the room of which bytes.
+#[derive(Drop)]
+struct Sheet {
+    version: MapVersion,
+    room: Vec<u8>,
+}
+
+/// The map in the file of this name, or why there is none. The bytes of the file are put into `text`,
+/// so that a text that is printed later can take their room.
 pub fn load_map<S: Store, L: Ledger>(
     alloc: Global,
     name: &str,
+    text: &mut Vec<u8>,
     store: &mut S,
     steps: &mut Steps<L>,
 ) -> Result<MapRead, Stop>
@@ -62,7 +71,9 @@ pub fn load_map<S: Store, L: Ledger>(
     ensures least { IfOk result (λ read. steps.old + read.arena.count ≤ steps.new) }
 {
     let bytes = load_file(alloc, name, Role::Map, store)?;
-    map::read(alloc, bytes, steps)
+    let read = map::read(alloc, bytes.as_slice(), steps);
+    *text = bytes;
+    read
 }
 
 /// The book in the file of this name, or why there is none.
@@ -141,32 +152,32 @@ fn within_limit(status: u8, report: Vec<u8>, map: Vec<u8>) -> Result<Made, Stop>
     })
 }
 
-/// The report of the statements, and the text of the map that they left, in the version.
+/// The report of the statements, and the text of the map that they left, on the sheet. The map is let
+/// go before the report takes its room.
 fn printed<L: Ledger>(
     alloc: Global,
     book: &Book,
     script: Script,
     report: Report,
-    arena: &Arena,
-    version: MapVersion,
+    arena: Arena,
+    sheet: Sheet,
     steps: &mut Steps<L>,
 ) -> Result<Made, Stop>
     requires printable { CanBePrinted book.now.schema (map rule_of book.now.rules) script.stats report.lines }
-    ensures lawful { IsLawful arena.now }
+    ensures lawful { IsLawful arena }
     ensures texts { (told : List runs.Outcome) → Tells report.lines told → IsPrinted (run_status told)
         (report_text book.now.schema (map rule_of book.now.rules) script.stats told report.darts report.next)
-        (canonical version (listed_of arena.now)) result }
-    ensures map { IfOk result (λ made. IsSound (as_map arena.now) → IsMapBytes made.map.items) }
-    ensures most { steps.new ≤ steps.old + printing arena.now.schema.dim arena.now.count }
-    ensures least { IfOk result (λ _. steps.old + arena.now.count ≤ steps.new) }
+        (canonical sheet.version (listed_of arena)) result }
+    ensures map { IfOk result (λ made. IsSound (as_map arena) → IsMapBytes made.map.items) }
+    ensures most { steps.new ≤ steps.old + printing arena.schema.dim arena.count }
+    ensures least { IfOk result (λ _. steps.old + arena.count ≤ steps.new) }
 {
     prove!(arena.count() <= MOST_DARTS);
+    let Sheet { version, room } = sheet;
+    let map = print_map_over(room, &arena, version, steps)?;
+    drop(arena);
     let text = print_report(alloc, book, &script, &report)?;
     let status = status_of(report.lines.as_slice());
-    // The map's text, which is the longest, takes its room when theirs is free again.
-    drop(script);
-    drop(report);
-    let map = print_map(alloc, arena, version, steps)?;
     within_limit(status, text, map)
 }
 
@@ -176,20 +187,20 @@ fn applied<L: Ledger>(
     plans: &[Plan<'_>],
     book: &Book,
     script: Script,
-    arena: &mut Arena,
-    version: MapVersion,
+    mut arena: Arena,
+    sheet: Sheet,
     steps: &mut Steps<L>,
 ) -> Result<Made, Stop>
-    requires { CanRun arena.old book.now script plans.now }
-    ensures run { IsRunOf (inputs_of version arena.old book.now script) result }
+    requires { CanRun arena book.now script plans.now }
+    ensures run { IsRunOf (inputs_of sheet.version arena book.now script) result }
     ensures map { IfOk result (λ made. IsMapBytes made.map.items) }
-    ensures lawful { IsLawful arena.old }
-    ensures most { RunsWithin (inputs_of version arena.old book.now script) steps.old steps.new }
-    ensures least { IfOk result (λ _. RunsAtLeast (inputs_of version arena.old book.now script) steps.old steps.new) }
+    ensures lawful { IsLawful arena }
+    ensures most { RunsWithin (inputs_of sheet.version arena book.now script) steps.old steps.new }
+    ensures least { IfOk result (λ _. RunsAtLeast (inputs_of sheet.version arena book.now script) steps.old steps.new) }
 {
     prove!(arena.count() <= MOST_DARTS);
-    let report = gm_run::run(alloc, plans, &script, arena, steps)?;
-    printed(alloc, book, script, report, arena, version, steps)
+    let report = gm_run::run(alloc, plans, &script, &mut arena, steps)?;
+    printed(alloc, book, script, report, arena, sheet, steps)
 }
 
 /// The map and the book are of one dimension, with the same embeddings in the same order.
@@ -240,39 +251,41 @@ fn prepared<S: Store, L: Ledger>(
     ensures least { IfOk result (λ _. IfSome (S.holds store.old) (λ held. AtLeast held (names_of files.entry) steps.old steps.new)) }
     ensures sound { IfErr result (λ stop. IsSoundStop stop (IsUnloaded (S.holds store.old) (names_of files.entry) (FailsAt (S.load_faults store.old) (S.load_faults store.new) (S.loads store.old) (S.loads store.new)))) }
 {
-    let mut read = load_map(alloc, files.map, store, steps)?;
+    let mut text = Vec::new(alloc);
+    let read = load_map(alloc, files.map, &mut text, store, steps)?;
     let book = load_book(alloc, files.book, store)?;
-    prepared_behind(alloc, files, &mut read, &book, store, steps)
+    prepared_behind(alloc, files, read, text, &book, store, steps)
 }
 
-/// The same of a run whose map and book were read, which their owner lets go in one place.
+/// The same of a run whose map and book were read. The map is printed in the room of its text.
 fn prepared_behind<S: Store, L: Ledger>(
     alloc: Global,
     files: RunFiles<'_>,
-    read: &mut MapRead,
+    read: MapRead,
+    text: Vec<u8>,
     book: &Book,
     store: &mut S,
     steps: &mut Steps<L>,
 ) -> Result<Made, Stop>
-    requires read { (bytes : List ℕ) × IsReadMap bytes read.old }
+    requires read { (bytes : List ℕ) × IsReadMap bytes read }
     requires book { (bytes : List ℕ) × IsReadBook bytes book.now }
     requires declared { IsSchema book.now.schema }
     ensures held { S.holds store.new ≡ S.holds store.old }
     ensures no_save { S.saves store.new ≡ S.saves store.old }
     ensures no_save_fault { S.save_faults store.new ≡ S.save_faults store.old }
-    ensures in_order { (start : Counts) → HasBegun (S.holds store.old) (names_of files.entry) read.old book.now start (S.load_faults store.old) (S.loads store.old) steps.old →
+    ensures in_order { (start : Counts) → HasBegun (S.holds store.old) (names_of files.entry) read book.now start (S.load_faults store.old) (S.loads store.old) steps.old →
         LoadsInOrder (S.holds store.old) (names_of files.entry) start.loads (S.loads store.new) }
-    ensures counted_loads { (start : Counts) → HasBegun (S.holds store.old) (names_of files.entry) read.old book.now start (S.load_faults store.old) (S.loads store.old) steps.old →
+    ensures counted_loads { (start : Counts) → HasBegun (S.holds store.old) (names_of files.entry) read book.now start (S.load_faults store.old) (S.loads store.old) steps.old →
         IfSome (S.holds store.old) (λ held. UnlessNoMemoryToMake result (StopsInTime held (names_of files.entry) (Rises start.faults (S.load_faults store.new)) start.loads (S.loads store.new))) }
-    ensures made { (start : Counts) → HasBegun (S.holds store.old) (names_of files.entry) read.old book.now start (S.load_faults store.old) (S.loads store.old) steps.old →
+    ensures made { (start : Counts) → HasBegun (S.holds store.old) (names_of files.entry) read book.now start (S.load_faults store.old) (S.loads store.old) steps.old →
         IfSome (S.holds store.old) (λ held. IsMade held (names_of files.entry) (FailsAt start.faults (S.load_faults store.new) start.loads (S.loads store.new)) result) }
     ensures map { IfOk result (λ made. IsMapBytes made.map.items) }
     ensures status { IfOk result (λ made. IsRunStatus made.status) }
-    ensures most { (start : Counts) → HasBegun (S.holds store.old) (names_of files.entry) read.old book.now start (S.load_faults store.old) (S.loads store.old) steps.old →
+    ensures most { (start : Counts) → HasBegun (S.holds store.old) (names_of files.entry) read book.now start (S.load_faults store.old) (S.loads store.old) steps.old →
         IfSome (S.holds store.old) (λ held. WithinMost held (names_of files.entry) start.steps steps.new) }
-    ensures least { (start : Counts) → HasBegun (S.holds store.old) (names_of files.entry) read.old book.now start (S.load_faults store.old) (S.loads store.old) steps.old →
+    ensures least { (start : Counts) → HasBegun (S.holds store.old) (names_of files.entry) read book.now start (S.load_faults store.old) (S.loads store.old) steps.old →
         IfOk result (λ _. IfSome (S.holds store.old) (λ held. AtLeast held (names_of files.entry) start.steps steps.new)) }
-    ensures sound { (start : Counts) → HasBegun (S.holds store.old) (names_of files.entry) read.old book.now start (S.load_faults store.old) (S.loads store.old) steps.old →
+    ensures sound { (start : Counts) → HasBegun (S.holds store.old) (names_of files.entry) read book.now start (S.load_faults store.old) (S.loads store.old) steps.old →
         IfErr result (λ stop. IsSoundStop stop (IsUnloaded (S.holds store.old) (names_of files.entry) (FailsAt start.faults (S.load_faults store.new) start.loads (S.loads store.new)))) }
 {
     let plans = plans_of(alloc, book)?;
@@ -280,15 +293,12 @@ fn prepared_behind<S: Store, L: Ledger>(
     if !agree(read.arena.schema(), &book.schema) {
         return Err(Stop::NoText(NoText::Refused(Refusal::Agree)));
     }
-    applied(
-        alloc,
-        plans.as_slice(),
-        book,
-        script,
-        &mut read.arena,
-        read.version,
-        steps,
-    )
+    let MapRead { arena, version } = read;
+    let sheet = Sheet {
+        version,
+        room: text,
+    };
+    applied(alloc, plans.as_slice(), book, script, arena, sheet, steps)
 }
 
 /// Saves the map, and answers the text to put.

@@ -10,7 +10,7 @@ use Rattle.std.specs.FinMap.{get}
 use Rattle.std.proofs.lemmas.Option.{same_Some}
 use Rattle.gm_arena.specs.ArenaMap.{ArenaMap, Dart, IsAt, name_at}
 use Rattle.gm_arena.specs.declared.slot.Slot.{Slot}
-use Rattle.gm_arena.specs.Inside.{part_of}
+use Rattle.gm_arena.specs.Parts.{part_of}
 use Rattle.gm_arena.specs.Lawful.{IsLawful}
 use Rattle.gm_arena.proofs.MapLemmas.{name_at-is}
 use Rattle.gm_arena.proofs.ValueLemmas.{length-values, part_kept}

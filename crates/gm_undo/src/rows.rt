@@ -3,7 +3,7 @@ ghost use Rattle.std.specs.Prelude.{◌≡◌, ℕ, ◌+◌, ◌*◌, ◌<◌, �
 ghost use Rattle.std.specs.FinMap.{get};
 ghost use Rattle.std.specs.Vec.{vec_capacity};
 ghost use Rattle.gm_arena.specs.ArenaMap.{Dart, IsLiveSlot, name_at};
-ghost use Rattle.gm_arena.specs.Inside.{part_of};
+ghost use Rattle.gm_arena.specs.Parts.{part_of};
 ghost use Rattle.gm_arena.specs.declared.slot.Slot.{Slot};
 ghost use Rattle.gm_undo.specs.Kept.{KeptRow};
 ghost use Rattle.gm_undo.specs.Flat.{RowsOf, row_in, staying};

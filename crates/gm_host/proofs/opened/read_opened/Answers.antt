@@ -1,4 +1,3 @@
-use Rattle.std.proofs.lemmas.Result.{err_from_is_err_and}
 use Rattle.gm_host.proofs.Reading.{all_of_read, front_of_read}
 use Rattle.gm_host.proofs.opened.read_opened.Goals as goal
 
@@ -7,8 +6,3 @@ returns-clause-all_bytes g c = rw c.in-Ok.is (all_of_read _ _ _ c.read_within.en
 
 pub returns-clause-first_bytes : goal.returns-clause-first_bytes
 returns-clause-first_bytes g c = rw c.in-Ok.is (front_of_read _ _ _ c.read_within.ensures.first_bytes)
-
-pub returns-in_err-piece : goal.returns-in_err-piece
-returns-in_err-piece g c =
-    let p = err_from_is_err_and c.from_residual.result c.from_residual.ensures.1 in
-    rw (p.1, p.2, c.in-Ok.is) (record { within_limit = tt; all_bytes = tt; not_opened = tt; never_absent = λ absent. absent; seen_length = tt; first_bytes = tt })

@@ -1,20 +1,20 @@
-use Rattle.std.proofs.Common.{arith}
-use Rattle.std.proofs.lemmas.List.{length-take}
-use Rattle.std.proofs.lemmas.Result.{err_from_is_err_and}
-use Rattle.gm_host.proofs.Reading.{Consumes-nothing, Consumes-append}
+use Rattle.std.proofs.Common.{arith, rules, ◌≡◌, ◌+◌, ◌++◌, length, take, sym, ap, ◌∙◌}
+use Rattle.std.proofs.lemmas.List.{with_items_is, places}
+use Rattle.gm_host.proofs.Reading.{Consumes-append, read_behind}
 use Rattle.gm_host.proofs.opened.read_within.Goals as goal
 
-pub loop-bytes-init : goal.loop-bytes-init
-loop-bytes-init g c = record { within = omega arith; read = rw c.new-bytes.ensures.items (Consumes-nothing _) }
-
 pub loop-bytes-preserved : goal.loop-bytes-preserved
-loop-bytes-preserved g c = record {
-  within = omega (arith, length-take c.min-wanted.result c.loop-bytes.piece, c.in-Ok.ensures.bound.0, c.in-Ok.ensures.bound.1, c.in_ok-extend_from_slice.ensures.len);
-  read = rw c.in_ok-extend_from_slice.ensures.items
-      (Consumes-append _ _ _ _ _ c.loop-bytes.invariant.read c.in-Ok.ensures.bytes.0);
-}
-
-pub returns-in_err-extend_from_slice : goal.returns-in_err-extend_from_slice
-returns-in_err-extend_from_slice g c =
-    let p = err_from_is_err_and c.from_residual.result c.from_residual.ensures.1 in
-    rw (p.1, p.2) (record { within_limit = tt; all_bytes = tt; to_the_end = tt; never_absent = λ absent. absent; seen_length = tt; first_bytes = tt })
+loop-bytes-preserved g c =
+    let before = c.loop-bytes.bytes.items in
+    let held = c.len-held.result in
+    let count = c.in-Ok.count in
+    let long : length before ≡ held = search (rules, places) in
+    let same : take held c.deref_mut.result.now ≡ before =
+    ap (take held) c.deref_mut.ensures.value ∙ ap (λ k. take k c.lengthen.new.bytes.items) (sym long) ∙ c.in_ok-lengthen.ensures.kept in
+    let is : c.truncate.new.self.items ≡ before ++ take count c.read.new.buf =
+    c.truncate.ensures.items ∙ ap (take (held + count)) (with_items_is c.lengthen.new.bytes _ (search (rules, places)))
+    ∙ read_behind before _ c.read.new.buf _ held count long same c.in-Ok.ensures.bound.0 in
+    record {
+      within = omega (arith, c.in-Ok.ensures.bound.0, c.in-Ok.ensures.bound.1, c.truncate.ensures.len, c.in_ok-lengthen.ensures.fits);
+      read = rw is (Consumes-append _ _ _ _ _ c.loop-bytes.invariant.read c.in-Ok.ensures.bytes.0);
+    }

@@ -1,4 +1,4 @@
-use Rattle.std.proofs.Common.{◌≡◌, not, ◌+◌, ◌≤◌, ◌∷◌, [], ◌++◌, length, drop, get_or, None, refl, sym, ap, subst, ◌∙◌, arith}
+use Rattle.std.proofs.Common.{◌≡◌, not, ◌+◌, ◌∷◌, [], ◌++◌, length, take, drop, get_or, None, refl, sym, ap, subst, ◌∙◌, arith}
 use Rattle.std.proofs.lemmas.List.{length_push}
 use Rattle.std.specs.FinMap.{get}
 use Rattle.std.specs.Slice.Iter.{chunks_exact_rest}
@@ -6,13 +6,11 @@ use Rattle.gm_arena.specs.ArenaMap.{IsAt}
 use Rattle.gm_arena.specs.declared.slot.Slot.{Slot}
 use Rattle.gm_model.specs.declared.schema.Schema.{Schema}
 use Rattle.gm_mapfile.specs.MapText.{rows_of}
-use Rattle.gm_mapfile.specs.Packed.{size_of_line, values_in}
 use Rattle.gm_mapfile.specs.Rows.{row_in, valued, darts_in}
 use Rattle.gm_mapfile.specs.Building.{AreAdded, AreValued}
-use Rattle.gm_mapfile.proofs.Chunks.{first_values, name_of_line, none_left, darts_end, rows_of_darts_in, length_darts_in}
+use Rattle.gm_mapfile.proofs.Chunks.{name_of_line, none_left, darts_end, rows_of_darts_in, length_darts_in}
 use Rattle.gm_mapfile.proofs.Adding.{answered_none, answered_some, answered_on}
-use Rattle.gm_mapfile.proofs.AddedDarts.{HasDarts, has_none, has_more_named, has_again_named, line_split, line_good, line_spare, line_long, line_words, line_below, behind_read, values_read, good_read, own_long, schema_kept}
-use Rattle.gm_mapfile.proofs.Unpacked.{size_read}
+use Rattle.gm_mapfile.proofs.AddedDarts.{HasDarts, has_none, has_more_named, has_again_named, line_split, line_good, line_spare, line_long, line_values, line_below, width_read, behind_read, values_read, good_read, schema_kept}
 use Rattle.gm_mapfile.proofs.building.add_darts.Goals as goal
 
 pub loop-line-init : goal.loop-line-init
@@ -23,7 +21,7 @@ loop-line-init g c =
     record {
       front = [];
       size = cc (c.into_iter-line-iterator.ensures.into_iter_gives, c.chunks_exact-line-items.ensures.size, c.top.ensures.value, c.schema-2.ensures);
-      split = ap (λ numbers. darts_in schema numbers c.args.words.now) rest;
+      split = ap (λ numbers. darts_in schema numbers c.args.values.now) rest;
       schema = refl;
       room = rw rest c.requires.spare;
       reserved = refl;
@@ -39,48 +37,36 @@ split_at-requires g c =
     let schema = c.args.arena.now.schema in
     let before = c.loop-line.invariant in
     let steps = c.in-Some.ensures.steps in
-    let within = line_words schema _ c.in-Some.line.now _ c.loop-line.rest.now steps.1.0 (steps.1.1 ∙ before.size) before.long in
-    omega (arith, within, size_read c.line_size-size.result c.as_slice.result.now c.schema.result.now c.args.arena.now.schema c.line_size-size.ensures.size c.as_slice.ensures c.schema.ensures)
+    let within = line_values schema _ c.in-Some.line.now _ c.loop-line.rest.now steps.1.0 (steps.1.1 ∙ before.size) before.long in
+    omega (arith, within, width_read c.as_slice-width.result.now c.schema.result.now c.args.arena.now.schema c.as_slice-width.ensures c.schema.ensures)
 
-pub add_packed-requires-clause-reserved : goal.add_packed-requires-clause-reserved
-add_packed-requires-clause-reserved g c =
+pub add-requires-clause-reserved : goal.add-requires-clause-reserved
+add-requires-clause-reserved g c =
     let before = c.loop-line.invariant in
     let steps = c.in-Some.ensures.steps in
-    let below = line_below c.args.arena.now.schema before.front c.args.numbers.now _ c.in-Some.line.now _ c.args.words.now c.loop-line.rest.now before.split steps.1.0 (steps.1.1 ∙ before.size) c.args.arena.now.reserved c.requires.reserved in
+    let below = line_below c.args.arena.now.schema before.front c.args.numbers.now _ c.in-Some.line.now _ c.args.values.now c.loop-line.rest.now before.split steps.1.0 (steps.1.1 ∙ before.size) c.args.arena.now.reserved c.requires.reserved in
     omega (arith, below, before.reserved)
 
-pub add_packed-requires-clause-values : goal.add_packed-requires-clause-values
-add_packed-requires-clause-values g c =
+pub add-requires-clause-values : goal.add-requires-clause-values
+add-requires-clause-values g c =
     let schema = c.args.arena.now.schema in
     let before = c.loop-line.invariant in
     let steps = c.in-Some.ensures.steps in
-    let size = size_read c.line_size-size.result c.as_slice.result.now c.schema.result.now schema c.line_size-size.ensures.size c.as_slice.ensures c.schema.ensures in
-    let good = line_good schema _ c.in-Some.line.now _ c.loop-line.rest.now (drop (size_of_line schema.embeds) c.loop-line.rest.now) steps.1.0 (steps.1.1 ∙ before.size) refl before.good in
-    good_read schema c.line_size-size.result c.loop-line.rest.now c.split_at.result.0.now c.split_at.result.1.now size c.loop-line.arena.schema before.schema c.split_at.ensures.front good.0
+    let width = width_read c.as_slice-width.result.now c.schema.result.now schema c.as_slice-width.ensures c.schema.ensures in
+    let good = line_good schema _ c.in-Some.line.now _ c.loop-line.rest.now (drop (length schema.embeds) c.loop-line.rest.now) steps.1.0 (steps.1.1 ∙ before.size) refl before.good in
+    good_read schema (length c.as_slice-width.result.now) c.loop-line.rest.now c.split_at.result.0.now c.split_at.result.1.now width c.loop-line.arena.schema before.schema c.split_at.ensures.front good.0
 
-pub add_packed-requires-clause-room : goal.add_packed-requires-clause-room
-add_packed-requires-clause-room g c =
+pub add-requires-clause-room : goal.add-requires-clause-room
+add-requires-clause-room g c =
     let schema = c.args.arena.now.schema in
     let before = c.loop-line.invariant in
     let steps = c.in-Some.ensures.steps in
-    let words = c.loop-line.rest.now in
-    (line_spare schema _ c.in-Some.line.now _ words (drop (size_of_line schema.embeds) words) steps.1.0 (steps.1.1 ∙ before.size) refl c.loop-line.arena.spare before.room).0
+    let values = c.loop-line.rest.now in
+    (line_spare schema _ c.in-Some.line.now _ values (drop (length schema.embeds) values) steps.1.0 (steps.1.1 ∙ before.size) refl c.loop-line.arena.spare before.room).0
 
-pub add_packed-requires-clause-new_name : goal.add_packed-requires-clause-new_name
-add_packed-requires-clause-new_name g c =
+pub add-requires-clause-new_name : goal.add-requires-clause-new_name
+add-requires-clause-new_name g c =
     answered_none (get c.loop-line.arena.darts (get_or c.in-Some.line.now 0 0) ≡ None) (λ (s : Slot). IsAt c.loop-line.arena s.at (get_or c.in-Some.line.now 0 0)) c.slot_there.result c.slot_there.ensures.slot (c.is_none.ensures ∙ ap not c.if-is_none.true)
-
-pub add_packed-requires-clause-embeds : goal.add_packed-requires-clause-embeds
-add_packed-requires-clause-embeds g c = subst (λ (s : Schema). length s.embeds ≤ 8) (sym c.loop-line.invariant.schema) c.requires.embeds
-
-pub add_packed-requires-clause-words : goal.add_packed-requires-clause-words
-add_packed-requires-clause-words g c =
-    let schema = c.args.arena.now.schema in
-    let before = c.loop-line.invariant in
-    let steps = c.in-Some.ensures.steps in
-    let words = c.loop-line.rest.now in
-    let size = size_read c.line_size-size.result c.as_slice.result.now c.schema.result.now schema c.line_size-size.ensures.size c.as_slice.ensures c.schema.ensures in
-    own_long schema c.line_size-size.result words c.split_at.result.0.now c.split_at.result.1.now size c.loop-line.arena.schema before.schema c.split_at.ensures.front (line_words schema _ c.in-Some.line.now _ words steps.1.0 (steps.1.1 ∙ before.size) before.long)
 
 pub loop-line-preserved-then-is_none : goal.loop-line-preserved-then-is_none
 loop-line-preserved-then-is_none g c =
@@ -91,30 +77,30 @@ loop-line-preserved-then-is_none g c =
     let line = c.in-Some.line.now in
     let name = get_or line 0 0 in
     let named = name_of_line line in
-    let words = c.loop-line.rest.now in
+    let values = c.loop-line.rest.now in
     let others = c.split_at.result.1.now in
     let wide : length line ≡ n + 2 = steps.1.1 ∙ before.size in
-    let size = size_read c.line_size-size.result c.as_slice.result.now c.schema.result.now schema c.line_size-size.ensures.size c.as_slice.ensures c.schema.ensures in
-    let left = behind_read schema c.line_size-size.result words c.split_at.result.0.now others size c.split_at.ensures.back in
-    let own = values_read schema c.line_size-size.result words c.split_at.result.0.now others size c.loop-line.arena.schema before.schema c.split_at.ensures.front in
-    let dart = valued (row_in line) (first_values schema words) in
+    let width = width_read c.as_slice-width.result.now c.schema.result.now schema c.as_slice-width.ensures c.schema.ensures in
+    let left = behind_read schema (length c.as_slice-width.result.now) values c.split_at.result.0.now others width c.split_at.ensures.back in
+    let own = values_read schema (length c.as_slice-width.result.now) values c.split_at.result.0.now others width c.split_at.ensures.front in
+    let dart = valued (row_in line) (take (length schema.embeds) values) in
     let new_name = answered_none (get c.loop-line.arena.darts name ≡ None) (λ (s : Slot). IsAt c.loop-line.arena s.at name) c.slot_there.result c.slot_there.ensures.slot (c.is_none.ensures ∙ ap not c.if-is_none.true) in
     let m = c.loop-line.arena in
-    let after = c.add_packed.ensures.map in
-    let room = line_spare schema _ line _ words others steps.1.0 wide left m.spare before.room in
+    let after = c.add.ensures.map in
+    let room = line_spare schema _ line _ values others steps.1.0 wide left m.spare before.room in
     record {
       front = before.front ++ dart ∷ [];
       size = steps.0 ∙ before.size;
-      split = line_split schema _ line _ words others steps.1.0 wide left before.front _ before.split;
-      schema = schema_kept m c.add_packed.new.arena c.add_packed.result.at name (values_in m.schema.embeds c.split_at.result.0.now) schema after before.schema;
+      split = line_split schema _ line _ values others steps.1.0 wide left before.front _ before.split;
+      schema = schema_kept m c.add.new.self c.add.result.at name c.split_at.result.0.now schema after before.schema;
       room = rw after room.1;
       reserved = rw after before.reserved;
-      long = line_long schema _ line _ words others steps.1.0 wide left before.long;
-      good = (line_good schema _ line _ words others steps.1.0 wide left before.good).1;
+      long = line_long schema _ line _ values others steps.1.0 wide left before.long;
+      good = (line_good schema _ line _ values others steps.1.0 wide left before.good).1;
       has = subst (λ x. HasDarts n (before.front ++ dart ∷ []) x c.loop-line.twice) (sym after)
-          (has_more_named n before.front dart m c.loop-line.twice before.has c.add_packed.result.at name (values_in m.schema.embeds c.split_at.result.0.now) (ap (λ (s : Schema). s.dim) before.schema) named own new_name);
-      most = omega (arith, before.most, length_push before.front dart, c.slot_there.ensures.most, c.add_packed.ensures.cost);
-      least = omega (arith, before.least, length_push before.front dart, c.slot_there.ensures.least, c.add_packed.ensures.cost);
+          (has_more_named n before.front dart m c.loop-line.twice before.has c.add.result.at name c.split_at.result.0.now (ap (λ (s : Schema). s.dim) before.schema) named own new_name);
+      most = omega (arith, before.most, length_push before.front dart, c.slot_there.ensures.most, c.add.ensures.cost);
+      least = omega (arith, before.least, length_push before.front dart, c.slot_there.ensures.least, c.add.ensures.cost);
     }
 
 pub loop-line-preserved : goal.loop-line-preserved
@@ -126,25 +112,25 @@ loop-line-preserved g c =
     let line = c.in-Some.line.now in
     let name = get_or line 0 0 in
     let named = name_of_line line in
-    let words = c.loop-line.rest.now in
+    let values = c.loop-line.rest.now in
     let others = c.split_at.result.1.now in
     let wide : length line ≡ n + 2 = steps.1.1 ∙ before.size in
-    let size = size_read c.line_size-size.result c.as_slice.result.now c.schema.result.now schema c.line_size-size.ensures.size c.as_slice.ensures c.schema.ensures in
-    let left = behind_read schema c.line_size-size.result words c.split_at.result.0.now others size c.split_at.ensures.back in
-    let dart = valued (row_in line) (first_values schema words) in
+    let width = width_read c.as_slice-width.result.now c.schema.result.now schema c.as_slice-width.ensures c.schema.ensures in
+    let left = behind_read schema (length c.as_slice-width.result.now) values c.split_at.result.0.now others width c.split_at.ensures.back in
+    let dart = valued (row_in line) (take (length schema.embeds) values) in
     let m = c.loop-line.arena in
     let there = answered_some (get m.darts name ≡ None) (λ (s : Slot). IsAt m s.at name) c.slot_there.result c.slot_there.ensures.slot c.if-is_none.ensures in
     let found = answered_on (c.slot_there.new.steps ≡ c.loop-line.steps + 1) c.slot_there.result c.slot_there.ensures.found c.if-is_none.ensures in
-    let room = line_spare schema _ line _ words others steps.1.0 wide left m.spare before.room in
+    let room = line_spare schema _ line _ values others steps.1.0 wide left m.spare before.room in
     record {
       front = before.front ++ dart ∷ [];
       size = steps.0 ∙ before.size;
-      split = line_split schema _ line _ words others steps.1.0 wide left before.front _ before.split;
+      split = line_split schema _ line _ values others steps.1.0 wide left before.front _ before.split;
       schema = before.schema;
       room = omega (arith, room.1);
       reserved = before.reserved;
-      long = line_long schema _ line _ words others steps.1.0 wide left before.long;
-      good = (line_good schema _ line _ words others steps.1.0 wide left before.good).1;
+      long = line_long schema _ line _ values others steps.1.0 wide left before.long;
+      good = (line_good schema _ line _ values others steps.1.0 wide left before.good).1;
       has = has_again_named n before.front dart m c.loop-line.twice before.has name c.lesser.result named (before.has.added.slots there.0.at name there.1) c.lesser.ensures;
       most = omega (arith, before.most, length_push before.front dart, found);
       least = omega (arith, before.least, length_push before.front dart, found);
@@ -161,8 +147,8 @@ returns-clause-added g c =
     let schema = c.args.arena.now.schema in
     let before = c.loop-line.invariant in
     let steps = c.in-None.ensures.steps in
-    let whole = none_left before.front (darts_in schema c.args.numbers.now c.args.words.now) _ before.split (darts_end schema _ c.loop-line.rest.now (omega (arith, steps.1.0, before.size))) in
-    let rows = ap rows_of whole ∙ rows_of_darts_in schema c.args.numbers.now c.args.words.now in
+    let whole = none_left before.front (darts_in schema c.args.numbers.now c.args.values.now) _ before.split (darts_end schema _ c.loop-line.rest.now (omega (arith, steps.1.0, before.size))) in
+    let rows = ap rows_of whole ∙ rows_of_darts_in schema c.args.numbers.now c.args.values.now in
     subst (λ rows. AreAdded schema.dim rows c.loop-line.arena c.loop-line.twice) rows before.has.added
 
 pub returns-clause-values : goal.returns-clause-values
@@ -170,7 +156,7 @@ returns-clause-values g c =
     let schema = c.args.arena.now.schema in
     let before = c.loop-line.invariant in
     let steps = c.in-None.ensures.steps in
-    let whole = none_left before.front (darts_in schema c.args.numbers.now c.args.words.now) _ before.split (darts_end schema _ c.loop-line.rest.now (omega (arith, steps.1.0, before.size))) in
+    let whole = none_left before.front (darts_in schema c.args.numbers.now c.args.values.now) _ before.split (darts_end schema _ c.loop-line.rest.now (omega (arith, steps.1.0, before.size))) in
     subst (λ darts. AreValued darts c.loop-line.arena) whole before.has.valued
 
 pub returns-clause-most : goal.returns-clause-most
@@ -178,13 +164,13 @@ returns-clause-most g c =
     let schema = c.args.arena.now.schema in
     let before = c.loop-line.invariant in
     let steps = c.in-None.ensures.steps in
-    let whole = none_left before.front (darts_in schema c.args.numbers.now c.args.words.now) _ before.split (darts_end schema _ c.loop-line.rest.now (omega (arith, steps.1.0, before.size))) in
-    omega (arith, before.most, ap length whole, length_darts_in schema c.args.numbers.now c.args.words.now)
+    let whole = none_left before.front (darts_in schema c.args.numbers.now c.args.values.now) _ before.split (darts_end schema _ c.loop-line.rest.now (omega (arith, steps.1.0, before.size))) in
+    omega (arith, before.most, ap length whole, length_darts_in schema c.args.numbers.now c.args.values.now)
 
 pub returns-clause-least : goal.returns-clause-least
 returns-clause-least g c =
     let schema = c.args.arena.now.schema in
     let before = c.loop-line.invariant in
     let steps = c.in-None.ensures.steps in
-    let whole = none_left before.front (darts_in schema c.args.numbers.now c.args.words.now) _ before.split (darts_end schema _ c.loop-line.rest.now (omega (arith, steps.1.0, before.size))) in
-    omega (arith, before.least, ap length whole, length_darts_in schema c.args.numbers.now c.args.words.now)
+    let whole = none_left before.front (darts_in schema c.args.numbers.now c.args.values.now) _ before.split (darts_end schema _ c.loop-line.rest.now (omega (arith, steps.1.0, before.size))) in
+    omega (arith, before.least, ap length whole, length_darts_in schema c.args.numbers.now c.args.values.now)

@@ -1,36 +1,68 @@
-use Rattle.std.proofs.Common.{◌+◌, ◌*◌}
+use Rattle.std.proofs.Common.{◌≡◌, ℕ, ◌+◌, ◌*◌, ◌/◌, ◌<◌, List, length, get_or, All, ap₂, refl, sym, subst, ◌∙◌, arith}
 use Rattle.gm_mapfile.specs.Draft.{version_in}
 use Rattle.gm_mapfile.specs.Rows.{darts_in}
 use Rattle.gm_model.proofs.Exits.{unless_ok}
 use Rattle.gm_mapfile.proofs.Joined.{if_err, if_ok_both}
+use Rattle.gm_mapfile.proofs.OwnLines.{are_lines}
 use Rattle.gm_mapfile.proofs.Reordered.{same_read, held_moved, fault_moved, most_moved}
 use Rattle.gm_mapfile.proofs.building.build.Goals as goal
+
+pub take_lines-requires-clause-lines : goal.take_lines-requires-clause-lines
+take_lines-requires-clause-lines g c =
+    let schema = c.args.draft.schema in
+    let numbers = c.in_order.new.numbers.items in
+    let room = c.in_ok-end.ensures.room in
+    let size : c.top.result + 2 ≡ schema.dim + 2 = omega (arith, c.top.ensures.value) in
+    let long : c.len.result ≡ length numbers = omega (arith, c.len.ensures, c.in_order.new.numbers.ok.0) in
+    let count : c.len.result / (c.top.result + 2) ≡ length numbers / (schema.dim + 2) = ap₂ (λ n k. n / k) long size in
+    let seen : length c.deref.result.now / (c.top.result + 2) ≡ length numbers / (schema.dim + 2) = ap₂ (λ (xs : List ℕ) k. length xs / k) c.deref.ensures.value size in
+    are_lines schema numbers c.in_order.new.values.items room
+    (λ at below. sym (λ i. get_or (c.deref.ensures.value i) (at * size i) 0) ∙ c.if-are_numbered.ensures refl at (omega (arith, below, seen)))
+    (subst (All (λ name. name < length numbers / (schema.dim + 2))) c.deref-then-are_numbered.ensures.value (subst (λ bound. All (λ name. name < bound) c.deref-then-are_numbered.result.now) count (c.if-are_below.ensures refl)))
+
+pub returns-then-are_below-clause-held : goal.returns-then-are_below-clause-held
+returns-then-are_below-clause-held g c =
+    let schema = c.args.draft.schema in
+    let darts = darts_in schema c.args.draft.numbers.items c.args.draft.values.items in
+    if_ok_both c.take_lines.result (λ m held _. held_moved darts (darts_in schema c.in_order.new.numbers.items c.in_order.new.values.items) c.in_ok-end.ensures.darts (version_in c.args.draft.stated) schema m held) c.take_lines.ensures.held c.take_lines.ensures.held
+
+pub returns-then-are_below-clause-fault : goal.returns-then-are_below-clause-fault
+returns-then-are_below-clause-fault g c =
+    let schema = c.args.draft.schema in
+    let darts = darts_in schema c.args.draft.numbers.items c.args.draft.values.items in
+    if_err c.take_lines.result (fault_moved darts (darts_in schema c.in_order.new.numbers.items c.in_order.new.values.items) c.in_ok-end.ensures.darts (version_in c.args.draft.stated) schema.dim) c.take_lines.ensures.fault
+
+pub returns-then-are_below-clause-most : goal.returns-then-are_below-clause-most
+returns-then-are_below-clause-most g c =
+    let schema = c.args.draft.schema in
+    let darts = darts_in schema c.args.draft.numbers.items c.args.draft.values.items in
+    most_moved darts (darts_in schema c.in_order.new.numbers.items c.in_order.new.values.items) c.in_ok-end.ensures.darts (2 * schema.dim + 5) c.args.steps.now c.take_lines.new.steps c.take_lines.ensures.most
 
 pub returns-clause-held : goal.returns-clause-held
 returns-clause-held g c =
     let schema = c.args.draft.schema in
-    let darts = darts_in schema c.args.draft.numbers.items c.args.draft.words.items in
+    let darts = darts_in schema c.args.draft.numbers.items c.args.draft.values.items in
     let xs = c.as_slice-numbers.result.now in
-    let vs = c.as_slice-words.result.now in
-    let same = same_read darts schema c.in_order.new.numbers.items xs c.in_order.new.words.items vs c.as_slice-numbers.ensures.value c.as_slice-words.ensures.value c.in_ok-end.ensures.darts in
+    let vs = c.as_slice-values.result.now in
+    let same = same_read darts schema c.in_order.new.numbers.items xs c.in_order.new.values.items vs c.as_slice-numbers.ensures.value c.as_slice-values.ensures.value c.in_ok-end.ensures.darts in
     if_ok_both c.build_lines.result (λ m held _. held_moved darts (darts_in schema xs vs) same (version_in c.args.draft.stated) schema m held) c.build_lines.ensures.held c.build_lines.ensures.held
 
 pub returns-clause-fault : goal.returns-clause-fault
 returns-clause-fault g c =
     let schema = c.args.draft.schema in
-    let darts = darts_in schema c.args.draft.numbers.items c.args.draft.words.items in
+    let darts = darts_in schema c.args.draft.numbers.items c.args.draft.values.items in
     let xs = c.as_slice-numbers.result.now in
-    let vs = c.as_slice-words.result.now in
-    let same = same_read darts schema c.in_order.new.numbers.items xs c.in_order.new.words.items vs c.as_slice-numbers.ensures.value c.as_slice-words.ensures.value c.in_ok-end.ensures.darts in
+    let vs = c.as_slice-values.result.now in
+    let same = same_read darts schema c.in_order.new.numbers.items xs c.in_order.new.values.items vs c.as_slice-numbers.ensures.value c.as_slice-values.ensures.value c.in_ok-end.ensures.darts in
     if_err c.build_lines.result (fault_moved darts (darts_in schema xs vs) same (version_in c.args.draft.stated) schema.dim) c.build_lines.ensures.fault
 
 pub returns-clause-most : goal.returns-clause-most
 returns-clause-most g c =
     let schema = c.args.draft.schema in
-    let darts = darts_in schema c.args.draft.numbers.items c.args.draft.words.items in
+    let darts = darts_in schema c.args.draft.numbers.items c.args.draft.values.items in
     let xs = c.as_slice-numbers.result.now in
-    let vs = c.as_slice-words.result.now in
-    let same = same_read darts schema c.in_order.new.numbers.items xs c.in_order.new.words.items vs c.as_slice-numbers.ensures.value c.as_slice-words.ensures.value c.in_ok-end.ensures.darts in
+    let vs = c.as_slice-values.result.now in
+    let same = same_read darts schema c.in_order.new.numbers.items xs c.in_order.new.values.items vs c.as_slice-numbers.ensures.value c.as_slice-values.ensures.value c.in_ok-end.ensures.darts in
     most_moved darts (darts_in schema xs vs) same (2 * schema.dim + 5) c.args.steps.now c.build_lines.new.steps c.build_lines.ensures.most
 
 pub returns-in_err-end-clause-held : goal.returns-in_err-end-clause-held

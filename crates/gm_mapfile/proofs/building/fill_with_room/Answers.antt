@@ -46,12 +46,7 @@ fill-requires-clause-reserved g c d live =
 pub fill-requires-clause-room : goal.fill-requires-clause-room
 fill-requires-clause-room g c =
     let schema_is : c.reserve.new.self.schema ≡ c.args.arena.now.schema = ap (λ (x : ArenaMap). x.schema) c.in_ok-reserve.ensures.map in
-    subst (λ s. AreInRoom s c.args.numbers.now c.args.words.now) (sym schema_is) c.requires.room
-
-pub fill-requires-clause-embeds : goal.fill-requires-clause-embeds
-fill-requires-clause-embeds g c =
-    let schema_is : c.reserve.new.self.schema ≡ c.args.arena.now.schema = ap (λ (x : ArenaMap). x.schema) c.in_ok-reserve.ensures.map in
-    subst (λ (s : Schema). length s.embeds ≤ 8) (sym schema_is) c.requires.embeds
+    subst (λ s. AreInRoom s c.args.numbers.now c.args.values.now) (sym schema_is) c.requires.room
 
 pub fill-requires-clause-spare : goal.fill-requires-clause-spare
 fill-requires-clause-spare g c =
@@ -65,17 +60,17 @@ fill-requires-clause-next g c = c.requires.next
 pub returns-clause-held : goal.returns-clause-held
 returns-clause-held g c =
     let schema_is : c.reserve.new.self.schema ≡ c.args.arena.now.schema = ap (λ (x : ArenaMap). x.schema) c.in_ok-reserve.ensures.map in
-    subst (λ s. OnOk c.fill.result (IsHeld (version_in c.args.stated) s (darts_in s c.args.numbers.now c.args.words.now) c.fill.new.arena)) schema_is c.fill.ensures.held
+    subst (λ s. OnOk c.fill.result (IsHeld (version_in c.args.stated) s (darts_in s c.args.numbers.now c.args.values.now) c.fill.new.arena)) schema_is c.fill.ensures.held
 
 pub returns-clause-fault : goal.returns-clause-fault
 returns-clause-fault g c =
     let schema_is : c.reserve.new.self.schema ≡ c.args.arena.now.schema = ap (λ (x : ArenaMap). x.schema) c.in_ok-reserve.ensures.map in
-    subst (λ (s : Schema). IfErr c.fill.result (IsNameFault (version_in c.args.stated) s.dim (darts_in s c.args.numbers.now c.args.words.now))) schema_is c.fill.ensures.fault
+    subst (λ (s : Schema). IfErr c.fill.result (IsNameFault (version_in c.args.stated) s.dim (darts_in s c.args.numbers.now c.args.values.now))) schema_is c.fill.ensures.fault
 
 pub returns-clause-most : goal.returns-clause-most
 returns-clause-most g c =
     let schema_is : c.reserve.new.self.schema ≡ c.args.arena.now.schema = ap (λ (x : ArenaMap). x.schema) c.in_ok-reserve.ensures.map in
-    subst (λ (s : Schema). c.fill.new.steps ≤ c.args.steps.now + (2 * s.dim + 5) * length (darts_in s c.args.numbers.now c.args.words.now)) schema_is c.fill.ensures.most
+    subst (λ (s : Schema). c.fill.new.steps ≤ c.args.steps.now + (2 * s.dim + 5) * length (darts_in s c.args.numbers.now c.args.values.now)) schema_is c.fill.ensures.most
 
 pub returns-clause-least : goal.returns-clause-least
 returns-clause-least g c = c.fill.ensures.least

@@ -1,25 +1,107 @@
-use Rattle.std.proofs.Common.{◌+◌, ◌/◌, length, All, refl, sym, ◌∙◌, arith}
-use Rattle.gm_arena.specs.ArenaMap.{IsLiveName}
-use Rattle.gm_mapfile.proofs.LinkedLines.{all_lines_linked, live_below, length_rows}
+use Rattle.std.proofs.Common.{◌≡◌, ◌+◌, ◌*◌, ◌∷◌, [], ◌++◌, length, sym, ap, subst, ◌∙◌, arith}
+use Rattle.std.proofs.lemmas.List.{length_push}
+use Rattle.std.specs.Slice.Iter.{chunks_exact_rest}
+use Rattle.gm_arena.specs.ArenaMap.{ArenaMap}
+use Rattle.gm_mapfile.specs.Rows.{row_in, rows_in}
+use Rattle.gm_mapfile.specs.Building.{AreLinkedUnless, AreWhole}
+use Rattle.gm_mapfile.proofs.Chunks.{one_more, no_more}
+use Rattle.gm_mapfile.proofs.Linking.{none_relinked, slots_live}
+use Rattle.gm_mapfile.proofs.LinkedLine.{line_live, line_linked, line_lacks, steps_more, neighbours_long}
 use Rattle.gm_mapfile.proofs.building.link_darts.Goals as goal
 
-pub returns-then-are_below-clause-relinked : goal.returns-then-are_below-clause-relinked
-returns-then-are_below-clause-relinked g c =
-    let old = c.args.arena.now in
-    let n = old.schema.dim in
-    let numbers = c.args.numbers.now in
-    let live : All (IsLiveName old) numbers = live_below old numbers c.count.result c.requires.added.slots ((c.if-has_slots_for_names.ensures.at refl)) ((c.if-has_slots_for_names.ensures.count refl) ∙ sym c.count.ensures.count) (c.if-are_below.ensures refl) in
-    rw c.link_lines.ensures.map (all_lines_linked n old numbers c.requires.added live).0
-
-pub returns-then-are_below-clause-linked : goal.returns-then-are_below-clause-linked
-returns-then-are_below-clause-linked g c =
-    let old = c.args.arena.now in
-    let n = old.schema.dim in
-    let numbers = c.args.numbers.now in
-    let live : All (IsLiveName old) numbers = live_below old numbers c.count.result c.requires.added.slots ((c.if-has_slots_for_names.ensures.at refl)) ((c.if-has_slots_for_names.ensures.count refl) ∙ sym c.count.ensures.count) (c.if-are_below.ensures refl) in
-    rw c.link_lines.ensures.map (all_lines_linked n old numbers c.requires.added live).1
-
-pub returns-then-are_below-clause-most : goal.returns-then-are_below-clause-most
-returns-then-are_below-clause-most g c =
+pub loop-line-init : goal.loop-line-init
+loop-line-init g c =
     let n = c.args.arena.now.schema.dim in
-    rw (length_rows n (length c.args.numbers.now / (n + 2)) c.args.numbers.now) (omega (arith, c.link_lines.ensures.cost))
+    let rest : chunks_exact_rest c.into_iter-line-iterator.result ≡ c.args.numbers.now = cc (c.into_iter-line-iterator.ensures.into_iter_gives, c.chunks_exact-line-items.ensures.rest) in
+    record {
+      front = [];
+      size = cc (c.into_iter-line-iterator.ensures.into_iter_gives, c.chunks_exact-line-items.ensures.size, c.top.ensures.value, c.schema.ensures);
+      split = ap (rows_in n) rest;
+      relinked = none_relinked n c.args.arena.now c.requires.added.whole;
+      linked = λ d i live. absurd cc;
+      most = omega arith;
+      least = omega arith;
+    }
+
+pub link_dart-requires-clause-live : goal.link_dart-requires-clause-live
+link_dart-requires-clause-live g c =
+    let n = c.args.arena.now.schema.dim in
+    let old = c.args.arena.now in
+    let before = c.loop-line.invariant in
+    let steps = c.in-Some.ensures.steps in
+    let listed = line_live n old c.loop-line.arena c.loop-line.arena before.front c.args.numbers.now _ c.in-Some.line.now _ before.split steps.1.0 (steps.1.1 ∙ before.size) in
+    before.relinked.live _ ∙ (c.requires.added.live _ ∙ listed)
+
+pub loop-line-preserved-in-Some-link_dart : goal.loop-line-preserved-in-Some-link_dart
+loop-line-preserved-in-Some-link_dart g c =
+    let n = c.args.arena.now.schema.dim in
+    let before = c.loop-line.invariant in
+    let steps = c.in-Some.ensures.steps in
+    let line = c.in-Some.line.now in
+    let long = steps.1.1 ∙ before.size in
+    let dim = ap (λ (x : ArenaMap). x.schema.dim) before.relinked.frame in
+    let said = c.in-Some-link_dart.ensures.linked in
+    let turn = line_lacks n c.args.arena.now c.loop-line.arena c.link_dart.new.arena before.front c.args.numbers.now _ line _ before.split steps.1.0 long c.requires.added.twice.0 before.relinked c.loop-line.missing before.linked dim c.in-Some-link_dart.label c.earlier.result said.0 said.1 c.earlier.ensures in
+    record {
+      front = before.front ++ row_in line ∷ [];
+      size = steps.0 ∙ before.size;
+      split = one_more n before.front _ _ line _ before.split steps.1.0 long;
+      relinked = turn.0;
+      linked = turn.1;
+      most = steps_more (2 * n + 3) c.args.steps.now c.loop-line.steps c.link_dart.new.steps (length before.front) _ (length_push before.front (row_in line)) before.most (omega (arith, c.in-Some-link_dart.ensures.most, dim));
+      least = omega (arith, before.least, c.in-Some-link_dart.ensures.least);
+    }
+
+pub loop-line-preserved : goal.loop-line-preserved
+loop-line-preserved g c =
+    let n = c.args.arena.now.schema.dim in
+    let before = c.loop-line.invariant in
+    let steps = c.in-Some.ensures.steps in
+    let line = c.in-Some.line.now in
+    let long = steps.1.1 ∙ before.size in
+    let dim = ap (λ (x : ArenaMap). x.schema.dim) before.relinked.frame in
+    let turn = line_linked n c.args.arena.now c.loop-line.arena c.link_dart.new.arena before.front c.args.numbers.now _ line _ before.split steps.1.0 long c.requires.added.twice.0 before.relinked c.loop-line.missing before.linked dim c.in_default.ensures.linked in
+    record {
+      front = before.front ++ row_in line ∷ [];
+      size = steps.0 ∙ before.size;
+      split = one_more n before.front _ _ line _ before.split steps.1.0 long;
+      relinked = turn.0;
+      linked = turn.1;
+      most = steps_more (2 * n + 3) c.args.steps.now c.loop-line.steps c.link_dart.new.steps (length before.front) _ (length_push before.front (row_in line)) before.most (omega (arith, c.in_default.ensures.most, dim));
+      least = omega (arith, before.least, c.in_default.ensures.least);
+    }
+
+pub returns-clause-linked : goal.returns-clause-linked
+returns-clause-linked g c =
+    let n = c.args.arena.now.schema.dim in
+    let before = c.loop-line.invariant in
+    let steps = c.in-None.ensures.steps in
+    let whole = no_more n before.front (rows_in n c.args.numbers.now) _ before.split (omega (arith, steps.1.0, before.size)) in
+    subst (λ rows. AreLinkedUnless n c.args.arena.now c.loop-line.arena rows c.loop-line.missing) whole before.linked
+
+pub returns-clause-most : goal.returns-clause-most
+returns-clause-most g c =
+    let n = c.args.arena.now.schema.dim in
+    let before = c.loop-line.invariant in
+    let steps = c.in-None.ensures.steps in
+    let whole = no_more n before.front (rows_in n c.args.numbers.now) _ before.split (omega (arith, steps.1.0, before.size)) in
+    rw (ap length (sym whole)) before.most
+
+pub link_dart-requires-clause-slots : goal.link_dart-requires-clause-slots
+link_dart-requires-clause-slots g c = slots_live _ _ _ c.loop-line.invariant.relinked c.requires.added.slots
+
+pub link_dart-requires-clause-whole : goal.link_dart-requires-clause-whole
+link_dart-requires-clause-whole g c =
+    let before = c.loop-line.invariant in
+    subst (λ n. AreWhole n c.loop-line.arena) (sym (ap (λ (x : ArenaMap). x.schema.dim) before.relinked.frame)) before.relinked.whole
+
+pub link_dart-requires-clause-labels : goal.link_dart-requires-clause-labels
+link_dart-requires-clause-labels g c =
+    let before = c.loop-line.invariant in
+    neighbours_long c.in-Some.line.now _ (c.in-Some.ensures.steps.1.1 ∙ before.size ∙ ap (λ (x : ArenaMap). x.schema.dim + 2) (sym before.relinked.frame))
+
+pub returns-clause-relinked : goal.returns-clause-relinked
+returns-clause-relinked g c = c.loop-line.invariant.relinked
+
+pub returns-clause-least : goal.returns-clause-least
+returns-clause-least g c = c.loop-line.invariant.least

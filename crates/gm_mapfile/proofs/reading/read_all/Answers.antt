@@ -21,7 +21,7 @@ returns-in_err-read_end-clause-stops c =
     let there = c.read_head.new.lexer in
     let behind = c.read_darts.new.lexer in
     rw (p.1, p.2)
-    (end_stop head.stated head.schema head.count old there (rw c.new-lexer.ensures at c.in_ok-stated.ensures.reads) behind lines.numbers.items lines.words.items c.in_ok-numbers.ensures.reads c.in_err-read_end.field-0.0 c.in_err-read_end.ensures.more)
+    (end_stop head.stated head.schema head.count old there (rw c.new-lexer.ensures at c.in_ok-stated.ensures.reads) behind lines.numbers.items lines.values.items c.in_ok-numbers.ensures.reads c.in_err-read_end.field-0.0 c.in_err-read_end.ensures.more)
 
 pub returns-clause-reads : goal.returns-clause-reads
 returns-clause-reads c =
@@ -30,7 +30,7 @@ returns-clause-reads c =
     let old : Cursor = record { text = c.args.bytes.now; place = 0 } in
     let there = c.read_head.new.lexer in
     let behind = c.read_darts.new.lexer in
-    map_reads head.stated head.schema head.count old there (rw c.new-lexer.ensures at c.in_ok-stated.ensures.reads) behind lines.numbers.items lines.words.items c.in_ok-numbers.ensures.reads c.in_ok-read_end.ensures.ends
+    map_reads head.stated head.schema head.count old there (rw c.new-lexer.ensures at c.in_ok-stated.ensures.reads) behind lines.numbers.items lines.values.items c.in_ok-numbers.ensures.reads c.in_ok-read_end.ensures.ends
 
 pub returns-in_err-stated-clause-reads : goal.returns-in_err-stated-clause-reads
 returns-in_err-stated-clause-reads c = unless_ok _ c.from_residual.result c.from_residual.ensures.0

@@ -8,7 +8,7 @@ use Rattle.gm_mapfile.proofs.DartReads.{lines_none, lines_more, stop_at_names, s
 use Rattle.gm_mapfile.proofs.reading.read_darts.Goals as goal
 
 pub loop-init : goal.loop-init
-loop-init c = rw (c.fork-ahead.ensures, c.in_ok-numbers.ensures.items, c.in_ok-words.ensures.items) (lines_none c.args.schema.now c.args.lexer.now)
+loop-init c = rw (c.fork-ahead.ensures, c.in_ok-numbers.ensures.items, c.in_ok-values.ensures.items) (lines_none c.args.schema.now c.args.lexer.now)
 
 pub returns-in_err-read_names-clause-stops : goal.returns-in_err-read_names-clause-stops
 returns-in_err-read_names-clause-stops c =
@@ -16,7 +16,7 @@ returns-in_err-read_names-clause-stops c =
     let l = c.loop in
     let fault = c.in_err-read_names.field-0.0 in
     let misses = subst (λ (n : ℕ). Misses (replicate (n + 2) (TheNumber DartName)) l.ahead fault) c.top.ensures.value c.in_err-read_names.ensures.stops in
-    rw (p.1, p.2) (stop_at_names c.args.schema.now l.counter c.args.lexer.now l.ahead l.numbers.items l.words.items l.invariant c.args.count fault c.loop-test.true misses)
+    rw (p.1, p.2) (stop_at_names c.args.schema.now l.counter c.args.lexer.now l.ahead l.numbers.items l.values.items l.invariant c.args.count fault c.loop-test.true misses)
 
 pub returns-in_err-read_values-clause-stops : goal.returns-in_err-read_values-clause-stops
 returns-in_err-read_values-clause-stops c =
@@ -27,23 +27,23 @@ returns-in_err-read_values-clause-stops c =
     let names = c.read_names.new.names.items in
     let reads = subst (λ (n : ℕ). ReadsNames (n + 2) l.ahead behind l.numbers.items names) c.top.ensures.value c.in_ok-read_names.ensures.reads in
     let misses = subst (λ (embeds : List Embed). Misses (values_wants embeds) behind fault) c.as_slice-embeds.ensures c.in_err-read_values.ensures.stops in
-    rw (p.1, p.2) (stop_at_values c.args.schema.now l.counter c.args.lexer.now l.ahead l.numbers.items l.words.items l.invariant c.args.count fault names behind c.loop-test.true reads misses)
+    rw (p.1, p.2) (stop_at_values c.args.schema.now l.counter c.args.lexer.now l.ahead l.numbers.items l.values.items l.invariant c.args.count fault names behind c.loop-test.true reads misses)
 
 pub loop-preserved : goal.loop-preserved
 loop-preserved c =
     let l = c.loop in
     let behind = c.read_names.new.lexer in
     let names = c.read_names.new.names.items in
-    let values = c.read_values.new.words.items in
+    let values = c.read_values.new.values.items in
     let reads = subst (λ (n : ℕ). ReadsNames (n + 2) l.ahead behind l.numbers.items names) c.top.ensures.value c.in_ok-read_names.ensures.reads in
-    let more = subst (λ (embeds : List Embed). ReadsValues embeds behind c.read_values.new.lexer l.words.items values) c.as_slice-embeds.ensures c.in_ok-read_values.ensures.reads in
-    lines_more c.args.schema.now l.counter c.args.lexer.now l.ahead l.numbers.items l.words.items l.invariant names values behind c.read_values.new.lexer reads more
+    let more = subst (λ (embeds : List Embed). ReadsValues embeds behind c.read_values.new.lexer l.values.items values) c.as_slice-embeds.ensures c.in_ok-read_values.ensures.reads in
+    lines_more c.args.schema.now l.counter c.args.lexer.now l.ahead l.numbers.items l.values.items l.invariant names values behind c.read_values.new.lexer reads more
 
 pub returns-in_err-numbers-clause-reads : goal.returns-in_err-numbers-clause-reads
 returns-in_err-numbers-clause-reads c = unless_ok _ c.from_residual.result c.from_residual.ensures.0
 
-pub returns-in_err-words-clause-reads : goal.returns-in_err-words-clause-reads
-returns-in_err-words-clause-reads c = unless_ok _ c.from_residual-in_err-words.result c.from_residual-in_err-words.ensures.0
+pub returns-in_err-values-clause-reads : goal.returns-in_err-values-clause-reads
+returns-in_err-values-clause-reads c = unless_ok _ c.from_residual-in_err-values.result c.from_residual-in_err-values.ensures.0
 
 pub returns-in_err-read_names-clause-reads : goal.returns-in_err-read_names-clause-reads
 returns-in_err-read_names-clause-reads c = unless_ok _ c.from_residual-in_err-read_names.result c.from_residual-in_err-read_names.ensures.0

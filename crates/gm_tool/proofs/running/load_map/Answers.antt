@@ -25,12 +25,12 @@ pub returns-in_err-bytes-clause-least : goal.returns-in_err-bytes-clause-least
 returns-in_err-bytes-clause-least g c = rw (err_from_is_err_and c.from_residual.result c.from_residual.ensures.1).1 tt
 
 pub returns-clause-read : goal.returns-clause-read
-returns-clause-read g c = IfOk-weaker c.read.result _ _ (λ read stands. (c.in_ok-bytes.bytes.items, stands)) c.read.ensures.map
+returns-clause-read g c = IfOk-weaker c.read-read.result _ _ (λ read stands. (c.as_slice.result.now, stands)) c.read-read.ensures.map
 
 pub returns-clause-from : goal.returns-clause-from
 returns-clause-from g c =
-    read_from TheMap c.args.name.now IsReadMap IsBadMap (Rises (g.S.Store.load_faults c.args.store.now) (g.S.Store.load_faults c.load_file.new.store)) (g.S.Store.holds c.args.store.now) c.in_ok-bytes.bytes.items c.read.result c.in_ok-bytes.ensures.loading
-    c.read.ensures.map c.read.ensures.stop
+    read_from TheMap c.args.name.now IsReadMap IsBadMap (Rises (g.S.Store.load_faults c.args.store.now) (g.S.Store.load_faults c.load_file.new.store)) (g.S.Store.holds c.args.store.now) c.in_ok-bytes.bytes.items c.read-read.result c.in_ok-bytes.ensures.loading
+    (rw c.as_slice.ensures.value at c.read-read.ensures.map) (rw c.as_slice.ensures.value at c.read-read.ensures.stop)
 
 pub returns-clause-most : goal.returns-clause-most
-returns-clause-most g c = loaded_within (g.S.Store.holds c.args.store.now) c.args.name.now c.in_ok-bytes.bytes.items _ _ c.in_ok-bytes.ensures.loading.1 c.read.ensures.most
+returns-clause-most g c = loaded_within (g.S.Store.holds c.args.store.now) c.args.name.now c.in_ok-bytes.bytes.items _ _ c.in_ok-bytes.ensures.loading.1 (rw c.as_slice.ensures.value at c.read-read.ensures.most)

@@ -7,12 +7,12 @@ use Rattle.gm_tool.proofs.running.printed.Goals as goal
 
 pub returns-in_err-text-clause-texts : goal.returns-in_err-text-clause-texts
 returns-in_err-text-clause-texts g c told tells =
-    let p = err_from_is_err_and c.from_residual.result c.from_residual.ensures.1 in
+    let p = err_from_is_err_and c.from_residual-in_err-text.result c.from_residual-in_err-text.ensures.1 in
     rw (p.1, p.2) tt
 
 pub returns-in_err-map-clause-texts : goal.returns-in_err-map-clause-texts
 returns-in_err-map-clause-texts g c told tells =
-    let p = err_from_is_err_and c.from_residual-in_err-map.result c.from_residual-in_err-map.ensures.1 in
+    let p = err_from_is_err_and c.from_residual.result c.from_residual.ensures.1 in
     rw (p.1, p.2) tt
 
 pub returns-clause-texts : goal.returns-clause-texts
@@ -21,10 +21,10 @@ returns-clause-texts g c told tells =
     (rw (c.status_of-status.ensures told (subst (λ lines. Tells lines told) (sym c.as_slice.ensures) tells), c.in_ok-text.ensures told tells, c.in_ok-map.ensures.text) at c.within_limit.ensures)
 
 pub returns-in_err-text-clause-map : goal.returns-in_err-text-clause-map
-returns-in_err-text-clause-map g c = rw (err_from_is_err_and c.from_residual.result c.from_residual.ensures.1).1 tt
+returns-in_err-text-clause-map g c = rw (err_from_is_err_and c.from_residual-in_err-text.result c.from_residual-in_err-text.ensures.1).1 tt
 
 pub returns-in_err-map-clause-map : goal.returns-in_err-map-clause-map
-returns-in_err-map-clause-map g c = rw (err_from_is_err_and c.from_residual-in_err-map.result c.from_residual-in_err-map.ensures.1).1 tt
+returns-in_err-map-clause-map g c = rw (err_from_is_err_and c.from_residual.result c.from_residual.ensures.1).1 tt
 
 pub returns-clause-map : goal.returns-clause-map
-returns-clause-map g c = fitted_bytes c.args.version c.args.arena.now _ _ c.in_ok-map.map.items c.within_limit.result c.within_limit.ensures c.in_ok-map.ensures.text c.in_ok-map.ensures.stands
+returns-clause-map g c = fitted_bytes c.args.sheet.version c.args.arena _ _ c.in_ok-map.map.items c.within_limit.result c.within_limit.ensures c.in_ok-map.ensures.text c.in_ok-map.ensures.stands

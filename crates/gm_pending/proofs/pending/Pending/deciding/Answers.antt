@@ -1,11 +1,9 @@
-use Rattle.std.proofs.Common.{◌<◌, List, Contains, length, sym, ap, subst, arith}
+use Rattle.std.proofs.Common.{◌<◌, List, Contains, Some, length, set, refl, sym, ap, subst, arith}
 use Rattle.gm_model.specs.Maps.{IsEmbedAt}
 use Rattle.gm_pending.specs.declared.deciding_instance.DecidingInstance.{DecidingInstance}
 use Rattle.gm_pending.specs.Results.{PendingOf, AreDecidingInstances, IsWithinReach}
 use Rattle.gm_pending.proofs.Answering.{kept_answers, kept_asked, kept_deciders, kept_prepared, good_if_ungiven}
 use Rattle.gm_model.proofs.Exits.{never_ok, on_err, unless_ok}
-use Rattle.std.proofs.lemmas.List.{length-map}
-use Rattle.gm_pending.specs.Answered.{instances_in}
 use Rattle.gm_pending.proofs.pending.Pending.deciding.Goals as goal
 
 pub returns-in_err-orbits-clause-cost : goal.returns-in_err-orbits-clause-cost
@@ -22,9 +20,9 @@ invariant_of-self g c =
     let orbits = c.in_ok-orbits.orbits in
     let within = subst (λ (a : PendingOf). c.args.embed < length a.map.schema.embeds) (sym c.in_ok-look_up.ensures) c.requires.embed in
     let good = good_if_ungiven orbits.instances.items c.in_ok-orbits.ensures.ungiven in (
-      kept_prepared s.arena.now s.plan.now.table s.found.now s.orbits.items c.args.embed orbits c.look_up.new.self c.self.view_is c.self.invariant.0 c.self.invariant.2 within c.put_orbits.new.by_embed.items c.put_orbits.ensures c.in_ok-orbits.ensures.deciders c.in_ok-orbits.ensures.reached (λ x p embed v at given. good x p embed v given),
+      kept_prepared s.arena.now s.plan.now.table s.found.now s.orbits.items c.args.embed orbits c.look_up.new.self c.self.view_is c.self.invariant.0 c.self.invariant.2 within (set s.orbits.items c.args.embed (Some orbits)) refl c.in_ok-orbits.ensures.deciders c.in_ok-orbits.ensures.reached (λ x p embed v at given. good x p embed v given),
       c.self.invariant.1,
-      kept_answers s.arena.now s.plan.now.table s.found.now s.orbits.items c.args.embed orbits c.look_up.new.self c.self.view_is c.self.invariant.0 c.self.invariant.2 within c.put_orbits.new.by_embed.items c.put_orbits.ensures c.in_ok-orbits.ensures.deciders c.in_ok-orbits.ensures.reached (λ x p embed v at given. good x p embed v given),
+      kept_answers s.arena.now s.plan.now.table s.found.now s.orbits.items c.args.embed orbits c.look_up.new.self c.self.view_is c.self.invariant.0 c.self.invariant.2 within (set s.orbits.items c.args.embed (Some orbits)) refl c.in_ok-orbits.ensures.deciders c.in_ok-orbits.ensures.reached (λ x p embed v at given. good x p embed v given),
       c.self.invariant.3,
     )
 
@@ -34,7 +32,7 @@ returns-clause-asked g c =
     let orbits = c.in_ok-orbits.orbits in
     let within = subst (λ (a : PendingOf). c.args.embed < length a.map.schema.embeds) (sym c.in_ok-look_up.ensures) c.requires.embed in
     let good = good_if_ungiven orbits.instances.items c.in_ok-orbits.ensures.ungiven in
-    rw (← c.in_ok-look_up.ensures) (kept_asked s.arena.now s.plan.now.table s.found.now s.orbits.items c.args.embed orbits c.look_up.new.self c.self.view_is c.self.invariant.0 c.self.invariant.2 within c.put_orbits.new.by_embed.items c.put_orbits.ensures c.in_ok-orbits.ensures.deciders c.in_ok-orbits.ensures.reached (λ x p embed v at given. good x p embed v given))
+    rw (← c.in_ok-look_up.ensures) (kept_asked s.arena.now s.plan.now.table s.found.now s.orbits.items c.args.embed orbits c.look_up.new.self c.self.view_is c.self.invariant.0 c.self.invariant.2 within (set s.orbits.items c.args.embed (Some orbits)) refl c.in_ok-orbits.ensures.deciders c.in_ok-orbits.ensures.reached (λ x p embed v at given. good x p embed v given))
 
 pub returns-clause-deciders : goal.returns-clause-deciders
 returns-clause-deciders g c = λ kept at.
@@ -42,7 +40,7 @@ returns-clause-deciders g c = λ kept at.
     let orbits = c.in_ok-orbits.orbits in
     let within = subst (λ (a : PendingOf). c.args.embed < length a.map.schema.embeds) (sym c.in_ok-look_up.ensures) c.requires.embed in
     let good = good_if_ungiven orbits.instances.items c.in_ok-orbits.ensures.ungiven in
-    let here = kept_deciders s.arena.now s.plan.now.table s.found.now s.orbits.items c.args.embed orbits c.look_up.new.self c.self.view_is c.self.invariant.0 c.self.invariant.2 within c.put_orbits.new.by_embed.items c.put_orbits.ensures c.in_ok-orbits.ensures.deciders c.in_ok-orbits.ensures.reached (λ x p embed v at' given. good x p embed v given) in
+    let here = kept_deciders s.arena.now s.plan.now.table s.found.now s.orbits.items c.args.embed orbits c.look_up.new.self c.self.view_is c.self.invariant.0 c.self.invariant.2 within (set s.orbits.items c.args.embed (Some orbits)) refl c.in_ok-orbits.ensures.deciders c.in_ok-orbits.ensures.reached (λ x p embed v at' given. good x p embed v given) in
     subst (AreDecidingInstances c.args.self.now c.args.embed kept) (sym here)
     (subst (λ (a : PendingOf). AreDecidingInstances a c.args.embed kept orbits.instances.items) c.in_ok-look_up.ensures (c.in_ok-orbits.ensures.deciders kept (subst (λ (a : PendingOf). IsEmbedAt a.map.schema c.args.embed kept) (sym c.in_ok-look_up.ensures) at)))
 
@@ -52,7 +50,7 @@ returns-clause-ungiven g c = λ instance among.
     let orbits = c.in_ok-orbits.orbits in
     let within = subst (λ (a : PendingOf). c.args.embed < length a.map.schema.embeds) (sym c.in_ok-look_up.ensures) c.requires.embed in
     let good = good_if_ungiven orbits.instances.items c.in_ok-orbits.ensures.ungiven in
-    let here = kept_deciders s.arena.now s.plan.now.table s.found.now s.orbits.items c.args.embed orbits c.look_up.new.self c.self.view_is c.self.invariant.0 c.self.invariant.2 within c.put_orbits.new.by_embed.items c.put_orbits.ensures c.in_ok-orbits.ensures.deciders c.in_ok-orbits.ensures.reached (λ x p embed v at given. good x p embed v given) in
+    let here = kept_deciders s.arena.now s.plan.now.table s.found.now s.orbits.items c.args.embed orbits c.look_up.new.self c.self.view_is c.self.invariant.0 c.self.invariant.2 within (set s.orbits.items c.args.embed (Some orbits)) refl c.in_ok-orbits.ensures.deciders c.in_ok-orbits.ensures.reached (λ x p embed v at given. good x p embed v given) in
     c.in_ok-orbits.ensures.ungiven instance (subst (λ ds. Contains ds instance) here among)
 
 pub returns-clause-count : goal.returns-clause-count
@@ -61,7 +59,7 @@ returns-clause-count g c =
     let orbits = c.in_ok-orbits.orbits in
     let within = subst (λ (a : PendingOf). c.args.embed < length a.map.schema.embeds) (sym c.in_ok-look_up.ensures) c.requires.embed in
     let good = good_if_ungiven orbits.instances.items c.in_ok-orbits.ensures.ungiven in
-    let here = kept_deciders s.arena.now s.plan.now.table s.found.now s.orbits.items c.args.embed orbits c.look_up.new.self c.self.view_is c.self.invariant.0 c.self.invariant.2 within c.put_orbits.new.by_embed.items c.put_orbits.ensures c.in_ok-orbits.ensures.deciders c.in_ok-orbits.ensures.reached (λ x p embed v at given. good x p embed v given) in
+    let here = kept_deciders s.arena.now s.plan.now.table s.found.now s.orbits.items c.args.embed orbits c.look_up.new.self c.self.view_is c.self.invariant.0 c.self.invariant.2 within (set s.orbits.items c.args.embed (Some orbits)) refl c.in_ok-orbits.ensures.deciders c.in_ok-orbits.ensures.reached (λ x p embed v at given. good x p embed v given) in
     omega (arith, c.len-count.ensures, c.in_ok-orbits.ensures.few, ap (λ (ds : List DecidingInstance). length ds) here)
 
 pub returns-in_err-look_up-clause-cost : goal.returns-in_err-look_up-clause-cost
@@ -108,13 +106,6 @@ returns-in_err-orbits-clause-count g c = unless_ok _ c.from_residual-in_err-orbi
 
 pub returns-in_err-orbits-clause-err : goal.returns-in_err-orbits-clause-err
 returns-in_err-orbits-clause-err g c = on_err c.from_residual-in_err-orbits.result c.in_ok-look_up.ensures
-
-pub put_orbits-requires : goal.put_orbits-requires
-put_orbits-requires g c =
-    let s = c.self.inside in
-    let here = subst (λ (a : PendingOf). c.args.embed < length a.map.schema.embeds) (sym c.in_ok-look_up.ensures) c.requires.embed in
-    let within : c.args.embed < length s.arena.now.schema.embeds = subst (λ (a : PendingOf). c.args.embed < length a.map.schema.embeds) (sym c.self.view_is) here in
-    omega (arith, within, length-map s.orbits.items instances_in, c.self.invariant.0.each)
 
 pub returns-clause-err : goal.returns-clause-err
 returns-clause-err g c = tt

@@ -1,4 +1,4 @@
-use Rattle.std.proofs.Common.{◌≡◌, ◌≢◌, ℕ, Option, Some, None, MatchOption}
+use Rattle.std.proofs.Common.{◌≡◌, ◌≢◌, ◌∙◌, ℕ, Option, Some, None, MatchOption, sym, subst}
 use Rattle.gm_plan.specs.InArena.{slot_number}
 use Rattle.gm_theory.proofs.Scenes.{IsRightAt}
 use Rattle.gm_pending.specs.declared.at.At.TheVariants.{Old}
@@ -7,20 +7,23 @@ use Rattle.gm_pending.specs.Results.{PendingOf, IsPrepared, IsResultDart, scene_
 use Rattle.gm_pending.proofs.Darts.{instance_lies, none_lies}
 use Rattle.gm_pending.proofs.pending.Pending.instance.Goals as goal
 
-pub returns-then-is_old : goal.returns-then-is_old
-returns-then-is_old c = go c.left_instance.result c.left_instance.ensures.instance
+pub returns-in-Old : goal.returns-in-Old
+returns-in-Old c = rw is (go c.left_instance.result c.left_instance.ensures.instance)
   where
     app : PendingOf
     app = c.args.self.now
 
-    prepared : IsPrepared c.args.self.now
+    prepared : IsPrepared app
     prepared = c.left_instance.ensures.prepared
 
-    dart : IsResultDart c.args.self.now (Old c.slot.result)
-    dart = rw c.slot.ensures at c.requires
+    is : c.args.at ≡ Old c.in-Old.slot
+    is = sym c.unpack.ensures ∙ c.in-Old.is
 
-    go : (o : Option (ℕ × ℕ)) → MatchOption o ((x p : ℕ) → IsWithin c.args.self.now.placed x p → slot_number c.args.self.now.placed x p ≢ c.slot.result.at) (λ i. IsAtSlot c.args.self.now.placed c.slot.result.at i.0 i.1) → MatchOption o
-        ((x p : ℕ) → IsRightAt (scene_in c.args.self.now) x p → name_of c.args.self.now c.args.at ≡ (scene_in c.args.self.now).name_of x p → ⊥)
-        (λ i. IsRightAt (scene_in c.args.self.now) i.0 i.1 × (name_of c.args.self.now c.args.at ≡ (scene_in c.args.self.now).name_of i.0 i.1))
-    go None none = rw c.slot.ensures (none_lies c.args.self.now prepared c.slot.result.at dart none)
-    go (Some i) here = rw c.slot.ensures (instance_lies c.args.self.now prepared c.slot.result.at dart i.0 i.1 here)
+    dart : IsResultDart app (Old c.in-Old.slot)
+    dart = subst (IsResultDart app) is c.requires
+
+    go : (o : Option (ℕ × ℕ)) → MatchOption o ((x p : ℕ) → IsWithin app.placed x p → slot_number app.placed x p ≢ c.in-Old.slot.at) (λ i. IsAtSlot app.placed c.in-Old.slot.at i.0 i.1) → MatchOption o
+        ((x p : ℕ) → IsRightAt (scene_in app) x p → name_of app (Old c.in-Old.slot) ≡ (scene_in app).name_of x p → ⊥)
+        (λ i. IsRightAt (scene_in app) i.0 i.1 × (name_of app (Old c.in-Old.slot) ≡ (scene_in app).name_of i.0 i.1))
+    go None none = none_lies app prepared c.in-Old.slot.at dart none
+    go (Some i) here = instance_lies app prepared c.in-Old.slot.at dart i.0 i.1 here

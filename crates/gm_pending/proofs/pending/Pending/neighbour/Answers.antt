@@ -1,7 +1,6 @@
 use Rattle.std.proofs.Common.{subst}
 use Rattle.gm_arena.specs.ArenaMap.{IsAt, name_at, alpha}
-use Rattle.gm_pending.specs.declared.at.At.TheVariants.{Old}
-use Rattle.gm_pending.specs.Results.{PendingOf, IsPrepared, IsResultDart}
+use Rattle.gm_pending.specs.Results.{PendingOf, IsPrepared}
 use Rattle.gm_pending.proofs.Darts.{old_kept, unmade_old}
 use Rattle.gm_pending.proofs.KeptArcs.{kept_neighbour}
 use Rattle.gm_pending.proofs.pending.Pending.neighbour.Goals as goal

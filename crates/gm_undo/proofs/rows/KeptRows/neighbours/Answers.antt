@@ -1,5 +1,5 @@
 use Rattle.std.proofs.Common.{◌<◌, length, sym, ap, subst, ◌∙◌, arith}
-use Rattle.gm_arena.specs.Inside.{part_of}
+use Rattle.gm_arena.specs.Parts.{part_of}
 use Rattle.gm_undo.specs.Flat.{RowsOf, row_in}
 use Rattle.gm_undo.specs.Kept.{KeptRow}
 use Rattle.gm_undo.proofs.Flats.{row_is, rows_long, stretch}

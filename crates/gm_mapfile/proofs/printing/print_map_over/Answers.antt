@@ -7,7 +7,7 @@ use Rattle.gm_mapfile.specs.Rows.{listed_of}
 use Rattle.gm_mapfile.proofs.ArenaDarts.{darts_ascending}
 use Rattle.gm_mapfile.proofs.Printable.{arena_printed}
 use Rattle.gm_mapfile.proofs.SoundRows.{as_listed}
-use Rattle.gm_mapfile.proofs.printing.print_map.Goals as goal
+use Rattle.gm_mapfile.proofs.printing.print_map_over.Goals as goal
 
 pub returns-clause-most : goal.returns-clause-most
 returns-clause-most g c =

@@ -3,7 +3,7 @@ use Rattle.std.specs.Slice.Iter.{chunks_exact_rest, chunks_exact_size}
 use Rattle.gm_model.specs.GMap.{Row}
 use Rattle.gm_mapfile.specs.Rows.{rows_in}
 use Rattle.gm_mapfile.specs.Building.{IsRelinked, AreLinkedUnless}
-use Rattle.gm_mapfile.proofs.building.look_up_neighbours.Given as goal
+use Rattle.gm_mapfile.proofs.building.link_darts.Given as goal
 
 abbrev pub invariant-loop-line : goal.invariant-loop-line
 invariant-loop-line g l = record {
