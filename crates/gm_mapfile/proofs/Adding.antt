@@ -149,12 +149,6 @@ module _ (n : ℕ) (rows : List Row) (row : Row) (m : ArenaMap) (found : Option 
       twice = twice_more (none new_name) found added.twice;
     }
 
-    pub added_more_named : (name : ℕ) → row.name ≡ name → get m.darts name ≡ None → AreAdded n (rows ++ row ∷ []) (with_dart m slot name values) found
-    added_more_named name same = subst (λ k. get m.darts k ≡ None → AreAdded n (rows ++ row ∷ []) (with_dart m slot k values) found) same (added_more)
-
-  pub added_again_named : (name t : ℕ) → row.name ≡ name → is_some (get m.darts name) ≡ true → MatchOption found (t ≡ name) (λ least. t ≡ min least name) → AreAdded n (rows ++ row ∷ []) m (Some t)
-  added_again_named name t same = subst (λ k. is_some (get m.darts k) ≡ true → MatchOption found (t ≡ k) (λ least. t ≡ min least k) → AreAdded n (rows ++ row ∷ []) m (Some t)) same (added_again t)
-
 -- ---- what a look-up by name answers
 
 module _ {A : Type 0} (P : Type 0) (Q : A → Type 0) where

@@ -29,9 +29,6 @@ left k count lt = omega (arith, lt)
 
 -- ---- names
 
-pub names_none : (old : Cursor) (before : List ℕ) → ReadsNames 0 old old before before
-names_none old before = ([], sym (append-nil before), refl, takes_nothing old)
-
 pub names_more : (count : ℕ) (old between new : Cursor) (before names : List ℕ) (name : ℕ) → ReadsNames count old between before names → Takes (TheNumber DartName ∷ []) (pos name ∷ []) between new → ReadsNames (count + 1) old new before (names ++ name ∷ [])
 names_more count old between new before names name (more, is, long, takes) one = (
   more ++ name ∷ [],

@@ -12,7 +12,7 @@ use Rattle.gm_model.specs.GMap.{Row, row_of, IsLive}
 use Rattle.gm_model.specs.GMap as written
 use Rattle.gm_arena.specs.ArenaMap.{ArenaMap, Dart, alpha}
 use Rattle.gm_mapfile.specs.MapText.{First, DartRow, bare, IsNext, names, rows_of, dart_of}
-use Rattle.gm_mapfile.specs.MapFaults.{AreNamedOnce, AreBelow, IsLeastNotBelow, HaveTargets}
+use Rattle.gm_mapfile.specs.MapFaults.{AreNamedOnce, IsLeastNotBelow, HaveTargets}
 use Rattle.gm_mapfile.specs.Draft.{version_in}
 use Rattle.gm_mapfile.specs.Building.{AreWhole, AreLive, AreValued, IsHeld}
 use Rattle.gm_mapfile.proofs.Darts.{row_of_dart, live_dart, is_some-map}
@@ -94,11 +94,7 @@ module _ (n : ℕ) (darts : List DartRow) (order : AreInOrder n darts) where
     ];
   }
 
-  -- each name is below a stated one that isn't below the number of darts
-  pub below_in_order : (next : ℕ) → length darts ≤ next → AreBelow (rows_of darts) next
-  below_in_order next most d live = omega (arith, within_live d live, most)
-
-  -- and else the stated one is itself the least name that isn't below it
+  -- a stated one that is the name of a dart is itself the least name that isn't below it
   pub least_in_order : (next : ℕ) → next < length darts → IsLeastNotBelow (rows_of darts) next next
   least_in_order next lt = record {
     live = live_within next lt;

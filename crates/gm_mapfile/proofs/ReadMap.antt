@@ -59,9 +59,6 @@ text_fault_named text (texts.Limit what place) h = first.AtPasses what place h
 text_fault_named text (texts.Twice place) h = first.AtAgain place h
 text_fault_named text texts.OutOfMemory h = tt
 
-pub text_fault_of : (text : List ℕ) (fault : SchemaFault) → IsFaultIn text fault → IsFaultOf text (map_fault_of_text fault)
-text_fault_of text fault h = without_name text (map_fault_of_text fault) None (text_fault_named text fault h)
-
 all_both : (P : ℕ → Type 0) (xs ys : List ℕ) → AllByRecursion P xs → AllByRecursion P ys → AllByRecursion P (xs ++ ys)
 all_both P [] ys one other = other
 all_both P (x ∷ xs) ys one other = (one.0, all_both P xs ys one.1 other)

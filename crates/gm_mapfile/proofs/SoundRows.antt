@@ -43,6 +43,3 @@ module _ (m : ArenaMap) where
 
 pub as_listed : (m : ArenaMap) → IsLawful m → IsSound (as_map m) → IsSound (map_of (listed_of m))
 as_listed m lawful sound = subst IsSound (same_map m) sound
-
-pub as_held : (m : ArenaMap) → IsSound (map_of (listed_of m)) → IsSound (as_map m)
-as_held m sound = subst IsSound (sym (same_map m)) sound
