@@ -51,7 +51,7 @@ pub(crate) fn build<L: Ledger>(
     let width = schema.dim.top() as usize + 2;
     let count = numbers.len() / width;
     if are_numbered(&numbers, width) && are_below(&numbers, count as u32) {
-        return take_lines(alloc, schema, stated, numbers, values, steps);
+        return arena_of_lines(alloc, schema, stated, numbers, values, steps);
     }
     let (numbers, values) = (numbers.as_slice(), values.as_slice());
     build_lines(alloc, schema, stated, end, numbers, values, steps)
@@ -82,7 +82,7 @@ fn are_below(numbers: &[u32], end: u32) -> bool
 }
 
 /// The arena of lines that are those of the darts 0, 1 and so on.
-fn take_lines<L: Ledger>(
+fn arena_of_lines<L: Ledger>(
     alloc: Global,
     schema: Schema,
     stated: Option<u32>,

@@ -53,7 +53,7 @@ pub fn print_map<L: Ledger>(
 }
 
 /// The same, in the room of the bytes, which are forgotten: those of the text that the map was read
-/// from, say, so that a map that is saved takes no room beside it.
+/// from, say, so that a map that is saved takes no room beside it where its text isn't longer.
 pub fn print_map_over<L: Ledger>(
     bytes: Vec<u8>,
     arena: &Arena,

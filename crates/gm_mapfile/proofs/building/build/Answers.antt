@@ -7,8 +7,8 @@ use Rattle.gm_mapfile.proofs.OwnLines.{are_lines}
 use Rattle.gm_mapfile.proofs.Reordered.{same_read, held_moved, fault_moved, most_moved}
 use Rattle.gm_mapfile.proofs.building.build.Goals as goal
 
-pub take_lines-requires-clause-lines : goal.take_lines-requires-clause-lines
-take_lines-requires-clause-lines g c =
+pub arena_of_lines-requires-clause-lines : goal.arena_of_lines-requires-clause-lines
+arena_of_lines-requires-clause-lines g c =
     let schema = c.args.draft.schema in
     let numbers = c.in_order.new.numbers.items in
     let room = c.in_ok-end.ensures.room in
@@ -24,19 +24,19 @@ pub returns-then-are_below-clause-held : goal.returns-then-are_below-clause-held
 returns-then-are_below-clause-held g c =
     let schema = c.args.draft.schema in
     let darts = darts_in schema c.args.draft.numbers.items c.args.draft.values.items in
-    if_ok_both c.take_lines.result (λ m held _. held_moved darts (darts_in schema c.in_order.new.numbers.items c.in_order.new.values.items) c.in_ok-end.ensures.darts (version_in c.args.draft.stated) schema m held) c.take_lines.ensures.held c.take_lines.ensures.held
+    if_ok_both c.arena_of_lines.result (λ m held _. held_moved darts (darts_in schema c.in_order.new.numbers.items c.in_order.new.values.items) c.in_ok-end.ensures.darts (version_in c.args.draft.stated) schema m held) c.arena_of_lines.ensures.held c.arena_of_lines.ensures.held
 
 pub returns-then-are_below-clause-fault : goal.returns-then-are_below-clause-fault
 returns-then-are_below-clause-fault g c =
     let schema = c.args.draft.schema in
     let darts = darts_in schema c.args.draft.numbers.items c.args.draft.values.items in
-    if_err c.take_lines.result (fault_moved darts (darts_in schema c.in_order.new.numbers.items c.in_order.new.values.items) c.in_ok-end.ensures.darts (version_in c.args.draft.stated) schema.dim) c.take_lines.ensures.fault
+    if_err c.arena_of_lines.result (fault_moved darts (darts_in schema c.in_order.new.numbers.items c.in_order.new.values.items) c.in_ok-end.ensures.darts (version_in c.args.draft.stated) schema.dim) c.arena_of_lines.ensures.fault
 
 pub returns-then-are_below-clause-most : goal.returns-then-are_below-clause-most
 returns-then-are_below-clause-most g c =
     let schema = c.args.draft.schema in
     let darts = darts_in schema c.args.draft.numbers.items c.args.draft.values.items in
-    most_moved darts (darts_in schema c.in_order.new.numbers.items c.in_order.new.values.items) c.in_ok-end.ensures.darts (2 * schema.dim + 5) c.args.steps.now c.take_lines.new.steps c.take_lines.ensures.most
+    most_moved darts (darts_in schema c.in_order.new.numbers.items c.in_order.new.values.items) c.in_ok-end.ensures.darts (2 * schema.dim + 5) c.args.steps.now c.arena_of_lines.new.steps c.arena_of_lines.ensures.most
 
 pub returns-clause-held : goal.returns-clause-held
 returns-clause-held g c =

@@ -5,7 +5,7 @@ use Rattle.gm_mapfile.specs.Faults.{IsNameFault}
 use Rattle.gm_mapfile.specs.Rows.{darts_in}
 use Rattle.gm_mapfile.specs.declared.fault.MapFault.TheVariants as faults
 use Rattle.gm_mapfile.proofs.OwnLines.{steps_made, held_made, held_stated, not_above}
-use Rattle.gm_mapfile.proofs.building.take_lines.Goals as goal
+use Rattle.gm_mapfile.proofs.building.arena_of_lines.Goals as goal
 
 pub returns-in_err-arena-clause-most : goal.returns-in_err-arena-clause-most
 returns-in_err-arena-clause-most g c = steps_made c.args.schema c.args.numbers.items c.args.values.items c.args.steps.now c.of_lines.new.steps c.of_lines.ensures.cost
