@@ -1,9 +1,9 @@
 -- What a change of an arena's map leaves at each dart and slot, for callers.
-use Rattle.std.proofs.Common.{◌≡◌, ◌≢◌, ℕ, ◌+◌, ◌<◌, ◌≤◌, List, get_or, replicate, Option, Some, None, refl, sym, ap, ◌∙◌, inl, inr, arith}
+use Rattle.std.proofs.Common.{◌≡◌, ◌≢◌, ℕ, ◌<◌, ◌≤◌, List, get_or, Option, Some, None, refl, sym, ap, ◌∙◌, arith}
 use Rattle.std.specs.Option.{option_map, option_map_or, unwrap_or}
 use Rattle.std.specs.FinMap as map
-use Rattle.std.proofs.lemmas.Bool.{cases_lt, false≢true}
-use Rattle.std.proofs.lemmas.List.{get_or-set_same, get_or-set_other, get_or-replicate, get_or_past, length-replicate}
+use Rattle.std.proofs.lemmas.Bool.{false≢true}
+use Rattle.std.proofs.lemmas.List.{get_or-set_same, get_or-set_other}
 use Rattle.std.proofs.lemmas.List.Elements.{All-get_or}
 use Rattle.gm_model.specs.declared.value.Value.{Value}
 use Rattle.gm_arena.specs.ArenaMap.{ArenaMap, Dart, IsAt, IsLiveSlot, IsLiveName, name_at, alpha}
@@ -91,16 +91,6 @@ module _ (m : ArenaMap) (slot name : ℕ) (values : List Value) where
   pub get-with_dart_other : (other : ℕ) → other ≢ name → map.get (with_dart m slot name values).darts other ≡ map.get m.darts other
   get-with_dart_other = get-insert_other m.darts name (free_dart m.schema.dim name values)
 
-  -- the new dart is its own neighbour
-  pub alpha-with_dart_same : (i : ℕ) → alpha (with_dart m slot name values) i name ≡ name
-  alpha-with_dart_same i = ap (λ o. option_map_or (λ (dart : Dart). get_or dart.alphas i name) o name) get-with_dart_same ∙ elim (cases_lt i (m.schema.dim + 1)) [
-    | inl l ↦ get_or-replicate (m.schema.dim + 1) i name name l
-    | inr l ↦ get_or_past (replicate (m.schema.dim + 1) name) i name (rw length-replicate l)
-  ]
-
-  pub alpha-with_dart_other : (i other : ℕ) → other ≢ name → alpha (with_dart m slot name values) i other ≡ alpha m i other
-  alpha-with_dart_other i other apart = alpha-alike m (with_dart m slot name values) i other (get-with_dart_other other apart)
-
   pub IsAt-with_dart_same : IsAt (with_dart m slot name values) slot name
   IsAt-with_dart_same = get-insert_same m.slots slot name
 
@@ -118,9 +108,6 @@ module _ (m : ArenaMap) (slot name : ℕ) where
 
   pub alpha-without_dart_other : (i other : ℕ) → other ≢ name → alpha (without_dart m slot name) i other ≡ alpha m i other
   alpha-without_dart_other i other apart = alpha-alike m (without_dart m slot name) i other (get-without_dart_other other apart)
-
-  pub slots-without_dart_same : map.get (without_dart m slot name).slots slot ≡ None
-  slots-without_dart_same = get-remove_same m.slots slot
 
   pub slots-without_dart_other : (other : ℕ) → other ≢ slot → map.get (without_dart m slot name).slots other ≡ map.get m.slots other
   slots-without_dart_other = get-remove_other m.slots slot

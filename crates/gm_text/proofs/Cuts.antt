@@ -36,9 +36,6 @@ pub record IsSoFar (before text after rest : List ℕ) : Type 0 where
   pub text_is : text ≡ front ++ rest
   pub after_is : after ≡ before ++ front
 
-pub so_far_none : (before text : List ℕ) → IsSoFar before text before text
-so_far_none before text = record { front = []; text_is = refl; after_is = sym (append-nil before) }
-
 pub so_far_more : (before text middle a rest after : List ℕ) → IsSoFar before text middle (a ++ rest) → after ≡ middle ++ a → IsSoFar before text after rest
 so_far_more before text middle a rest after so_far more = record {
   front = so_far.front ++ a;

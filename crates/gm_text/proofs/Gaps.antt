@@ -1,5 +1,5 @@
 -- Blanks and comments between two places of a text: there is no item among them.
-use Rattle.std.proofs.Common.{◌≡◌, ℕ, suc, ◌+◌, ◌-◌, ◌<◌, ◌⊎◌, inl, inr, Bool, true, false, not, List, length, drop, get_or, refl, sym, ap, ◌∙◌, arith, length-drop, get_or-drop}
+use Rattle.std.proofs.Common.{◌≡◌, ℕ, suc, ◌+◌, ◌-◌, ◌<◌, ◌⊎◌, inl, inr, Bool, true, false, not, List, length, drop, get_or, sym, ap, ◌∙◌, arith, length-drop, get_or-drop}
 use Rattle.std.specs.List.{take_while, prefix_len}
 use Rattle.std.proofs.lemmas.Bool.{cases_lt, eqb-true, not-false}
 use Rattle.std.proofs.lemmas.List.Folds.{length-prefix_len}
@@ -13,9 +13,6 @@ use Rattle.gm_text.proofs.Items.{items_at-gap}
 pub record IsPassed (text : List ℕ) (from to : ℕ) : Type 0 where
   pub same : items_at text from ≡ items_at text to
   pub gap : (stop : ℕ) → IsGap text to stop → IsGap text from stop
-
-pub IsPassed-nothing : (text : List ℕ) (place : ℕ) → IsPassed text place place
-IsPassed-nothing text place = record { same = refl; gap = λ stop gap. gap }
 
 pub IsPassed-then : (text : List ℕ) (a b c : ℕ) → IsPassed text a b → IsPassed text b c → IsPassed text a c
 IsPassed-then text a b c p q = record { same = p.same ∙ q.same; gap = λ stop gap. p.gap stop (q.gap stop gap) }

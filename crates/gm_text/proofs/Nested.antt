@@ -120,9 +120,6 @@ module _ {Outer Inner Role InnerRole What : Type 0} (nesting : Nesting Outer Inn
   abbrev RunInside : Inner → ℕ → List Mark → Result Inner (Stop Inner What)
   RunInside inner last marks = run (λ role. limit_of (nesting.wrap role)) (λ role. stands_before (nesting.wrap role)) nesting.inner_role nesting.inner_move inner last marks
 
-  abbrev StepInside : Inner → ℕ → Mark → Result Inner (Stop Inner What)
-  StepInside inner last mark = step (λ role. limit_of (nesting.wrap role)) (λ role. stands_before (nesting.wrap role)) nesting.inner_role nesting.inner_move inner last mark
-
   abbrev place_inside : Inner → ℕ → Mark → ℕ
   place_inside inner last mark = limit_place (λ role. limit_of (nesting.wrap role)) (λ role. stands_before (nesting.wrap role)) nesting.inner_role nesting.inner_move inner last mark
 

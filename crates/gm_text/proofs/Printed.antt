@@ -1,5 +1,5 @@
 -- Texts that are printed are read again: the symbols of a word, a number, a sign or a blank with any bytes behind it.
-use Rattle.std.proofs.Common.{◌≡◌, ℕ, zero, suc, ◌+◌, ◌-◌, ◌^◌, ◌<◌, ◌≤◌, Bool, true, false, not, cond, List, [], ◌∷◌, ◌++◌, length, take, drop, map, ℤ, pos, negsuc, refl, sym, ap, ◌∙◌, arith, add-one}
+use Rattle.std.proofs.Common.{◌≡◌, ℕ, zero, suc, ◌+◌, ◌-◌, ◌^◌, ◌<◌, ◌≤◌, Bool, true, false, cond, List, [], ◌∷◌, ◌++◌, length, take, drop, map, ℤ, pos, negsuc, refl, sym, ap, ◌∙◌, arith, add-one}
 use Rattle.std.specs.Prelude.{IsTrue, decimal}
 use Rattle.std.specs.Fmt.{signed_decimal}
 use Rattle.std.specs.List.{take_while, prefix_len, list_all}
@@ -11,10 +11,10 @@ use Rattle.std.proofs.lemmas.Str.Parse.{IsDigitsTest, IsNumeralModel, numerals_b
 use lib.Signed.{mag}
 use Rattle.gm_model.specs.declared.token.TokenKind.{TokenKind}
 use Rattle.gm_model.specs.declared.token.TokenKind.TheVariants as kinds
-use Rattle.gm_model.specs.Tokens.{is_blank, is_digit, is_name_byte, is_line_feed, is_sign, is_two_byte_sign, begins_two_byte_sign, IsLexeme, Item, Front, Gap, Lexeme, Stray, front_of, size_of, item_before, items_from}
-use Rattle.gm_model.specs.Symbols.{Symbol, Word, Numeral, Sign, Gone, End, value_after, value_of, symbol_of_kind, Mark, mark_of, marks_at, symbols, symbols_of}
+use Rattle.gm_model.specs.Tokens.{is_blank, is_digit, is_name_byte, is_sign, is_two_byte_sign, begins_two_byte_sign, IsLexeme, Item, Front, Gap, Lexeme, Stray, front_of, size_of, item_before, items_from}
+use Rattle.gm_model.specs.Symbols.{Symbol, Word, Numeral, Sign, Gone, End, value_after, value_of, symbol_of_kind, mark_of, marks_at, symbols, symbols_of}
 use Rattle.gm_model.specs.Symbols as symbol
-use Rattle.gm_text.proofs.Fronts.{blank_byte, size_of-front_of, front_of-blank, front_of-hash, front_of-letter, front_of-digit, front_of-underscore, front_of-two, front_of-sign}
+use Rattle.gm_text.proofs.Fronts.{blank_byte, size_of-front_of, front_of-blank, front_of-letter, front_of-digit, front_of-underscore, front_of-two, front_of-sign}
 
 -- ---- the symbols of bytes, wherever the bytes stand
 
@@ -109,14 +109,6 @@ symbols_from-end = refl
 pub symbols_from-blank : (b : ℕ) (rest : List ℕ) → IsTrue (is_blank b) → symbols_from (b ∷ rest) ≡ symbols_from rest
 symbols_from-blank b rest blank = symbols_from-front b [] rest (Gap 1) (front_of-blank b rest blank) refl
 
--- a comment, up to a line feed or the end
-pub symbols_from-comment : (bytes rest : List ℕ) → list_all (λ b. not (is_line_feed b)) bytes ≡ true → Stops (λ b. not (is_line_feed b)) rest
-    → symbols_from (35 ∷ (bytes ++ rest)) ≡ symbols_from rest
-symbols_from-comment bytes rest all stops =
-    symbols_from-front 35 bytes rest (Gap (suc (length bytes)))
-    (front_of-hash 35 (bytes ++ rest) refl ∙ ap (λ (n : ℕ). Gap (suc n)) (run_stops (λ b. not (is_line_feed b)) bytes rest all stops))
-    refl
-
 pub symbols_from-word : (w rest : List ℕ) → IsLexeme kinds.Name w → Stops is_name_byte rest → symbols_from (w ++ rest) ≡ Word w ∷ symbols_from rest
 symbols_from-word [] rest name stops = absurd name
 symbols_from-word (b ∷ w) rest name stops =
@@ -191,7 +183,3 @@ symbols_from-word_blank w b rest name blank =
 pub symbols_from-decimal_blank : (n b : ℕ) (rest : List ℕ) → n < 2 ^ 64 → IsTrue (is_blank b) → symbols_from (decimal n ++ b ∷ rest) ≡ Numeral n ∷ symbols_from rest
 symbols_from-decimal_blank n b rest small blank =
     symbols_from-decimal n (b ∷ rest) small (blank_byte b blank).0 ∙ ap (λ (behind : List Symbol). Numeral n ∷ behind) (symbols_from-blank b rest blank)
-
-pub symbols_from-signed_blank : (z : ℤ) (b : ℕ) (rest : List ℕ) → mag z < 2 ^ 63 → IsTrue (is_blank b) → symbols_from (signed_decimal z ++ b ∷ rest) ≡ signed_symbols z ++ symbols_from rest
-symbols_from-signed_blank z b rest small blank =
-    symbols_from-signed z (b ∷ rest) small (blank_byte b blank).0 ∙ ap (λ (behind : List Symbol). signed_symbols z ++ behind) (symbols_from-blank b rest blank)

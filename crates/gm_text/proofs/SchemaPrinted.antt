@@ -1,8 +1,7 @@
 -- How the canonical text of a schema grows as it is printed.
-use Rattle.std.proofs.Common.{◌≡◌, ℕ, zero, suc, ◌+◌, ◌<◌, ◌≤◌, ◌-◌, Bool, true, false, cond, List, [], ◌∷◌, ◌++◌, length, take, drop, get_or, refl, sym, ap, subst, ◌∙◌, append_assoc, inl, inr, ◌⊎◌, arith, add-one}
+use Rattle.std.proofs.Common.{◌≡◌, ℕ, zero, suc, ◌+◌, ◌<◌, ◌≤◌, ◌-◌, Bool, true, false, cond, List, [], ◌∷◌, ◌++◌, length, take, drop, get_or, refl, sym, ap, subst, ◌∙◌, append_assoc, arith, add-one}
 use Rattle.std.proofs.lemmas.Grind.{flat_map-append}
-use Rattle.std.proofs.lemmas.Bool.{cases_lt}
-use Rattle.std.proofs.lemmas.List.{append-nil, drop_more, take-append-drop, get_or_default}
+use Rattle.std.proofs.lemmas.List.{append-nil, drop_more, take-append-drop}
 use Rattle.std.proofs.lemmas.List.Elements.{recursion_from_All}
 use Rattle.std.specs.Prelude.{decimal}
 use Rattle.std.specs.List.{flat_map}
@@ -79,16 +78,6 @@ all_behind lead bytes end rest = append_assoc lead (bytes ++ end) rest ∙ ap (�
 -- those before the index are parts
 abbrev pub ArePartsBelow : List Embed → ℕ → Type 0
 ArePartsBelow embeds at = (k : ℕ) (embed : Embed) → k < at → IsPart (get_or embeds k embed)
-
-pub part_more : (embeds : List Embed) (at : ℕ) (embed : Embed) → at < length embeds → embed ≡ get_or embeds at embed → IsPart embed → ArePartsBelow embeds at → ArePartsBelow embeds (at + 1)
-part_more embeds at embed inside is part before k other low = go (cases_lt k at)
-  where
-    go : ((k < at) ⊎ (at ≤ k)) → IsPart (get_or embeds k other)
-    go (inl less) = before k other less
-    go (inr here) =
-        let same : at ≡ k = omega (arith, low, here) in
-        let there : embed ≡ get_or embeds at other = is ∙ get_or_default embeds at embed other inside in
-        subst (λ (j : ℕ). IsPart (get_or embeds j other)) same (subst IsPart there part)
 
 pub parts_all : (embeds : List Embed) (at : ℕ) → length embeds ≤ at → ArePartsBelow embeds at → AreParts embeds
 parts_all embeds at end before = recursion_from_All IsPart embeds (λ k embed within. before k embed (omega (arith, within, end)))
