@@ -1,4 +1,5 @@
 pub mod FilledLemmas
+pub mod PartLemmas
 pub mod ListingLemmas
 pub mod InsideLemmas
 pub mod ChangeLemmas

@@ -3,10 +3,9 @@ use Rattle.std.proofs.Common.{◌≡◌, ℕ, true, zero, suc, ◌+◌, ◌*◌,
 use Rattle.std.specs.Option.{option_map, IsSome}
 use Rattle.std.specs.FinMap as map
 use Rattle.std.specs.List.{range_with_len}
-use Rattle.std.proofs.Math.Nat.{add-div_left, div-eq_of_lt, div-mul-le_self}
-use Rattle.std.proofs.Math.Seq.{take-append_seam, drop-append_seam}
+use Rattle.std.proofs.Math.Nat.{div-eq_of_lt, div-mul-le_self}
 use Rattle.std.proofs.lemmas.Bool.{cases_lt, false≢true}
-use Rattle.std.proofs.lemmas.List.{length-map, length-append, length-drop, length-take-le, get_or_past, drop-drop}
+use Rattle.std.proofs.lemmas.List.{length-map, length-append, length-drop, length-take-le, get_or_past, take_at, drop_at}
 use Rattle.std.proofs.lemmas.Option.{none-some, same_Some}
 use Rattle.std.proofs.lemmas.List.Elements.{All-head, All-tail, All-drop, All-take, All-map, All-weaker}
 use Rattle.std.proofs.lemmas.List.FromFn.{get_or-range_with_len, length-range_with_len}
@@ -22,6 +21,7 @@ use Rattle.gm_arena.specs.Inside.{no_slot, slot_in, name_in, slot_numbered, link
 use Rattle.gm_arena.specs.Parts.{part_of}
 use Rattle.gm_arena.proofs.FilledLemmas.{get-filled, keys-filled}
 use Rattle.gm_arena.proofs.InsideLemmas.{darts_get, slot_at, none_at, name_in-get, is_some_at, some_of}
+use Rattle.gm_arena.proofs.PartLemmas.{parts_more, drop_one_before}
 
 -- ---- lines of a list
 
@@ -29,21 +29,12 @@ use Rattle.gm_arena.proofs.InsideLemmas.{darts_get, slot_at, none_at, name_in-ge
 pub links_more : (labels : ℕ) (line rest : List ℕ) → length line ≡ labels + 1
     → links_in labels (length (line ++ rest) / (labels + 1)) (line ++ rest) ≡ map slot_numbered (drop 1 line) ++ links_in labels (length rest / (labels + 1)) rest
 links_more labels line rest long =
-    let some : 0 < labels + 1 = omega arith in
-    let count : length (line ++ rest) / (labels + 1) ≡ suc (length rest / (labels + 1)) =
-    ap (λ k. k / (labels + 1)) (length-append line rest ∙ ap (λ k. k + length rest) long) ∙ (add-div_left (length rest) {k = labels + 1} some ∙ omega arith) in
-    let front : take (labels + 1) (line ++ rest) ≡ line = ap (λ k. take k (line ++ rest)) (sym long) ∙ take-append_seam line rest in
-    let back : drop (labels + 1) (line ++ rest) ≡ rest = ap (λ k. drop k (line ++ rest)) (sym long) ∙ drop-append_seam line rest in
-    ap (λ k. links_in labels k (line ++ rest)) count
-    ∙ ap₂ (λ l r. map slot_numbered (drop 1 l) ++ links_in labels (length rest / (labels + 1)) r) front back
+    ap (λ k. links_in labels k (line ++ rest)) (parts_more (labels + 1) line rest (omega arith) long)
+    ∙ ap₂ (λ l r. map slot_numbered (drop 1 l) ++ links_in labels (length rest / (labels + 1)) r) (take_at line rest (labels + 1) long) (drop_at line rest (labels + 1) long)
 
 -- and is one of them
 pub lines_more : (labels : ℕ) (line rest : List ℕ) → length line ≡ labels + 1 → length (line ++ rest) / (labels + 1) * labels ≡ labels + length rest / (labels + 1) * labels
-lines_more labels line rest long =
-    let some : 0 < labels + 1 = omega arith in
-    let count : length (line ++ rest) / (labels + 1) ≡ length rest / (labels + 1) + 1 =
-    ap (λ k. k / (labels + 1)) (length-append line rest ∙ ap (λ k. k + length rest) long) ∙ (add-div_left (length rest) {k = labels + 1} some ∙ omega arith) in
-    ap (λ k. k * labels) count ∙ omega arith
+lines_more labels line rest long = ap (λ k. k * labels) (parts_more (labels + 1) line rest (omega arith) long) ∙ omega arith
 
 pub links_none : (labels : ℕ) (rest : List ℕ) → length rest < labels + 1 → links_in labels (length rest / (labels + 1)) rest ≡ []
 links_none labels rest short = ap (λ k. links_in labels k rest) (div-eq_of_lt {n = length rest} {m = labels + 1} short)
@@ -66,29 +57,16 @@ links_part : (labels count : ℕ) (lines : List ℕ) → count * (labels + 1) �
 links_part labels zero lines fits at below = absurd (omega (arith, below))
 links_part labels (suc count) lines fits zero below =
     let line = map slot_numbered (drop 1 (take (labels + 1) lines)) in
-    let all = line ++ links_in labels count (drop (labels + 1) lines) in
+    let rest = links_in labels count (drop (labels + 1) lines) in
     let long = length-line labels lines (omega (arith, fits)) in
-    first labels all ∙ (ap (λ k. take k all) (sym long) ∙ (take-append_seam line (links_in labels count (drop (labels + 1) lines))
-    ∙ ap (λ xs. map slot_numbered (drop 1 xs)) (sym (first (labels + 1) lines))))
+    first labels (line ++ rest) ∙ (take_at line rest labels long ∙ ap (λ xs. map slot_numbered (drop 1 xs)) (sym (first (labels + 1) lines)))
 links_part labels (suc count) lines fits (suc at) below =
     let line = map slot_numbered (drop 1 (take (labels + 1) lines)) in
     let rest = links_in labels count (drop (labels + 1) lines) in
     let long = length-line labels lines (omega (arith, fits)) in
-    ap (take labels) (behind labels at line rest long)
+    ap (take labels) (sym (drop_one_before labels at (line ++ rest)) ∙ ap (drop (at * labels)) (drop_at line rest labels long))
     ∙ (links_part labels count (drop (labels + 1) lines) (omega (arith, fits, length-drop (labels + 1) lines)) at (omega (arith, below))
-    ∙ ap (λ xs. map slot_numbered (drop 1 (take (labels + 1) xs))) (again (labels + 1) at lines))
-  where
-    behind : {A : Type 0} (size at : ℕ) (front rest : List A) → length front ≡ size → drop (suc at * size) (front ++ rest) ≡ drop (at * size) rest
-    behind size at front rest long =
-        let split : suc at * size ≡ size + at * size = omega arith in
-        ap (λ k. drop k (front ++ rest)) split
-        ∙ (sym (drop-drop (at * size) size (front ++ rest))
-        ∙ ap (drop (at * size)) (ap (λ k. drop k (front ++ rest)) (sym long) ∙ drop-append_seam front rest))
-
-    again : {A : Type 0} (size at : ℕ) (xs : List A) → drop (at * size) (drop size xs) ≡ drop (suc at * size) xs
-    again size at xs =
-        let split : size + at * size ≡ suc at * size = omega arith in
-        drop-drop (at * size) size xs ∙ ap (λ k. drop k xs) split
+    ∙ ap (λ xs. map slot_numbered (drop 1 (take (labels + 1) xs))) (drop_one_before (labels + 1) at lines))
 
 -- ---- as many entries as a list of which none is empty
 

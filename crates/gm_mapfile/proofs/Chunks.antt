@@ -1,10 +1,9 @@
 -- The rows of numbers, line by line, and the darts of numbers and values.
 use Rattle.std.proofs.Common.{◌≡◌, ℕ, zero, suc, ◌+◌, ◌*◌, ◌/◌, ◌<◌, ◌≤◌, eqb, inl, inr, List, [], ◌∷◌, ◌++◌, length, map, take, drop, get_or, slice_get, Some, All, refl, sym, ap, ap₂, subst, ◌∙◌, arith}
-use Rattle.std.proofs.Math.Nat.{add-div_left, div-eq_of_lt, div-mul-le_self}
-use Rattle.std.proofs.Math.Seq.{take-append_seam, drop-append_seam}
+use Rattle.std.proofs.Math.Nat.{div-eq_of_lt, div-mul-le_self}
 use Rattle.std.specs.List.{AllByRecursion}
 use Rattle.std.proofs.lemmas.Bool.{cases_Bool, eqb-true}
-use Rattle.std.proofs.lemmas.List.{length-map, length-append, length-drop, length-take-le, drop-drop, append_assoc, append-nil}
+use Rattle.std.proofs.lemmas.List.{length-map, length-append, length-drop, length-take-le, take_at, drop_at, append_assoc, append-nil}
 use Rattle.std.proofs.lemmas.List.Elements.{All-drop, All-take}
 use Rattle.std.proofs.lemmas.Option.{slice_get-map}
 use Rattle.std.specs.Option.{option_map}
@@ -13,6 +12,7 @@ use Rattle.gm_model.specs.declared.schema.Schema.{Schema}
 use Rattle.gm_model.specs.declared.value.Value.{Value}
 use Rattle.gm_model.specs.GMap.{Row, IsLive}
 use Rattle.gm_model.specs.Values.{kind_of}
+use Rattle.gm_arena.proofs.PartLemmas.{parts_more, drop_one_more}
 use Rattle.gm_mapfile.specs.MapFaults.{AreBelow}
 use Rattle.gm_mapfile.specs.MapText.{DartRow, bare, rows_of}
 use Rattle.gm_mapfile.specs.MapReading.{AreOfKinds, IsWhole}
@@ -26,13 +26,8 @@ abbrev pub AreLong : ℕ → List DartRow → Type 0
 AreLong n darts = AllByRecursion (λ (dart : DartRow). length dart.alphas ≡ n + 1) darts
 
 -- how many whole lines there are
-pub lines_more : (n : ℕ) (line rest : List ℕ) → length line ≡ n + 2 → length (line ++ rest) / (n + 2) ≡ suc (length rest / (n + 2))
-lines_more n line rest long =
-    let some : 0 < n + 2 = omega arith in
-    ap (λ k. k / (n + 2)) (length-append line rest ∙ ap (λ k. k + length rest) long) ∙ (add-div_left (length rest) {k = n + 2} some ∙ omega arith)
-
 pub lines_cut : (n : ℕ) (all line rest : List ℕ) → all ≡ line ++ rest → length line ≡ n + 2 → length all / (n + 2) ≡ length rest / (n + 2) + 1
-lines_cut n all line rest cut long = ap (λ xs. length xs / (n + 2)) cut ∙ (lines_more n line rest long ∙ omega arith)
+lines_cut n all line rest cut long = ap (λ xs. length xs / (n + 2)) cut ∙ (parts_more (n + 2) line rest (omega arith) long ∙ omega arith)
 
 pub lines_none : (n : ℕ) (rest : List ℕ) → length rest < n + 2 → length rest / (n + 2) ≡ 0
 lines_none n rest short = div-eq_of_lt {n = length rest} {m = n + 2} short
@@ -40,10 +35,8 @@ lines_none n rest short = div-eq_of_lt {n = length rest} {m = n + 2} short
 -- one line and the rows of the rest
 pub rows_line : (n : ℕ) (line rest : List ℕ) → length line ≡ n + 2 → rows_in n (line ++ rest) ≡ row_in line ∷ rows_in n rest
 rows_line n line rest long =
-    let front : take (n + 2) (line ++ rest) ≡ line = ap (λ k. take k (line ++ rest)) (sym long) ∙ take-append_seam line rest in
-    let back : drop (n + 2) (line ++ rest) ≡ rest = ap (λ k. drop k (line ++ rest)) (sym long) ∙ drop-append_seam line rest in
-    ap (λ k. rows_from n k (line ++ rest)) (lines_more n line rest long)
-    ∙ ap₂ (λ l r. row_in l ∷ rows_from n (length rest / (n + 2)) r) front back
+    ap (λ k. rows_from n k (line ++ rest)) (parts_more (n + 2) line rest (omega arith) long)
+    ∙ ap₂ (λ l r. row_in l ∷ rows_from n (length rest / (n + 2)) r) (take_at line rest (n + 2) long) (drop_at line rest (n + 2) long)
 
 pub rows_end : (n : ℕ) (rest : List ℕ) → length rest < n + 2 → rows_in n rest ≡ []
 rows_end n rest short = ap (λ k. rows_from n k rest) (lines_none n rest short)
@@ -59,7 +52,7 @@ pub lines_of_rows : (n : ℕ) (darts : List DartRow) → AreLong n darts → len
 lines_of_rows n [] long = lines_none n [] (omega arith)
 lines_of_rows n (dart ∷ darts) long =
     let alphas : length dart.alphas ≡ n + 1 = long.0 in
-    lines_more n (line_in dart) (numbers_of darts) (omega (arith, alphas)) ∙ ap suc (lines_of_rows n darts long.1)
+    parts_more (n + 2) (line_in dart) (numbers_of darts) (omega arith) (omega (arith, alphas)) ∙ ap suc (lines_of_rows n darts long.1)
 
 -- ---- in front of the rest
 
@@ -148,9 +141,6 @@ counted_at start zero k within = absurd (omega (arith, within))
 counted_at start (suc count) zero within = ap Some (omega arith)
 counted_at start (suc count) (suc k) within = counted_at (suc start) count k (omega (arith, within)) ∙ ap Some (omega arith)
 
-behind : {A : Type 0} (width line : ℕ) (all : List A) → drop width (drop (line * width) all) ≡ drop (suc line * width) all
-behind width line all = drop-drop width (line * width) all ∙ ap (λ k. drop k all) (omega arith)
-
 -- the dart on the line behind so many
 abbrev pub dart_on : Schema → List ℕ → List Value → ℕ → DartRow
 dart_on schema numbers values line = valued (row_in (take (schema.dim + 2) (drop (line * (schema.dim + 2)) numbers))) (take (length schema.embeds) (drop (line * length schema.embeds) values))
@@ -165,7 +155,7 @@ module _ (schema : Schema) (numbers : List ℕ) (values : List Value) where
   darts_counted : (start many : ℕ) → darts_from width (rows_from schema.dim many (drop (start * size) numbers)) (drop (start * width) values) ≡ map (dart_on schema numbers values) (counted_from start many)
   darts_counted start zero = refl
   darts_counted start (suc many) =
-      let rest = ap₂ (λ ns vs. darts_from width (rows_from schema.dim many ns) vs) (behind size start numbers) (behind width start values) in
+      let rest = ap₂ (λ ns vs. darts_from width (rows_from schema.dim many ns) vs) (drop_one_more size start numbers) (drop_one_more width start values) in
       ap (λ (darts : List DartRow). dart_on schema numbers values start ∷ darts) (rest ∙ darts_counted (suc start) many)
 
   pub darts_all : darts_in schema numbers values ≡ map (dart_on schema numbers values) (counted_from 0 (length numbers / (schema.dim + 2)))
@@ -197,9 +187,8 @@ module _ (schema : Schema) where
       let own = dart.values in
       let more = values_of_darts darts in
       let long : length own ≡ length schema.embeds = length_kinds schema.embeds own whole.0.1 in
-      let front : take (length schema.embeds) (own ++ more) ≡ own = ap (λ k. take k (own ++ more)) (sym long) ∙ take-append_seam own more in
-      let back : drop (length schema.embeds) (own ++ more) ≡ more = ap (λ k. drop k (own ++ more)) (sym long) ∙ drop-append_seam own more in
-      ap₂ (λ v vs. valued (bare dart) v ∷ darts_from (length schema.embeds) (rows_of darts) vs) front back ∙ ap (λ others. dart ∷ others) (darts_of_values darts whole.1)
+      ap₂ (λ v vs. valued (bare dart) v ∷ darts_from (length schema.embeds) (rows_of darts) vs) (take_at own more (length schema.embeds) long) (drop_at own more (length schema.embeds) long)
+      ∙ ap (λ others. dart ∷ others) (darts_of_values darts whole.1)
 
   length_values_of : (darts : List DartRow) → AllByRecursion (IsWhole schema) darts → length (values_of_darts darts) ≡ length darts * length schema.embeds
   length_values_of [] whole = omega arith

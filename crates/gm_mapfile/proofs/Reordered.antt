@@ -3,10 +3,9 @@ use Rattle.std.proofs.Common.{◌≡◌, ℕ, zero, suc, ◌+◌, ◌-◌, ◌*�
 use Rattle.std.specs.Prelude.{IsPermutation}
 use Rattle.std.specs.Option.{option_map, option_map_or}
 use Rattle.std.proofs.Math.Nat.{div-mul-le_self, mul-div_left}
-use Rattle.std.proofs.Math.Seq.{take-append_seam, drop-append_seam}
 use Rattle.std.specs.List.{AllByRecursion}
 use Rattle.std.proofs.lemmas.Nat.{mul-le}
-use Rattle.std.proofs.lemmas.List.{length-drop, length-take-le, length-append}
+use Rattle.std.proofs.lemmas.List.{length-drop, length-take-le, length-append, take_at, drop_at}
 use Rattle.std.proofs.lemmas.List.Elements.{All-take, All-drop, All-append, All-from_recursion}
 use Rattle.std.proofs.lemmas.List.Sorted.{IsPermutation-map, length_permutation, sum_by-IsPermutation}
 use Rattle.gm_model.specs.Breaches.{IsFirstWithoutTarget}
@@ -111,10 +110,8 @@ module _ (schema : Schema) (numbers : List ℕ) (values : List Value) where
       let more = on_lines width values lines in
       let long : length own ≡ schema.dim + 2 = length_on_line (schema.dim + 2) numbers line within.0 in
       let long' : length vs ≡ width = length_on_line width values line within'.0 in
-      let front : take width (vs ++ more) ≡ vs = ap (λ k. take k (vs ++ more)) (sym long') ∙ take-append_seam vs more in
-      let back : drop width (vs ++ more) ≡ more = ap (λ k. drop k (vs ++ more)) (sym long') ∙ drop-append_seam vs more in
       ap (λ rows. darts_from width rows (vs ++ more)) (rows_line schema.dim own others long)
-      ∙ (ap₂ (λ v rest. valued (row_in own) v ∷ darts_from width (rows_in schema.dim others) rest) front back
+      ∙ (ap₂ (λ v rest. valued (row_in own) v ∷ darts_from width (rows_in schema.dim others) rest) (take_at vs more width long') (drop_at vs more width long')
       ∙ ap₂ (λ (dart : DartRow) darts. dart ∷ darts) (ap₂ (λ l v. valued (row_in l) v) (is_taken (schema.dim + 2) numbers line) (is_taken width values line)) (darts_on_lines lines within.1 within'.1))
 
   module _ (room : AreInRoom schema numbers values) (lines : List ℕ) (same : IsPermutation (counted_from 0 (length numbers / (schema.dim + 2))) lines) where
