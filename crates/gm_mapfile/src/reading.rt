@@ -136,7 +136,7 @@ fn read_name(lexer: &mut Lexer<'_>) -> Result<u32, SchemaFault>
 /// A name that stands next and is small, or else the lexer stays.
 // Inlined, as `read_number` is.
 #[inline(always)]
-fn small_name(lexer: &mut Lexer<'_>) -> Option<u32>
+fn small_dart_name(lexer: &mut Lexer<'_>) -> Option<u32>
     ensures takes { IfSome result (λ name. Takes (TheNumber DartName ∷ []) (pos name ∷ []) lexer.old lexer.new) }
     ensures none { IfNone result (lexer.new ≡ lexer.old) }
 {
@@ -153,7 +153,7 @@ fn small_name(lexer: &mut Lexer<'_>) -> Option<u32>
 /// read where there is no room for all.
 // Inlined, as `read_number` is. The lexer is copied, so that the copy stays in registers.
 #[inline(always)]
-fn read_small_names(lexer: &mut Lexer<'_>, count: usize, names: &mut Vec<u32>) -> usize
+fn read_small_dart_names(lexer: &mut Lexer<'_>, count: usize, names: &mut Vec<u32>) -> usize
     ensures reads { ReadsNames result lexer.old lexer.new names.old.items names.new.items }
     ensures few { result ≤ count }
 {
@@ -163,7 +163,7 @@ fn read_small_names(lexer: &mut Lexer<'_>, count: usize, names: &mut Vec<u32>) -
     let mut ahead = lexer.fork();
     let mut done = 0;
     while done < count {
-        let Some(name) = small_name(&mut ahead) else {
+        let Some(name) = small_dart_name(&mut ahead) else {
             break;
         };
         names.push_reserved(name);
@@ -180,7 +180,7 @@ fn read_names(lexer: &mut Lexer<'_>, count: usize, names: &mut Vec<u32>) -> Resu
     ensures reads { OnOk result (ReadsNames count lexer.old lexer.new names.old.items names.new.items) }
     ensures stops { IfErr result (Misses (replicate count (TheNumber DartName)) lexer.old) }
 {
-    let first = read_small_names(lexer, count, names);
+    let first = read_small_dart_names(lexer, count, names);
     for _ in first..count {
         names.push(read_name(lexer)?)?;
     }

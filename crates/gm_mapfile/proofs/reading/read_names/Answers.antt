@@ -6,7 +6,7 @@ use Rattle.gm_mapfile.proofs.DartReads.{names_more, names_stop}
 use Rattle.gm_mapfile.proofs.reading.read_names.Goals as goal
 
 pub loop-init : goal.loop-init
-loop-init c = c.read_small_names-first.ensures.reads
+loop-init c = c.read_small_dart_names-first.ensures.reads
 
 pub returns-in_err-read_name-clause-stops : goal.returns-in_err-read_name-clause-stops
 returns-in_err-read_name-clause-stops c =

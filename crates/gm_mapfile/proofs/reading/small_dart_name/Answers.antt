@@ -3,7 +3,7 @@ use Rattle.gm_text.specs.Cursor.{Cursor}
 use Rattle.gm_mapfile.specs.MapText.{DartName}
 use Rattle.gm_mapfile.specs.MapReading.{TheNumber, Takes}
 use Rattle.gm_mapfile.proofs.MapSteps.{name_takes}
-use Rattle.gm_mapfile.proofs.reading.small_name.Goals as goal
+use Rattle.gm_mapfile.proofs.reading.small_dart_name.Goals as goal
 
 pub returns-clause-takes : goal.returns-clause-takes
 returns-clause-takes c =

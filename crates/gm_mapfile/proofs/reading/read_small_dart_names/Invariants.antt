@@ -1,7 +1,7 @@
 use Rattle.std.proofs.Common.{◌-◌, ◌+◌, ◌≤◌}
 use Rattle.std.specs.Vec.{vec_len, vec_capacity}
 use Rattle.gm_mapfile.specs.MapReading.{ReadsNames}
-use Rattle.gm_mapfile.proofs.reading.read_small_names.Given as goal
+use Rattle.gm_mapfile.proofs.reading.read_small_dart_names.Given as goal
 
 abbrev pub invariant-loop-done : goal.invariant-loop-done
 invariant-loop-done l = record {
