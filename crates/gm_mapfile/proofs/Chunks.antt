@@ -12,6 +12,7 @@ use Rattle.gm_model.specs.declared.schema.Schema.{Schema}
 use Rattle.gm_model.specs.declared.value.Value.{Value}
 use Rattle.gm_model.specs.GMap.{Row, IsLive}
 use Rattle.gm_model.specs.Values.{kind_of}
+use Rattle.gm_arena.specs.Parts.{part_of}
 use Rattle.gm_arena.proofs.PartLemmas.{parts_more, drop_one_more}
 use Rattle.gm_mapfile.specs.MapFaults.{AreBelow}
 use Rattle.gm_mapfile.specs.MapText.{DartRow, bare, rows_of}
@@ -143,7 +144,7 @@ counted_at start (suc count) (suc k) within = counted_at (suc start) count k (om
 
 -- the dart on the line behind so many
 abbrev pub dart_on : Schema → List ℕ → List Value → ℕ → DartRow
-dart_on schema numbers values line = valued (row_in (take (schema.dim + 2) (drop (line * (schema.dim + 2)) numbers))) (take (length schema.embeds) (drop (line * length schema.embeds) values))
+dart_on schema numbers values line = valued (row_in (part_of (schema.dim + 2) numbers line)) (part_of (length schema.embeds) values line)
 
 module _ (schema : Schema) (numbers : List ℕ) (values : List Value) where
   abbrev size : ℕ

@@ -1,9 +1,8 @@
 -- Lines of the darts 0, 1 and so on: when lines are those, and that an arena made of them holds their darts.
-use Rattle.std.proofs.Common.{◌≡◌, ℕ, ◌+◌, ◌*◌, ◌<◌, ◌≤◌, List, length, take, drop, get_or, slice_get, All, Option, Some, None, inl, inr, sym, ap, refl, subst, ◌∙◌, arith}
+use Rattle.std.proofs.Common.{◌≡◌, ℕ, ◌+◌, ◌*◌, ◌<◌, ◌≤◌, List, length, drop, get_or, slice_get, All, Option, Some, None, inl, inr, sym, ap, refl, subst, ◌∙◌, arith}
 use Rattle.std.specs.FinMap.{get}
 use Rattle.std.proofs.Math.Nat.{div-mul-le_self}
-use Rattle.std.proofs.lemmas.Nat.{mul-le}
-use Rattle.std.proofs.lemmas.List.{length-drop, length-take-le, get_or-take, get_or-drop}
+use Rattle.std.proofs.lemmas.List.{get_or-take, get_or-drop}
 use Rattle.std.proofs.lemmas.List.Elements.{All-drop, All-take, All-from_recursion}
 use Rattle.std.proofs.lemmas.Option.{slice_get_cases, get_or_from_slice_get, none-some, same_Some}
 use Rattle.gm_model.specs.declared.schema.Schema.{Schema}
@@ -11,6 +10,8 @@ use Rattle.gm_model.specs.declared.value.Value.{Value}
 use Rattle.gm_arena.specs.ArenaMap.{ArenaMap}
 use Rattle.gm_arena.specs.Lawful.{AreGoodValues}
 use Rattle.gm_arena.specs.Lines.{line_count, values_on, AreLines, HoldsLines}
+use Rattle.gm_arena.specs.Parts.{part_of}
+use Rattle.gm_arena.proofs.InsideLemmas.{part_long}
 use Rattle.gm_mapfile.specs.MapText.{First, DartRow, IsNext, names, rows_of}
 use Rattle.gm_mapfile.specs.MapFaults.{AreNamedOnce, IsLeastNotBelow}
 use Rattle.gm_mapfile.specs.Draft.{version_in}
@@ -55,12 +56,10 @@ module _ (schema : Schema) (numbers : List ℕ) (values : List Value) where
     ]
 
     abbrev line : ℕ → List ℕ
-    line at = take size (drop (at * size) numbers)
+    line at = part_of size numbers at
 
     length_line : (at : ℕ) → at < count → length (line at) ≡ size
-    length_line at below =
-        let fits = mul-le (at + 1) size count size (omega (arith, below)) (omega arith) in
-        length-take-le size (drop (at * size) numbers) (omega (arith, fits, div-mul-le_self (length numbers) size, length-drop (at * size) numbers))
+    length_line at below = part_long size numbers count at below (div-mul-le_self (length numbers) size)
 
     first_on : (at : ℕ) → get_or (line at) 0 0 ≡ get_or numbers (at * size) 0
     first_on at =

@@ -15,6 +15,7 @@ use Rattle.gm_model.specs.GMap.{Row, IsLive, alpha, row_of}
 use Rattle.gm_model.specs.Limits.{most_names}
 use Rattle.gm_arena.specs.ArenaMap.{ArenaMap}
 use Rattle.gm_arena.specs.Lawful.{AreGoodValues}
+use Rattle.gm_arena.specs.Parts.{part_of}
 use Rattle.gm_mapfile.specs.Building.{AreInRoom, IsHeld}
 use Rattle.gm_mapfile.specs.Faults.{IsNameFault}
 use Rattle.gm_mapfile.specs.MapFaults.{rows_named, AreNamedOnce, IsLeastTwice, IsLeastNotBelow, AreBelowStated}
@@ -46,7 +47,7 @@ counted_below start (suc count) bound within = (omega (arith, within), counted_b
 -- ---- what stands on a line
 
 module _ {A : Type 0} (width : ℕ) (all : List A) where
-  pub is_taken : (line : ℕ) → on_line width all line ≡ take width (drop (line * width) all)
+  is_taken : (line : ℕ) → on_line width all line ≡ part_of width all line
   is_taken line = ap (λ k. take k (drop (line * width) all)) (omega arith)
 
   pub length_on_line : (line : ℕ) → line * width + width ≤ length all → length (on_line width all line) ≡ width
