@@ -1,10 +1,11 @@
 -- The rows of numbers, line by line, and the darts of numbers and values.
-use Rattle.std.proofs.Common.{◌≡◌, ℕ, zero, suc, ◌+◌, ◌*◌, ◌/◌, ◌<◌, ◌≤◌, eqb, inl, inr, List, [], ◌∷◌, ◌++◌, length, map, take, drop, get_or, slice_get, Some, All, refl, sym, ap, ap₂, subst, ◌∙◌, arith}
+use Rattle.std.proofs.Common.{◌≡◌, ℕ, zero, suc, ◌+◌, ◌*◌, ◌/◌, ◌<◌, eqb, inl, inr, List, [], ◌∷◌, ◌++◌, length, map, take, drop, get_or, slice_get, Some, All, refl, sym, ap, ap₂, subst, ◌∙◌, arith}
 use Rattle.std.proofs.Math.Nat.{div-eq_of_lt, div-mul-le_self}
 use Rattle.std.specs.List.{AllByRecursion}
 use Rattle.std.proofs.lemmas.Bool.{cases_Bool, eqb-true}
-use Rattle.std.proofs.lemmas.List.{length-map, length-append, length-drop, length-take-le, take_at, drop_at, append_assoc, append-nil}
-use Rattle.std.proofs.lemmas.List.Elements.{All-drop, All-take}
+use Rattle.std.proofs.lemmas.Nat.{mul-le}
+use Rattle.std.proofs.lemmas.List.{length-map, length-append, take_at, drop_at, get_or-take, get_or-drop, append_assoc, append-nil}
+use Rattle.std.proofs.lemmas.List.Elements.{All-get_or}
 use Rattle.std.proofs.lemmas.Option.{slice_get-map}
 use Rattle.std.specs.Option.{option_map}
 use Rattle.gm_model.specs.declared.schema.Embed.{Embed}
@@ -90,22 +91,31 @@ name_live n front numbers all line rest split cut long =
     subst (λ rows. IsLive rows (get_or line 0 0)) (between n front (rows_in n numbers) all line rest split cut long)
     (subst (IsLive (front ++ row_in line ∷ rows_in n rest)) (name_of_line line) (live_among front (row_in line) (rows_in n rest)))
 
--- where each number is below a bound, each name is
-pub rows_below : (n bound : ℕ) (numbers : List ℕ) → All (λ x. x < bound) numbers → AreBelow (rows_in n numbers) bound
-rows_below n bound numbers each = go (length numbers / (n + 2)) numbers (div-mul-le_self (length numbers) (n + 2)) each
+-- where the first number of each line is below a bound, each name is
+pub names_below : (n bound : ℕ) (numbers : List ℕ) → ((at : ℕ) → at < length numbers / (n + 2) → get_or numbers (at * (n + 2)) 0 < bound) → AreBelow (rows_in n numbers) bound
+names_below n bound numbers each = go (length numbers / (n + 2)) numbers each
   where
-    go : (count : ℕ) (xs : List ℕ) → count * (n + 2) ≤ length xs → All (λ x. x < bound) xs → AreBelow (rows_from n count xs) bound
-    go zero xs fits all d live = absurd cc
-    go (suc count) xs fits all d live =
+    go : (count : ℕ) (xs : List ℕ) → ((at : ℕ) → at < count → get_or xs (at * (n + 2)) 0 < bound) → AreBelow (rows_from n count xs) bound
+    go zero xs first d live = absurd cc
+    go (suc count) xs first d live =
         let line = take (n + 2) xs in
-        let within : 0 < length line = omega (arith, fits, length-take-le (n + 2) xs (omega (arith, fits))) in
-        let first : get_or line 0 0 < bound = All-take (λ x. x < bound) (n + 2) xs all 0 0 within in
         elim (cases_Bool (eqb (row_in line).name d)) [
-          | inl here ↦ omega (arith, eqb-true (row_in line).name d here, name_of_line line, first)
+          | inl here ↦
+              let start : 0 * (n + 2) ≡ 0 = omega arith in
+              let name : get_or line 0 0 ≡ get_or xs (0 * (n + 2)) 0 = get_or-take (n + 2) xs 0 0 (omega arith) ∙ ap (λ k. get_or xs k 0) (sym start) in
+              omega (arith, eqb-true (row_in line).name d here, name_of_line line, name, first 0 (omega arith))
           | inr other ↦
               let later : IsLive (rows_from n count (drop (n + 2) xs)) d = rw other at live in
-              go count (drop (n + 2) xs) (omega (arith, fits, length-drop (n + 2) xs)) (All-drop (λ x. x < bound) (n + 2) xs all) d later
+              let behind : (at : ℕ) → get_or (drop (n + 2) xs) (at * (n + 2)) 0 ≡ get_or xs (suc at * (n + 2)) 0 = λ at. get_or-drop (n + 2) xs (at * (n + 2)) 0 ∙ ap (λ k. get_or xs k 0) (omega arith) in
+              go count (drop (n + 2) xs) (λ at below. omega (arith, behind at, first (suc at) (omega (arith, below)))) d later
         ]
+
+-- where each number is below a bound, each name is
+pub rows_below : (n bound : ℕ) (numbers : List ℕ) → All (λ x. x < bound) numbers → AreBelow (rows_in n numbers) bound
+rows_below n bound numbers each = names_below n bound numbers (λ at below. All-get_or (λ x. x < bound) numbers (at * (n + 2)) 0 (within at below) each)
+  where
+    within : (at : ℕ) → at < length numbers / (n + 2) → at * (n + 2) < length numbers
+    within at below = omega (arith, mul-le (suc at) (n + 2) (length numbers / (n + 2)) (n + 2) below (omega arith), div-mul-le_self (length numbers) (n + 2))
 
 pub alphas_long : (n : ℕ) (line : List ℕ) → length line ≡ n + 2 → length (row_in line).alphas ≡ n + 1
 alphas_long n [] long = absurd (omega (arith, long))

@@ -47,14 +47,42 @@ pub(crate) fn build<L: Ledger>(
         mut numbers,
         mut values,
     } = draft;
-    let end = in_order(alloc, &schema, &mut numbers, &mut values)?;
     let width = schema.dim.top() as usize + 2;
-    let count = numbers.len() / width;
-    if are_numbered(&numbers, width) && are_below(&numbers, count as u32) {
-        return arena_of_lines(alloc, schema, stated, numbers, values, steps);
+    if are_numbered(&numbers, width) {
+        return build_numbered(alloc, schema, stated, numbers, values, steps);
+    }
+    let end = in_order(alloc, &schema, &mut numbers, &mut values)?;
+    if are_numbered(&numbers, width) {
+        return build_numbered(alloc, schema, stated, numbers, values, steps);
     }
     let (numbers, values) = (numbers.as_slice(), values.as_slice());
     build_lines(alloc, schema, stated, end, numbers, values, steps)
+}
+
+/// The same of lines whose names run from 0 on.
+fn build_numbered<L: Ledger>(
+    alloc: Global,
+    schema: Schema,
+    stated: Option<u32>,
+    numbers: Vec<u32>,
+    values: Vec<Value>,
+    steps: &mut Steps<L>,
+) -> Result<Arena, MapFault>
+    requires schema { IsSchema schema }
+    requires room { AreInRoom schema numbers.items values.items }
+    requires named { (at : ℕ) → at < length numbers.items / (schema.dim + 2) → get_or numbers.items (at * (schema.dim + 2)) 0 ≡ at }
+    requires next { IfSome stated (λ next. next ≤ most_names) }
+    ensures held { IfOk result (IsHeld (version_in stated) schema (darts_in schema numbers.items values.items)) }
+    ensures fault { IfErr result (IsNameFault (version_in stated) schema.dim (darts_in schema numbers.items values.items)) }
+    ensures most { steps.new ≤ steps.old + (2 * schema.dim + 5) * length (darts_in schema numbers.items values.items) }
+    ensures least { IfOk result (λ arena. steps.old + arena.count ≤ steps.new) }
+{
+    let count = (numbers.len() / (schema.dim.top() as usize + 2)) as u32;
+    if are_below(&numbers, count) {
+        return arena_of_lines(alloc, schema, stated, numbers, values, steps);
+    }
+    let (numbers, values) = (numbers.as_slice(), values.as_slice());
+    build_lines(alloc, schema, stated, count, numbers, values, steps)
 }
 
 /// Whether the name on each line, of so many numbers, is how many lines stand before it.

@@ -1,42 +1,28 @@
-use Rattle.std.proofs.Common.{◌≡◌, ℕ, ◌+◌, ◌*◌, ◌/◌, ◌<◌, List, length, get_or, All, ap₂, refl, sym, subst, ◌∙◌, arith}
+use Rattle.std.proofs.Common.{◌+◌, ◌*◌}
 use Rattle.gm_mapfile.specs.Draft.{version_in}
 use Rattle.gm_mapfile.specs.Rows.{darts_in}
 use Rattle.gm_model.proofs.Exits.{unless_ok}
 use Rattle.gm_mapfile.proofs.Joined.{if_err, if_ok_both}
-use Rattle.gm_mapfile.proofs.OwnLines.{are_lines}
 use Rattle.gm_mapfile.proofs.Reordered.{same_read, held_moved, fault_moved, most_moved}
 use Rattle.gm_mapfile.proofs.building.build.Goals as goal
 
-pub arena_of_lines-requires-clause-lines : goal.arena_of_lines-requires-clause-lines
-arena_of_lines-requires-clause-lines g c =
-    let schema = c.args.draft.schema in
-    let numbers = c.in_order.new.numbers.items in
-    let room = c.in_ok-end.ensures.room in
-    let size : c.top.result + 2 ≡ schema.dim + 2 = omega (arith, c.top.ensures.value) in
-    let long : c.len.result ≡ length numbers = omega (arith, c.len.ensures, c.in_order.new.numbers.ok.0) in
-    let count : c.len.result / (c.top.result + 2) ≡ length numbers / (schema.dim + 2) = ap₂ (λ n k. n / k) long size in
-    let seen : length c.deref.result.now / (c.top.result + 2) ≡ length numbers / (schema.dim + 2) = ap₂ (λ (xs : List ℕ) k. length xs / k) c.deref.ensures.value size in
-    are_lines schema numbers c.in_order.new.values.items room
-    (λ at below. sym (λ i. get_or (c.deref.ensures.value i) (at * size i) 0) ∙ c.if-are_numbered.ensures refl at (omega (arith, below, seen)))
-    (subst (All (λ name. name < length numbers / (schema.dim + 2))) c.deref-then-are_numbered.ensures.value (subst (λ bound. All (λ name. name < bound) c.deref-then-are_numbered.result.now) count (c.if-are_below.ensures refl)))
-
-pub returns-then-are_below-clause-held : goal.returns-then-are_below-clause-held
-returns-then-are_below-clause-held g c =
+pub returns-then-are_numbered-2-clause-held : goal.returns-then-are_numbered-2-clause-held
+returns-then-are_numbered-2-clause-held g c =
     let schema = c.args.draft.schema in
     let darts = darts_in schema c.args.draft.numbers.items c.args.draft.values.items in
-    if_ok_both c.arena_of_lines.result (λ m held _. held_moved darts (darts_in schema c.in_order.new.numbers.items c.in_order.new.values.items) c.in_ok-end.ensures.darts (version_in c.args.draft.stated) schema m held) c.arena_of_lines.ensures.held c.arena_of_lines.ensures.held
+    if_ok_both c.build_numbered-then-are_numbered-2.result (λ m held _. held_moved darts (darts_in schema c.in_order.new.numbers.items c.in_order.new.values.items) c.in_ok-end.ensures.darts (version_in c.args.draft.stated) schema m held) c.build_numbered-then-are_numbered-2.ensures.held c.build_numbered-then-are_numbered-2.ensures.held
 
-pub returns-then-are_below-clause-fault : goal.returns-then-are_below-clause-fault
-returns-then-are_below-clause-fault g c =
+pub returns-then-are_numbered-2-clause-fault : goal.returns-then-are_numbered-2-clause-fault
+returns-then-are_numbered-2-clause-fault g c =
     let schema = c.args.draft.schema in
     let darts = darts_in schema c.args.draft.numbers.items c.args.draft.values.items in
-    if_err c.arena_of_lines.result (fault_moved darts (darts_in schema c.in_order.new.numbers.items c.in_order.new.values.items) c.in_ok-end.ensures.darts (version_in c.args.draft.stated) schema.dim) c.arena_of_lines.ensures.fault
+    if_err c.build_numbered-then-are_numbered-2.result (fault_moved darts (darts_in schema c.in_order.new.numbers.items c.in_order.new.values.items) c.in_ok-end.ensures.darts (version_in c.args.draft.stated) schema.dim) c.build_numbered-then-are_numbered-2.ensures.fault
 
-pub returns-then-are_below-clause-most : goal.returns-then-are_below-clause-most
-returns-then-are_below-clause-most g c =
+pub returns-then-are_numbered-2-clause-most : goal.returns-then-are_numbered-2-clause-most
+returns-then-are_numbered-2-clause-most g c =
     let schema = c.args.draft.schema in
     let darts = darts_in schema c.args.draft.numbers.items c.args.draft.values.items in
-    most_moved darts (darts_in schema c.in_order.new.numbers.items c.in_order.new.values.items) c.in_ok-end.ensures.darts (2 * schema.dim + 5) c.args.steps.now c.arena_of_lines.new.steps c.arena_of_lines.ensures.most
+    most_moved darts (darts_in schema c.in_order.new.numbers.items c.in_order.new.values.items) c.in_ok-end.ensures.darts (2 * schema.dim + 5) c.args.steps.now c.build_numbered-then-are_numbered-2.new.steps c.build_numbered-then-are_numbered-2.ensures.most
 
 pub returns-clause-held : goal.returns-clause-held
 returns-clause-held g c =
