@@ -22,6 +22,7 @@ use Rattle.gm_tool.specs.declared.refusal.Refusal.TheVariants.{Usage, Load, Save
 use Rattle.gm_tool.specs.declared.refusal.Stop.{Stop}
 use Rattle.gm_tool.specs.declared.refusal.Stop.TheVariants.{Bad, NoText}
 use Rattle.gm_tool.specs.declared.reply.Reply.{Reply}
+use Rattle.gm_tool.specs.declared.running.Loaded.{Loaded}
 
 -- a line that was made, or want of memory
 abbrev pub IsStopWith : {E : Type 0} → Result (Vec ℕ) E → Stop → Type 0
@@ -59,6 +60,10 @@ reply_of (NoText none) = Err none
 pub record IsReadMap (bytes : List ℕ) (read : MapRead) : Type 0 where
   pub stands : MapText bytes read.version (listed_of read.arena)
   pub sound : IsSound (as_map read.arena)
+
+-- the same of a map with the bytes of its file
+abbrev pub IsLoadedMap : List ℕ → Loaded → Type 0
+IsLoadedMap bytes loaded = IsReadMap bytes loaded.map
 
 abbrev pub IsReadBook : List ℕ → Book → Type 0
 IsReadBook bytes book = BookText bytes book.version book.schema (map rule_of book.rules)

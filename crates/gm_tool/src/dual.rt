@@ -92,9 +92,8 @@ fn texts_of<S: Store, L: Ledger>(
     ensures most { FileDualsWithin (S.holds store.old) files.entry.map.now steps.old steps.new }
     ensures sound { IfErr result (λ stop. IsSoundStop stop (IsDualUnloaded (S.holds store.old) (dual_names_of files.entry) (FailsAt (S.load_faults store.old) (S.load_faults store.new) (S.loads store.old) (S.loads store.new)))) }
 {
-    let mut text = Vec::new(alloc);
-    let read = load_map(alloc, files.map, &mut text, store, steps)?;
-    drop(text);
+    // Only the map is kept: the bytes of its file go before the book is loaded.
+    let read = load_map(alloc, files.map, store, steps)?.map;
     let book = load_book(alloc, files.book, store)?;
     Ok(texts(alloc, &read, &book, steps)?)
 }

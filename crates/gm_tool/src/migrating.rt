@@ -17,7 +17,7 @@ ghost use Rattle.gm_tool.specs.declared.refusal.NoText.TheVariants as nothing;
 use crate::command::MigrateFiles;
 use crate::refusal::{NoText, Refusal};
 use crate::reply::{MOST_BYTES, Reply, stopped};
-use crate::running::{Made, load_map, saved};
+use crate::running::{Loaded, Made, load_map, saved};
 use gm_arena::{Arena, Steps};
 use gm_host::Store;
 use gm_lines::put_at;
@@ -86,11 +86,10 @@ pub fn answer<S: Store, L: Ledger>(
     ensures saves { CountsSaves (status_given result) (S.saves store.old) (S.saves store.new) }
     ensures no_save_fault { IfOk result (λ _. S.save_faults store.new ≡ S.save_faults store.old) }
 {
-    let mut text = Vec::new(alloc);
-    let read = match load_map(alloc, files.map, &mut text, store, steps) {
-        Ok(read) => read,
+    let Loaded { map, text } = match load_map(alloc, files.map, store, steps) {
+        Ok(loaded) => loaded,
         Err(stop) => return stopped(stop),
     };
-    let made = prepared(alloc, &read.arena, text, steps)?;
+    let made = prepared(alloc, &map.arena, text, steps)?;
     saved(files.out, made, store)
 }

@@ -11,7 +11,7 @@ ghost use Rattle.gm_tool.specs.Tool.{IsReplyStatus};
 ghost use Rattle.gm_tool.specs.RunAnswer.{IsBadMap, IsBadBookText, IsBadScript, says_refused, run_status};
 ghost use Rattle.gm_tool.specs.declared.refusal.NoText.TheVariants as nothing;
 ghost use Rattle.gm_tool.specs.StepBounds.{ReadsWithin, RunsWithin, RunsAtLeast, WithinMost, AtLeast, printing};
-ghost use Rattle.gm_tool.specs.Stops.{IsFrom, IsReadMap, IsReadBook, IsReadScript, IsSoundStop};
+ghost use Rattle.gm_tool.specs.Stops.{IsFrom, IsLoadedMap, IsReadMap, IsReadBook, IsReadScript, IsSoundStop};
 ghost use Rattle.gm_arena.specs.ArenaAsMap.{as_map};
 ghost use Rattle.gm_arena.specs.Lawful.{IsLawful};
 ghost use Rattle.gm_mapfile.specs.Rows.{listed_of};
@@ -27,9 +27,9 @@ use crate::load::load_file;
 use crate::refusal::{NoText, Refusal, Role, Stop};
 use crate::reply::{MOST_BYTES, Reply, stopped};
 use crate::{book, map, script};
-use gm_arena::{Arena, Steps};
+use gm_arena::Steps;
 use gm_host::{SaveFault, Store};
-use gm_mapfile::{MapRead, MapVersion, print_map_over};
+use gm_mapfile::{MapRead, print_map_over};
 use gm_model::{Book, Embed, MOST_DARTS, Schema, Script};
 use gm_plan::Plan;
 use gm_run::{Outcome, Report, print_report};
@@ -44,36 +44,33 @@ pub struct Made {
     pub map: Vec<u8>,
 }
 
-/// What a map is printed on: in which version, and in the room of which bytes.
+/// A map with the bytes of its file, whose room a text that is printed later can take.
 #[derive(Drop)]
-struct Sheet {
-    version: MapVersion,
-    room: Vec<u8>,
+pub struct Loaded {
+    pub map: MapRead,
+    pub text: Vec<u8>,
 }
 
-/// The map in the file of this name, or why there is none. The bytes of the file are put into `text`,
-/// so that a text that is printed later can take their room.
+/// The map in the file of this name, with the bytes of the file, or why there is none.
 pub fn load_map<S: Store, L: Ledger>(
     alloc: Global,
     name: &str,
-    text: &mut Vec<u8>,
     store: &mut S,
     steps: &mut Steps<L>,
-) -> Result<MapRead, Stop>
+) -> Result<Loaded, Stop>
     ensures held { S.holds store.new ≡ S.holds store.old }
     ensures no_save { S.saves store.new ≡ S.saves store.old }
     ensures no_save_fault { S.save_faults store.new ≡ S.save_faults store.old }
     ensures faults_never_fall { S.load_faults store.old ≤ S.load_faults store.new }
     ensures once { S.loads store.new ≡ counted (S.loads store.old) }
-    ensures read { IfOk result (λ read. (bytes : List ℕ) × IsReadMap bytes read) }
-    ensures from { IsFrom (S.holds store.old) TheMap name.now IsReadMap IsBadMap (Rises (S.load_faults store.old) (S.load_faults store.new)) result }
+    ensures read { IfOk result (λ loaded. (bytes : List ℕ) × IsLoadedMap bytes loaded) }
+    ensures from { IsFrom (S.holds store.old) TheMap name.now IsLoadedMap IsBadMap (Rises (S.load_faults store.old) (S.load_faults store.new)) result }
     ensures most { ReadsWithin (S.holds store.old) name.now steps.old steps.new }
-    ensures least { IfOk result (λ read. steps.old + read.arena.count ≤ steps.new) }
+    ensures least { IfOk result (λ loaded. steps.old + loaded.map.arena.count ≤ steps.new) }
 {
-    let bytes = load_file(alloc, name, Role::Map, store)?;
-    let read = map::read(alloc, bytes.as_slice(), steps);
-    *text = bytes;
-    read
+    let text = load_file(alloc, name, Role::Map, store)?;
+    let map = map::read(alloc, text.as_slice(), steps)?;
+    Ok(Loaded { map, text })
 }
 
 /// The book in the file of this name, or why there is none.
@@ -152,28 +149,30 @@ fn within_limit(status: u8, report: Vec<u8>, map: Vec<u8>) -> Result<Made, Stop>
     })
 }
 
-/// The report of the statements, and the text of the map that they left, on the sheet. The map is let
-/// go before the report takes its room.
+/// The report of the statements, and the text of the map that they left, in the room of the loaded
+/// text. The map is let go before the report takes its room.
 fn printed<L: Ledger>(
     alloc: Global,
     book: &Book,
     script: Script,
     report: Report,
-    arena: Arena,
-    sheet: Sheet,
+    loaded: Loaded,
     steps: &mut Steps<L>,
 ) -> Result<Made, Stop>
     requires printable { CanBePrinted book.now.schema (map rule_of book.now.rules) script.stats report.lines }
-    ensures lawful { IsLawful arena }
+    ensures lawful { IsLawful loaded.map.arena }
     ensures texts { (told : List runs.Outcome) → Tells report.lines told → IsPrinted (run_status told)
         (report_text book.now.schema (map rule_of book.now.rules) script.stats told report.darts report.next)
-        (canonical sheet.version (listed_of arena)) result }
-    ensures map { IfOk result (λ made. IsSound (as_map arena) → IsMapBytes made.map.items) }
-    ensures most { steps.new ≤ steps.old + printing arena.schema.dim arena.count }
-    ensures least { IfOk result (λ _. steps.old + arena.count ≤ steps.new) }
+        (canonical loaded.map.version (listed_of loaded.map.arena)) result }
+    ensures map { IfOk result (λ made. IsSound (as_map loaded.map.arena) → IsMapBytes made.map.items) }
+    ensures most { steps.new ≤ steps.old + printing loaded.map.arena.schema.dim loaded.map.arena.count }
+    ensures least { IfOk result (λ _. steps.old + loaded.map.arena.count ≤ steps.new) }
 {
+    let Loaded {
+        map: MapRead { arena, version },
+        text: room,
+    } = loaded;
     prove!(arena.count() <= MOST_DARTS);
-    let Sheet { version, room } = sheet;
     let map = print_map_over(room, &arena, version, steps)?;
     drop(arena);
     let text = print_report(alloc, book, &script, &report)?;
@@ -187,20 +186,19 @@ fn applied<L: Ledger>(
     plans: &[Plan<'_>],
     book: &Book,
     script: Script,
-    mut arena: Arena,
-    sheet: Sheet,
+    mut loaded: Loaded,
     steps: &mut Steps<L>,
 ) -> Result<Made, Stop>
-    requires { CanRun arena book.now script plans.now }
-    ensures run { IsRunOf (inputs_of sheet.version arena book.now script) result }
+    requires { CanRun loaded.map.arena book.now script plans.now }
+    ensures run { IsRunOf (inputs_of loaded.map.version loaded.map.arena book.now script) result }
     ensures map { IfOk result (λ made. IsMapBytes made.map.items) }
-    ensures lawful { IsLawful arena }
-    ensures most { RunsWithin (inputs_of sheet.version arena book.now script) steps.old steps.new }
-    ensures least { IfOk result (λ _. RunsAtLeast (inputs_of sheet.version arena book.now script) steps.old steps.new) }
+    ensures lawful { IsLawful loaded.map.arena }
+    ensures most { RunsWithin (inputs_of loaded.map.version loaded.map.arena book.now script) steps.old steps.new }
+    ensures least { IfOk result (λ _. RunsAtLeast (inputs_of loaded.map.version loaded.map.arena book.now script) steps.old steps.new) }
 {
-    prove!(arena.count() <= MOST_DARTS);
-    let report = gm_run::run(alloc, plans, &script, &mut arena, steps)?;
-    printed(alloc, book, script, report, arena, sheet, steps)
+    prove!(loaded.map.arena.count() <= MOST_DARTS);
+    let report = gm_run::run(alloc, plans, &script, &mut loaded.map.arena, steps)?;
+    printed(alloc, book, script, report, loaded, steps)
 }
 
 /// The map and the book are of one dimension, with the same embeddings in the same order.
@@ -251,54 +249,47 @@ fn prepared<S: Store, L: Ledger>(
     ensures least { IfOk result (λ _. IfSome (S.holds store.old) (λ held. AtLeast held (names_of files.entry) steps.old steps.new)) }
     ensures sound { IfErr result (λ stop. IsSoundStop stop (IsUnloaded (S.holds store.old) (names_of files.entry) (FailsAt (S.load_faults store.old) (S.load_faults store.new) (S.loads store.old) (S.loads store.new)))) }
 {
-    let mut text = Vec::new(alloc);
-    let read = load_map(alloc, files.map, &mut text, store, steps)?;
+    let loaded = load_map(alloc, files.map, store, steps)?;
     let book = load_book(alloc, files.book, store)?;
-    prepared_behind(alloc, files, read, text, &book, store, steps)
+    prepared_behind(alloc, files, loaded, &book, store, steps)
 }
 
 /// The same of a run whose map and book were read. The map is printed in the room of its text.
 fn prepared_behind<S: Store, L: Ledger>(
     alloc: Global,
     files: RunFiles<'_>,
-    read: MapRead,
-    text: Vec<u8>,
+    loaded: Loaded,
     book: &Book,
     store: &mut S,
     steps: &mut Steps<L>,
 ) -> Result<Made, Stop>
-    requires read { (bytes : List ℕ) × IsReadMap bytes read }
+    requires read { (bytes : List ℕ) × IsReadMap bytes loaded.map }
     requires book { (bytes : List ℕ) × IsReadBook bytes book.now }
     requires declared { IsSchema book.now.schema }
     ensures held { S.holds store.new ≡ S.holds store.old }
     ensures no_save { S.saves store.new ≡ S.saves store.old }
     ensures no_save_fault { S.save_faults store.new ≡ S.save_faults store.old }
-    ensures in_order { (start : Counts) → HasBegun (S.holds store.old) (names_of files.entry) read book.now start (S.load_faults store.old) (S.loads store.old) steps.old →
+    ensures in_order { (start : Counts) → HasBegun (S.holds store.old) (names_of files.entry) loaded.map book.now start (S.load_faults store.old) (S.loads store.old) steps.old →
         LoadsInOrder (S.holds store.old) (names_of files.entry) start.loads (S.loads store.new) }
-    ensures counted_loads { (start : Counts) → HasBegun (S.holds store.old) (names_of files.entry) read book.now start (S.load_faults store.old) (S.loads store.old) steps.old →
+    ensures counted_loads { (start : Counts) → HasBegun (S.holds store.old) (names_of files.entry) loaded.map book.now start (S.load_faults store.old) (S.loads store.old) steps.old →
         IfSome (S.holds store.old) (λ held. UnlessNoMemoryToMake result (StopsInTime held (names_of files.entry) (Rises start.faults (S.load_faults store.new)) start.loads (S.loads store.new))) }
-    ensures made { (start : Counts) → HasBegun (S.holds store.old) (names_of files.entry) read book.now start (S.load_faults store.old) (S.loads store.old) steps.old →
+    ensures made { (start : Counts) → HasBegun (S.holds store.old) (names_of files.entry) loaded.map book.now start (S.load_faults store.old) (S.loads store.old) steps.old →
         IfSome (S.holds store.old) (λ held. IsMade held (names_of files.entry) (FailsAt start.faults (S.load_faults store.new) start.loads (S.loads store.new)) result) }
     ensures map { IfOk result (λ made. IsMapBytes made.map.items) }
     ensures status { IfOk result (λ made. IsRunStatus made.status) }
-    ensures most { (start : Counts) → HasBegun (S.holds store.old) (names_of files.entry) read book.now start (S.load_faults store.old) (S.loads store.old) steps.old →
+    ensures most { (start : Counts) → HasBegun (S.holds store.old) (names_of files.entry) loaded.map book.now start (S.load_faults store.old) (S.loads store.old) steps.old →
         IfSome (S.holds store.old) (λ held. WithinMost held (names_of files.entry) start.steps steps.new) }
-    ensures least { (start : Counts) → HasBegun (S.holds store.old) (names_of files.entry) read book.now start (S.load_faults store.old) (S.loads store.old) steps.old →
+    ensures least { (start : Counts) → HasBegun (S.holds store.old) (names_of files.entry) loaded.map book.now start (S.load_faults store.old) (S.loads store.old) steps.old →
         IfOk result (λ _. IfSome (S.holds store.old) (λ held. AtLeast held (names_of files.entry) start.steps steps.new)) }
-    ensures sound { (start : Counts) → HasBegun (S.holds store.old) (names_of files.entry) read book.now start (S.load_faults store.old) (S.loads store.old) steps.old →
+    ensures sound { (start : Counts) → HasBegun (S.holds store.old) (names_of files.entry) loaded.map book.now start (S.load_faults store.old) (S.loads store.old) steps.old →
         IfErr result (λ stop. IsSoundStop stop (IsUnloaded (S.holds store.old) (names_of files.entry) (FailsAt start.faults (S.load_faults store.new) start.loads (S.loads store.new)))) }
 {
     let plans = plans_of(alloc, book)?;
     let script = load_script(alloc, files.script, book, store)?;
-    if !agree(read.arena.schema(), &book.schema) {
+    if !agree(loaded.map.arena.schema(), &book.schema) {
         return Err(Stop::NoText(NoText::Refused(Refusal::Agree)));
     }
-    let MapRead { arena, version } = read;
-    let sheet = Sheet {
-        version,
-        room: text,
-    };
-    applied(alloc, plans.as_slice(), book, script, arena, sheet, steps)
+    applied(alloc, plans.as_slice(), book, script, loaded, steps)
 }
 
 /// Saves the map, and answers the text to put.

@@ -50,12 +50,12 @@ pub returns-in_err-book-clause-made : goal.returns-in_err-book-clause-made
 returns-in_err-book-clause-made g c =
     let p = err_from_is_err_and c.from_residual-in_err-book.result c.from_residual-in_err-book.ensures.1 in
     rw (p.1, p.2)
-    (at_book (dual_names_of c.args.files) (FailsAt (g.S.Store.load_faults c.args.store.now) (g.S.Store.load_faults c.load_book.new.store) (g.S.Store.loads c.args.store.now) (g.S.Store.loads c.load_book.new.store)) (g.S.Store.holds c.args.store.now) c.in_ok-read.read (Unit {0}) _ c.in_err-book.field-0.0 (λ rises. (rises_later _ _ _ c.load_map.ensures.faults_never_fall rises, c.load_book.ensures.once ∙ ap counted c.load_map.ensures.once))
+    (at_book (dual_names_of c.args.files) (FailsAt (g.S.Store.load_faults c.args.store.now) (g.S.Store.load_faults c.load_book.new.store) (g.S.Store.loads c.args.store.now) (g.S.Store.loads c.load_book.new.store)) (g.S.Store.holds c.args.store.now) c.in_ok-read.field-0.map (Unit {0}) _ c.in_err-book.field-0.0 (λ rises. (rises_later _ _ _ c.load_map.ensures.faults_never_fall rises, c.load_book.ensures.once ∙ ap counted c.load_map.ensures.once))
     c.in_ok-read.ensures.from (rw c.load_map.ensures.held at c.in_err-book.ensures.from))
 
 pub returns-in_err-book-clause-counted_loads : goal.returns-in_err-book-clause-counted_loads
 returns-in_err-book-clause-counted_loads g c =
-    behind_book (dual_names_of c.args.files) (Rises (g.S.Store.load_faults c.args.store.now) (g.S.Store.load_faults c.load_book.new.store)) (g.S.Store.loads c.args.store.now) (g.S.Store.loads c.load_book.new.store) (g.S.Store.holds c.args.store.now) c.in_ok-read.read (Unit {0}) _ (c.load_book.ensures.once ∙ ap counted c.load_map.ensures.once) c.in_ok-read.ensures.from
+    behind_book (dual_names_of c.args.files) (Rises (g.S.Store.load_faults c.args.store.now) (g.S.Store.load_faults c.load_book.new.store)) (g.S.Store.loads c.args.store.now) (g.S.Store.loads c.load_book.new.store) (g.S.Store.holds c.args.store.now) c.in_ok-read.field-0.map (Unit {0}) _ (c.load_book.ensures.once ∙ ap counted c.load_map.ensures.once) c.in_ok-read.ensures.from
 
 pub returns-in_err-book-clause-most : goal.returns-in_err-book-clause-most
 returns-in_err-book-clause-most g c = read_dual (g.S.Store.holds c.args.store.now) c.args.files.map.now _ _ c.in_ok-read.ensures.most
@@ -64,11 +64,11 @@ pub returns-in_err-book-clause-sound : goal.returns-in_err-book-clause-sound
 returns-in_err-book-clause-sound g c =
     let p = err_from_is_err_and c.from_residual-in_err-book.result c.from_residual-in_err-book.ensures.1 in
     rw (p.1, p.2)
-    (sound_to _ _ (unloaded_dual (g.S.Store.holds c.args.store.now) (dual_names_of c.args.files) (FailsAt (g.S.Store.load_faults c.args.store.now) (g.S.Store.load_faults c.load_book.new.store) (g.S.Store.loads c.args.store.now) (g.S.Store.loads c.load_book.new.store)) TheBook _ (passes_book (g.S.Store.holds c.args.store.now) (dual_names_of c.args.files) c.in_ok-read.read (Unit {0}) c.in_ok-read.ensures.from) (λ rises. (rises_later _ _ _ c.load_map.ensures.faults_never_fall rises, c.load_book.ensures.once ∙ ap counted c.load_map.ensures.once)))
+    (sound_to _ _ (unloaded_dual (g.S.Store.holds c.args.store.now) (dual_names_of c.args.files) (FailsAt (g.S.Store.load_faults c.args.store.now) (g.S.Store.load_faults c.load_book.new.store) (g.S.Store.loads c.args.store.now) (g.S.Store.loads c.load_book.new.store)) TheBook _ (passes_book (g.S.Store.holds c.args.store.now) (dual_names_of c.args.files) c.in_ok-read.field-0.map (Unit {0}) c.in_ok-read.ensures.from) (λ rises. (rises_later _ _ _ c.load_map.ensures.faults_never_fall rises, c.load_book.ensures.once ∙ ap counted c.load_map.ensures.once)))
     c.in_err-book.field-0.0 (rw c.load_map.ensures.held at c.in_err-book.ensures.from.1))
 
 pub returns-in_err-book-clause-in_order : goal.returns-in_err-book-clause-in_order
-returns-in_err-book-clause-in_order g c = (TheBook, passes_book (g.S.Store.holds c.args.store.now) (dual_names_of c.args.files) c.in_ok-read.read (Unit {0}) c.in_ok-read.ensures.from, c.load_book.ensures.once ∙ ap counted c.load_map.ensures.once)
+returns-in_err-book-clause-in_order g c = (TheBook, passes_book (g.S.Store.holds c.args.store.now) (dual_names_of c.args.files) c.in_ok-read.field-0.map (Unit {0}) c.in_ok-read.ensures.from, c.load_book.ensures.once ∙ ap counted c.load_map.ensures.once)
 
 -- ---- memory was wanting
 
@@ -79,10 +79,10 @@ returns-in_err-texts-clause-made g c =
 
 pub returns-in_err-texts-clause-counted_loads : goal.returns-in_err-texts-clause-counted_loads
 returns-in_err-texts-clause-counted_loads g c =
-    behind_book (dual_names_of c.args.files) (Rises (g.S.Store.load_faults c.args.store.now) (g.S.Store.load_faults c.load_book.new.store)) (g.S.Store.loads c.args.store.now) (g.S.Store.loads c.load_book.new.store) (g.S.Store.holds c.args.store.now) c.in_ok-read.read (Unit {0}) _ (c.load_book.ensures.once ∙ ap counted c.load_map.ensures.once) c.in_ok-read.ensures.from
+    behind_book (dual_names_of c.args.files) (Rises (g.S.Store.load_faults c.args.store.now) (g.S.Store.load_faults c.load_book.new.store)) (g.S.Store.loads c.args.store.now) (g.S.Store.loads c.load_book.new.store) (g.S.Store.holds c.args.store.now) c.in_ok-read.field-0.map (Unit {0}) _ (c.load_book.ensures.once ∙ ap counted c.load_map.ensures.once) c.in_ok-read.ensures.from
 
 pub returns-in_err-texts-clause-most : goal.returns-in_err-texts-clause-most
-returns-in_err-texts-clause-most g c = turned_dual (g.S.Store.holds c.args.store.now) c.args.files.map.now (Unit {0}) c.in_ok-read.read _ _ _ c.texts.ensures.lawful c.in_ok-read.ensures.from c.in_ok-read.ensures.most c.texts.ensures.most
+returns-in_err-texts-clause-most g c = turned_dual (g.S.Store.holds c.args.store.now) c.args.files.map.now (Unit {0}) c.in_ok-read.field-0.map _ _ _ c.texts.ensures.lawful c.in_ok-read.ensures.from c.in_ok-read.ensures.most c.texts.ensures.most
 
 pub returns-in_err-texts-clause-sound : goal.returns-in_err-texts-clause-sound
 returns-in_err-texts-clause-sound g c =
@@ -90,20 +90,20 @@ returns-in_err-texts-clause-sound g c =
     rw (p.1, p.2) tt
 
 pub returns-in_err-texts-clause-in_order : goal.returns-in_err-texts-clause-in_order
-returns-in_err-texts-clause-in_order g c = (TheBook, passes_book (g.S.Store.holds c.args.store.now) (dual_names_of c.args.files) c.in_ok-read.read (Unit {0}) c.in_ok-read.ensures.from, c.load_book.ensures.once ∙ ap counted c.load_map.ensures.once)
+returns-in_err-texts-clause-in_order g c = (TheBook, passes_book (g.S.Store.holds c.args.store.now) (dual_names_of c.args.files) c.in_ok-read.field-0.map (Unit {0}) c.in_ok-read.ensures.from, c.load_book.ensures.once ∙ ap counted c.load_map.ensures.once)
 
 -- ---- the texts
 
 pub returns-clause-made : goal.returns-clause-made
 returns-clause-made g c =
-    at_end (dual_names_of c.args.files) (FailsAt (g.S.Store.load_faults c.args.store.now) (g.S.Store.load_faults c.load_book.new.store) (g.S.Store.loads c.args.store.now) (g.S.Store.loads c.load_book.new.store)) (g.S.Store.holds c.args.store.now) c.in_ok-read.read c.in_ok-book.book (Unit {0}) (Unit {0}) c.in_ok-texts.field-0 c.in_ok-read.ensures.from (rw c.load_map.ensures.held at c.in_ok-book.ensures.from) c.in_ok-texts.ensures.text
+    at_end (dual_names_of c.args.files) (FailsAt (g.S.Store.load_faults c.args.store.now) (g.S.Store.load_faults c.load_book.new.store) (g.S.Store.loads c.args.store.now) (g.S.Store.loads c.load_book.new.store)) (g.S.Store.holds c.args.store.now) c.in_ok-read.field-0.map c.in_ok-book.book (Unit {0}) (Unit {0}) c.in_ok-texts.field-0 c.in_ok-read.ensures.from (rw c.load_map.ensures.held at c.in_ok-book.ensures.from) c.in_ok-texts.ensures.text
 
 pub returns-clause-counted_loads : goal.returns-clause-counted_loads
 returns-clause-counted_loads g c =
-    behind_book (dual_names_of c.args.files) (Rises (g.S.Store.load_faults c.args.store.now) (g.S.Store.load_faults c.load_book.new.store)) (g.S.Store.loads c.args.store.now) (g.S.Store.loads c.load_book.new.store) (g.S.Store.holds c.args.store.now) c.in_ok-read.read (Unit {0}) (Ok c.in_ok-texts.field-0) (c.load_book.ensures.once ∙ ap counted c.load_map.ensures.once) c.in_ok-read.ensures.from
+    behind_book (dual_names_of c.args.files) (Rises (g.S.Store.load_faults c.args.store.now) (g.S.Store.load_faults c.load_book.new.store)) (g.S.Store.loads c.args.store.now) (g.S.Store.loads c.load_book.new.store) (g.S.Store.holds c.args.store.now) c.in_ok-read.field-0.map (Unit {0}) (Ok c.in_ok-texts.field-0) (c.load_book.ensures.once ∙ ap counted c.load_map.ensures.once) c.in_ok-read.ensures.from
 
 pub returns-clause-most : goal.returns-clause-most
-returns-clause-most g c = turned_dual (g.S.Store.holds c.args.store.now) c.args.files.map.now (Unit {0}) c.in_ok-read.read _ _ _ c.texts.ensures.lawful c.in_ok-read.ensures.from c.in_ok-read.ensures.most c.texts.ensures.most
+returns-clause-most g c = turned_dual (g.S.Store.holds c.args.store.now) c.args.files.map.now (Unit {0}) c.in_ok-read.field-0.map _ _ _ c.texts.ensures.lawful c.in_ok-read.ensures.from c.in_ok-read.ensures.most c.texts.ensures.most
 
 pub returns-clause-in_order : goal.returns-clause-in_order
-returns-clause-in_order g c = (TheBook, passes_book (g.S.Store.holds c.args.store.now) (dual_names_of c.args.files) c.in_ok-read.read (Unit {0}) c.in_ok-read.ensures.from, c.load_book.ensures.once ∙ ap counted c.load_map.ensures.once)
+returns-clause-in_order g c = (TheBook, passes_book (g.S.Store.holds c.args.store.now) (dual_names_of c.args.files) c.in_ok-read.field-0.map (Unit {0}) c.in_ok-read.ensures.from, c.load_book.ensures.once ∙ ap counted c.load_map.ensures.once)

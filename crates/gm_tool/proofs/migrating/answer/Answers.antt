@@ -18,24 +18,24 @@ returns-in_err-made-clause-text g c =
     let p = err_from_is_err_and c.from_residual.result c.from_residual.ensures.1 in
     rw (p.1, p.2)
     (unmade_migration (migrate_names_of c.args.files) (FailsAt (g.S.Store.load_faults c.args.store.now) (g.S.Store.load_faults c.load_map.new.store) (g.S.Store.loads c.args.store.now) (g.S.Store.loads c.load_map.new.store)) (Rises (g.S.Store.load_faults c.args.store.now) (g.S.Store.load_faults c.load_map.new.store)) (Rises (g.S.Store.save_faults c.args.store.now) (g.S.Store.save_faults c.load_map.new.store))
-    (g.S.Store.holds c.args.store.now) c.in-Ok.read _ c.load_map.ensures.held c.in_err-made.field-0.0 c.in-Ok.ensures.from c.in_err-made.ensures.made)
+    (g.S.Store.holds c.args.store.now) c.in-Ok.loaded.map _ c.load_map.ensures.held c.in_err-made.field-0.0 c.in-Ok.ensures.from c.in_err-made.ensures.made)
 
 pub returns-clause-text : goal.returns-clause-text
 returns-clause-text g c =
     rw (c.saved.ensures.no_load_fault, c.saved.ensures.no_load)
     (saved_migration (migrate_names_of c.args.files) (FailsAt (g.S.Store.load_faults c.args.store.now) (g.S.Store.load_faults c.load_map.new.store) (g.S.Store.loads c.args.store.now) (g.S.Store.loads c.load_map.new.store)) (Rises (g.S.Store.load_faults c.args.store.now) (g.S.Store.load_faults c.load_map.new.store)) (Rises (g.S.Store.save_faults c.args.store.now) (g.S.Store.save_faults c.saved.new.store))
-    (g.S.Store.holds c.args.store.now) c.in-Ok.read _ c.in_ok-made.made c.saved.result c.in-Ok.ensures.from c.in_ok-made.ensures.made (rw (c.load_map.ensures.held, c.load_map.ensures.no_save_fault) at c.saved.ensures.saved))
+    (g.S.Store.holds c.args.store.now) c.in-Ok.loaded.map _ c.in_ok-made.made c.saved.result c.in-Ok.ensures.from c.in_ok-made.ensures.made (rw (c.load_map.ensures.held, c.load_map.ensures.no_save_fault) at c.saved.ensures.saved))
 
 pub returns-clause-map : goal.returns-clause-map
 returns-clause-map g c = map_saved _ _ c.args.files.out.now c.in_ok-made.made _ c.saved.result (c.in_ok-made.ensures.map c.in-Ok.ensures.read.1.sound) c.saved.ensures.saved
 
 pub returns-in_err-made-clause-most : goal.returns-in_err-made-clause-most
 returns-in_err-made-clause-most g c =
-    printed_shown (g.S.Store.holds c.args.store.now) c.args.files.map.now (Rises (g.S.Store.load_faults c.args.store.now) (g.S.Store.load_faults c.load_map.new.store)) c.in-Ok.read _ _ _ c.prepared.ensures.lawful c.in-Ok.ensures.from c.load_map.ensures.most c.prepared.ensures.most
+    printed_shown (g.S.Store.holds c.args.store.now) c.args.files.map.now (Rises (g.S.Store.load_faults c.args.store.now) (g.S.Store.load_faults c.load_map.new.store)) c.in-Ok.loaded.map _ _ _ c.prepared.ensures.lawful c.in-Ok.ensures.from c.load_map.ensures.most c.prepared.ensures.most
 
 pub returns-clause-most : goal.returns-clause-most
 returns-clause-most g c =
-    printed_shown (g.S.Store.holds c.args.store.now) c.args.files.map.now (Rises (g.S.Store.load_faults c.args.store.now) (g.S.Store.load_faults c.load_map.new.store)) c.in-Ok.read _ _ _ c.prepared.ensures.lawful c.in-Ok.ensures.from c.load_map.ensures.most c.prepared.ensures.most
+    printed_shown (g.S.Store.holds c.args.store.now) c.args.files.map.now (Rises (g.S.Store.load_faults c.args.store.now) (g.S.Store.load_faults c.load_map.new.store)) c.in-Ok.loaded.map _ _ _ c.prepared.ensures.lawful c.in-Ok.ensures.from c.load_map.ensures.most c.prepared.ensures.most
 
 pub returns-in-Err-clause-text : goal.returns-in-Err-clause-text
 returns-in-Err-clause-text g c =

@@ -27,4 +27,4 @@ pub returns-in_err-map-clause-map : goal.returns-in_err-map-clause-map
 returns-in_err-map-clause-map g c = rw (err_from_is_err_and c.from_residual.result c.from_residual.ensures.1).1 tt
 
 pub returns-clause-map : goal.returns-clause-map
-returns-clause-map g c = fitted_bytes c.args.sheet.version c.args.arena _ _ c.in_ok-map.map.items c.within_limit.result c.within_limit.ensures c.in_ok-map.ensures.text c.in_ok-map.ensures.stands
+returns-clause-map g c = fitted_bytes c.args.loaded.map.version c.args.loaded.map.arena _ _ c.in_ok-map.map.items c.within_limit.result c.within_limit.ensures c.in_ok-map.ensures.text c.in_ok-map.ensures.stands
