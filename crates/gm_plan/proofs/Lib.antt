@@ -1,5 +1,6 @@
 pub mod Bits
 pub mod Changed
+pub mod Collectors
 pub mod Decided
 pub mod Distinct
 pub mod EmbedTables

@@ -1,4 +1,5 @@
 pub mod Changes
+pub mod Collecting
 pub mod Counts
 pub mod InArena
 pub mod Indices

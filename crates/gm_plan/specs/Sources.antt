@@ -1,5 +1,5 @@
--- What the tables of a plan have for each embedding: which nodes assign it, from which they take values over, and whose letters are its labels.
-use Rattle.std.specs.Prelude.{◌≡◌, ℕ, ◌<◌, ◌≤◌, ◌↔◌, List, length, Some, slice_get, IsTrue}
+-- What the tables of a plan have for each embedding: which nodes assign it, from which they take values over, whose letters are its labels, and whether an expression of it collects.
+use Rattle.std.specs.Prelude.{◌≡◌, ℕ, false, ◌<◌, ◌≤◌, ◌↔◌, List, length, Some, slice_get, IsTrue}
 use Rattle.gm_model.specs.declared.rule.Side.TheVariants.{Right}
 use Rattle.gm_model.specs.declared.schema.Embed.{Embed}
 use Rattle.gm_model.specs.declared.schema.Schema.{Schema}
@@ -11,6 +11,7 @@ use Rattle.gm_model.specs.Rules.{Rule, has_word, letters, step}
 use Rattle.gm_embcheck.specs.Keepers.{AreKeepers}
 use Rattle.gm_embcheck.specs.NodeSets.{IsIn}
 use Rattle.gm_plan.specs.declared.sources.Sources.{Sources}
+use Rattle.gm_plan.specs.Collecting.{Collects, CollectsNothing}
 
 -- the letters of right node x are the labels up to n that the type has
 pub record HasExactLetters (n : ℕ) (rule : Rule) (o : Labels) (x : ℕ) : Type 0 where
@@ -23,6 +24,8 @@ pub record IsSources (n : ℕ) (rule : Rule) (e : ℕ) (o : Labels) (sources : S
   pub keepers : AreKeepers rule o sources.keepers
   pub assigned : (x : ℕ) → x < length rule.nodes → IsIn sources.assigned x ↔ IsAssigned rule e x
   pub exact : (x : ℕ) → x < length rule.nodes → IsIn sources.exact x → HasExactLetters n rule o x
+  pub nothing : sources.collects ≡ false → CollectsNothing rule e
+  pub something : IsTrue sources.collects → Collects rule e
 
 -- those of each embedding
 pub record AreSources (schema : Schema) (rule : Rule) (sources : List Sources) : Type 0 where

@@ -3,6 +3,7 @@
 #![tactic(auto)]
 
 mod changes;
+mod collecting;
 mod compiler;
 mod existence;
 mod index;

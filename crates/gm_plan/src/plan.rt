@@ -61,6 +61,7 @@ impl<'b> Plan<'b> {
     ghost use Rattle.gm_model.specs.Rules.{rule_of, has_word, link_from, step};
     ghost use Rattle.gm_model.specs.Unfolding.{added_nodes};
     ghost use Rattle.gm_plan.specs.Changes.{freed_step, made_step, AreMadeLabels, AreRemovedNodes};
+    ghost use Rattle.gm_plan.specs.Collecting.{Collects, CollectsNothing};
     ghost use Rattle.gm_plan.specs.Counts.{removed_nodes};
     ghost use Rattle.gm_plan.specs.Paths.{ArePaths, IsLastLink};
     ghost use Rattle.gm_plan.specs.Plans.{AreRows, IsPlanned, IsLeftCount, plan_of};
@@ -269,6 +270,15 @@ impl<'b> Plan<'b> {
         ensures { IsTrue result → (declared : Embed) → IsEmbedAt self.now.schema embed declared → HasExactLetters self.now.schema.dim (rule_of self.now.table) (type_of declared) node }
     {
         self.sources[embed as usize].exact[node as usize]
+    }
+
+    /// Whether a collector stands in an expression that is assigned to the embedding.
+    pub fn collects(&self, embed: u8) -> bool
+        requires { embed < length self.now.schema.embeds }
+        ensures nothing { result ≡ false → CollectsNothing (rule_of self.now.table) embed }
+        ensures something { IsTrue result → Collects (rule_of self.now.table) embed }
+    {
+        self.sources[embed as usize].collects
     }
 
     /// The last link of the least path to each left node but the hooks, in an order in which each

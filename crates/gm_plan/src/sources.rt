@@ -10,6 +10,7 @@ ghost use Rattle.gm_embcheck.specs.NodeSets.{IsIn};
 ghost use Rattle.gm_plan.specs.Plans.{AreSteps, IsPlanned};
 ghost use Rattle.gm_plan.specs.Sources.{AreSources, HasExactLetters, IsSources};
 
+use crate::collecting::has_collectors;
 use crate::table::Row;
 use gm_embcheck::{Keepers, NodeSet, assigns, keepers_of, leaders_of};
 use gm_model::{Letter, MOST_NODES, Mask, OutOfMemory, RuleTable, Schema, Side, Step};
@@ -23,6 +24,8 @@ pub struct Sources {
     pub assigned: NodeSet,
     /// The nodes whose letters are the labels of the embedding's type.
     pub exact: NodeSet,
+    /// Whether a collector may stand in an expression that is assigned to the embedding.
+    pub collects: bool,
 }
 
 /// What an application asks for each embedding. The rows have the right steps.
@@ -56,6 +59,7 @@ fn sources_for(rule: &RuleTable, right: &[Row], top: u8, embed: u8, labels: Mask
         keepers: keepers_of(rule, &leaders),
         assigned: assigned_nodes(rule, embed),
         exact: exact_nodes(rule, right, top, labels),
+        collects: has_collectors(rule, embed),
     }
 }
 
