@@ -34,7 +34,7 @@ impl<'a, 'm> Reading<'a, 'm> {
         prove!(self.arena.count() <= MOST_DARTS);
         let mut pending = Pending::build(alloc, self.plan, self.arena, self.found, steps)?;
         for embed in 0..self.plan.schema().embeds.as_slice().len() as u8 {
-            self.give_values(&mut pending, embed, scratch, steps)?;
+            self.give_values(alloc, &mut pending, embed, scratch, steps)?;
         }
         Ok(pending.into_changes(scratch.lend_slots(alloc), steps)?)
     }
@@ -42,6 +42,7 @@ impl<'a, 'm> Reading<'a, 'm> {
     /// Gives each deciding instance of the embedding the value of its expression.
     fn give_values<L: Ledger>(
         &self,
+        alloc: Global,
         pending: &mut Pending<'_, '_>,
         embed: u8,
         scratch: &mut Scratch,
@@ -56,7 +57,7 @@ impl<'a, 'm> Reading<'a, 'm> {
         ensures room { scratch.new.bound ≡ scratch.old.bound }
     {
         let count = pending.deciding(embed, steps)?;
-        self.read_values(pending, embed, count, scratch, steps)
+        self.read_values(alloc, pending, embed, count, scratch, steps)
     }
 
     /// Reads the expressions of the embedding's deciding instances, in their order, and gives each its
@@ -64,6 +65,7 @@ impl<'a, 'm> Reading<'a, 'm> {
     /// each node whose expression collects it.
     fn read_values<L: Ledger>(
         &self,
+        alloc: Global,
         pending: &mut Pending<'_, '_>,
         embed: u8,
         count: u32,
@@ -80,7 +82,8 @@ impl<'a, 'm> Reading<'a, 'm> {
             → steps.new ≤ steps.old + 6 * (self.now.arena.now.schema.dim + 1) * sum units }
         ensures room { scratch.new.bound ≡ scratch.old.bound }
     {
-        let mut kept = Kept::between(count);
+        let collects = self.plan.collects(embed);
+        let mut kept = Kept::between(alloc, count, collects)?;
         for index in 0..count {
             let (node, position) = pending.decider(embed, index);
             kept.turn_to(node);

@@ -1,5 +1,5 @@
 -- What is at hand stays so, makes readings cheaper, and is what shared collectors leave.
-use Rattle.std.proofs.Common.{◌≡◌, ℕ, ◌+◌, ◌*◌, ◌≤◌, ◌⊎◌, IsTrue, Bool, true, false, List, [], ◌++◌, length, Option, Some, None, IsSome, refl, sym, ap, subst, ◌∙◌, inl, inr, arith}
+use Rattle.std.proofs.Common.{◌≡◌, ℕ, ◌+◌, ◌*◌, ◌≤◌, ◌⊎◌, IsTrue, Bool, true, false, ◌||◌, List, [], ◌++◌, length, Option, Some, None, IsSome, refl, sym, ap, subst, ◌∙◌, inl, inr, arith}
 use Rattle.std.specs.List.{Contains}
 use Rattle.std.proofs.lemmas.Bool.{false≢true}
 use Rattle.std.proofs.lemmas.List.{append_assoc, append-nil, length-append}
@@ -12,6 +12,7 @@ use Rattle.gm_model.specs.Expressions.{Reading, HasValue, HasNoValue, HasUnits}
 use Rattle.gm_model.specs.Trees.{Tree, Number, Truth, Param, Field, Same, Count, Sum, Least, Greatest, Unary, Binary, If, MakeVec2, MakeVec3, MakeRgb}
 use Rattle.gm_theory.proofs.Lists.{none_some, some_same}
 use Rattle.gm_theory.proofs.ReadingsDecided.{not_both_truths}
+use Rattle.gm_plan.specs.Collecting.{collects}
 use Rattle.gm_eval.specs.declared.kept.Collector.{Collector}
 use Rattle.gm_eval.specs.declared.kept.Entry.{Entry}
 use Rattle.gm_eval.specs.declared.kept.Form.{Form}
@@ -20,7 +21,7 @@ use Rattle.gm_eval.specs.declared.reader.Reader.{Reader}
 use Rattle.gm_eval.specs.Keeping.{collector_at}
 use Rattle.gm_eval.specs.Places.{IsWithinUnits}
 use Rattle.gm_eval.specs.Readers.{AreLeft, IsOfMean, IsWithin, MeanUnits, OwnUnits, Read, UnitsBeside, reading_of}
-use Rattle.gm_eval.specs.Sharing.{HasOwnUnits, HasRoom, HasUnitsBeside, IsAtHand, IsOwn, StillKept}
+use Rattle.gm_eval.specs.Sharing.{HasOwnUnits, HasRoom, HasUnitsBeside, IsAtHand, IsOwn, Reads, StillKept}
 use Rattle.gm_eval.proofs.Costs.{both_within, one_within}
 
 -- ---- what was kept still is
@@ -113,6 +114,41 @@ model_units P reading (If c a b) u (s, t, h, inr (inr none), sum) = (s, t, model
 model_units P reading (MakeVec2 a b) u (s, t, h, k, sum) = (s, t, model_units P reading a s h, model_units P reading b t k, sum)
 model_units P reading (MakeVec3 a b c) u (s, t, w, h, k, l, sum) = (s, t, w, model_units P reading a s h, model_units P reading b t k, model_units P reading c w l, sum)
 model_units P reading (MakeRgb a b c) u (s, t, w, h, k, l, sum) = (s, t, w, model_units P reading a s h, model_units P reading b t k, model_units P reading c w l, sum)
+
+-- ---- an expression without a collector
+
+neither : (a b : Bool) → a || b ≡ false → (a ≡ false) × (b ≡ false)
+neither false b none = (refl, none)
+neither true b none = absurd (false≢true (sym none))
+
+none_of_three : (a b c : Bool) → a || (b || c) ≡ false → (a ≡ false) × (b ≡ false) × (c ≡ false)
+none_of_three a b c none = let first = neither a (b || c) none in let rest = neither b c first.1 in (first.0, rest.0, rest.1)
+
+-- its reading reads none
+pub none_to_read : (reading : Reading) (tree : Tree) (x : Collector) → collects tree ≡ false → Reads reading tree x → ⊥
+none_to_read reading (Number n) x none read = elim read [ ]
+none_to_read reading (Truth b) x none read = elim read [ ]
+none_to_read reading (Param k) x none read = elim read [ ]
+none_to_read reading (Field d e) x none read = elim read [ ]
+none_to_read reading (Same d d') x none read = elim read [ ]
+none_to_read reading (Count o d) x none read = false≢true (sym none)
+none_to_read reading (Sum o d e) x none read = false≢true (sym none)
+none_to_read reading (Least o d e) x none read = false≢true (sym none)
+none_to_read reading (Greatest o d e) x none read = false≢true (sym none)
+none_to_read reading (Unary op a) x none read = none_to_read reading a x none read
+none_to_read reading (Binary op a b) x none (inl read) = none_to_read reading a x (neither (collects a) (collects b) none).0 read
+none_to_read reading (Binary op a b) x none (inr read) = none_to_read reading b x (neither (collects a) (collects b) none).1 read
+none_to_read reading (If c a b) x none (inl read) = none_to_read reading c x (none_of_three (collects c) (collects a) (collects b) none).0 read
+none_to_read reading (If c a b) x none (inr (inl (yes_there, read))) = none_to_read reading a x (none_of_three (collects c) (collects a) (collects b) none).1 read
+none_to_read reading (If c a b) x none (inr (inr (no_there, read))) = none_to_read reading b x (none_of_three (collects c) (collects a) (collects b) none).2 read
+none_to_read reading (MakeVec2 a b) x none (inl read) = none_to_read reading a x (neither (collects a) (collects b) none).0 read
+none_to_read reading (MakeVec2 a b) x none (inr read) = none_to_read reading b x (neither (collects a) (collects b) none).1 read
+none_to_read reading (MakeVec3 a b c) x none (inl read) = none_to_read reading a x (none_of_three (collects a) (collects b) (collects c) none).0 read
+none_to_read reading (MakeVec3 a b c) x none (inr (inl read)) = none_to_read reading b x (none_of_three (collects a) (collects b) (collects c) none).1 read
+none_to_read reading (MakeVec3 a b c) x none (inr (inr read)) = none_to_read reading c x (none_of_three (collects a) (collects b) (collects c) none).2 read
+none_to_read reading (MakeRgb a b c) x none (inl read) = none_to_read reading a x (none_of_three (collects a) (collects b) (collects c) none).0 read
+none_to_read reading (MakeRgb a b c) x none (inr (inl read)) = none_to_read reading b x (none_of_three (collects a) (collects b) (collects c) none).1 read
+none_to_read reading (MakeRgb a b c) x none (inr (inr read)) = none_to_read reading c x (none_of_three (collects a) (collects b) (collects c) none).2 read
 
 -- ---- steps within them
 

@@ -1,5 +1,5 @@
 -- What is kept of collectors: values that hold at each position of an application.
-use Rattle.std.specs.Prelude.{◌≡◌, ℕ, ◌<◌, List, [], All, Option, Some, None, IsSome, MatchOption}
+use Rattle.std.specs.Prelude.{◌≡◌, ℕ, ◌<◌, List, [], All, Option, Some, IsSome, MatchOption}
 use Rattle.gm_model.specs.declared.expr.DartTerm.{DartTerm}
 use Rattle.gm_model.specs.declared.value.Value.{Value}
 use Rattle.gm_model.specs.declared.word.Mask.{Mask}
@@ -14,11 +14,6 @@ use Rattle.gm_eval.specs.declared.kept.Entry.{Entry}
 use Rattle.gm_eval.specs.declared.kept.Form.{Form}
 use Rattle.gm_eval.specs.declared.kept.Form.TheVariants as forms
 use Rattle.gm_eval.specs.Places.{reading_in}
-
--- a list that begins with its first entry
-abbrev pub listed : Option (List Entry) → List Entry
-listed None = []
-listed (Some entries) = entries
 
 -- what is kept: values of collectors, or none where nothing is ever kept, and the node whose expression was read last
 pub record KeptOf : Type 0 where

@@ -1,6 +1,6 @@
 //! Values that were collected over the orbit of a node, kept for all positions at which the node lies
 //! in it.
-ghost use Rattle.std.specs.Prelude.{◌≡◌, ◌≢◌, ◌≤◌, [], ◌∷◌, ◌++◌, ◌⊎◌, IfSome, IsSome, IsTrue, ◌↔◌, List, MatchOption, None, Option, Some, cond};
+ghost use Rattle.std.specs.Prelude.{◌≡◌, ◌≢◌, ◌≤◌, [], ◌∷◌, ◌++◌, ◌⊎◌, IfSome, IsSome, IsTrue, ◌↔◌, IfOk, List, MatchOption, None, Option, Some};
 ghost use Rattle.std.specs.List.{Contains};
 ghost use Rattle.gm_model.specs.declared.value.Value.{Value as ValueOf};
 ghost use Rattle.gm_model.specs.Maps.{IsGeneralised};
@@ -11,8 +11,8 @@ ghost use Rattle.gm_eval.specs.Keeping.{AreKept};
 ghost use Rattle.gm_eval.specs.Sharing.{HasRoom, IsAtHand, StillKept};
 ghost use Rattle.gm_eval.specs.declared.kept.Entry.{Entry as EntryOf};
 
-use arrayvec::ArrayVec;
-use gm_model::{Mask, Value};
+use gm_model::{Mask, OutOfMemory, Value};
+use std::alloc::Global;
 use std::marker::Model;
 
 /// How many values are kept at once. An expression of a book has at most 36 collectors, since it has
@@ -45,46 +45,30 @@ pub struct Entry {
     pub value: Option<Value>,
 }
 
-impl Default for Entry {
-    fn default() -> Entry {
-        Entry {
-            collector: Collector {
-                form: Form::Count,
-                mask: Mask { bits: 0 },
-                node: 0,
-                embed: 0,
-            },
-            value: None,
-        }
-    }
-}
-
-/// Values of collectors, no collector twice. They take no memory. Contracts see their list, or none
-/// where nothing is ever kept.
+/// Values of collectors, no collector twice. Contracts see their list, or none where nothing is ever
+/// kept.
 #[derive(Drop)]
 pub(crate) struct Entries {
-    /// Whether values are kept.
-    open: bool,
-    /// None before the first value: most expressions have no collector, and need no room to be cleared
-    /// for so many values.
-    list: Option<ArrayVec<Entry, MOST>>,
+    /// None where nothing is ever kept. A list has its whole room from the start, so that what is kept
+    /// later takes no memory.
+    list: Option<Vec<Entry>>,
 }
 
 impl Model for Entries {
-    ghost use Rattle.std.specs.Prelude.{List, Option, cond, Some, None, IsSome, IsTrue};
+    ghost use Rattle.std.specs.Prelude.{◌≤◌, List, Option, MatchOption};
     ghost use Rattle.std.specs.Option.{option_map};
-    ghost use Rattle.gm_eval.specs.Keeping.{listed};
+    ghost use Rattle.std.specs.Vec.{vec_capacity};
     ghost use Rattle.gm_eval.specs.declared.kept.Entry.{Entry};
 
     ghost Value = { Option (List Entry) };
 
-    ghost view = { λ kept. cond kept.open (Some (listed (option_map (λ entries. entries.items) kept.list))) None };
+    ghost view = { λ kept. option_map (λ entries. entries.items) kept.list };
 
-    ghost invariant = { λ kept. IsSome kept.list → IsTrue kept.open };
+    ghost invariant = { λ kept. MatchOption kept.list (Unit {0}) (λ entries. 37 ≤ vec_capacity entries) };
 }
 
 /// Values of collectors that are the same at each position of an application, and the node whose
-/// expression was read last. They take no memory.
+/// expression was read last.
 #[derive(Drop)]
 pub struct Kept {
     pub(crate) entries: Entries,
@@ -100,42 +84,47 @@ impl Model for Kept {
 }
 
 impl Kept {
-    /// Nothing, and nothing is ever kept: for what is read once.
+    /// Nothing, and nothing is ever kept: for what is read once. It takes no memory.
     #[inline(always)]
     pub(crate) fn closed() -> Kept
         ensures entries { result.entries ≡ None }
         ensures reader { result.reader ≡ None }
     {
-        Kept::empty(false)
+        Kept {
+            entries: Entries { list: None },
+            reader: None,
+        }
     }
 
     /// What is kept between so many readings before the first of them: nothing, and where there is
-    /// one, nothing ever.
+    /// one, or no collector in what is read, nothing ever. It takes memory only where something may be
+    /// kept.
     #[inline(always)]
-    pub fn between(readings: u32) -> Kept
-        ensures kept { (m : ArenaMap) (placed : Placed) (params : List ValueOf) → IsGeneralised (as_map m) → AreKept m placed params result.entries }
-        ensures open { 2 ≤ readings → result.entries ≡ Some [] }
-        ensures closed { readings ≤ 1 → result.entries ≡ None }
-        ensures reader { result.reader ≡ None }
+    pub fn between(alloc: Global, readings: u32, collects: bool) -> Result<Kept, OutOfMemory>
+        ensures kept { IfOk result (λ kept. (m : ArenaMap) (placed : Placed) (params : List ValueOf) → IsGeneralised (as_map m) → AreKept m placed params kept.entries) }
+        ensures open { IfOk result (λ kept. 2 ≤ readings → IsTrue collects → kept.entries ≡ Some []) }
+        ensures closed { IfOk result (λ kept. (2 ≤ readings → IsTrue collects → ⊥) → kept.entries ≡ None) }
+        ensures reader { IfOk result (λ kept. kept.reader ≡ None) }
     {
-        Kept::empty(readings > 1)
+        if readings > 1 && collects {
+            Kept::with_room(alloc)
+        } else {
+            Ok(Kept::closed())
+        }
     }
 
-    /// Nothing yet, and whether values are kept at all.
-    // It is inlined with its callers, so that the room for the values is laid out where it stays: to
-    // move it takes as long as to read a short expression.
-    #[inline(always)]
-    fn empty(is_open: bool) -> Kept
-        ensures entries { result.entries ≡ cond is_open (Some []) None }
-        ensures reader { result.reader ≡ None }
+    /// Nothing yet, with room for all that can be kept.
+    // It is no part of its caller's code, since most expressions have no collector.
+    #[inline(never)]
+    fn with_room(alloc: Global) -> Result<Kept, OutOfMemory>
+        ensures entries { IfOk result (λ kept. kept.entries ≡ Some []) }
+        ensures reader { IfOk result (λ kept. kept.reader ≡ None) }
     {
-        Kept {
-            entries: Entries {
-                open: is_open,
-                list: None,
-            },
+        let list = Vec::with_capacity(alloc, MOST)?;
+        Ok(Kept {
+            entries: Entries { list: Some(list) },
             reader: None,
-        }
+        })
     }
 
     /// Forgets all values where the expression of another node is read than before. So there are
@@ -167,7 +156,7 @@ impl Entries {
     pub(crate) fn is_open(&self) -> bool
         ensures { IsTrue result ↔ IsSome self.now }
     {
-        self.open
+        self.list.is_some()
     }
 
     /// The value of the collector, where it is kept.
@@ -197,7 +186,8 @@ impl Entries {
         Some((find_in(entries, first)?, find_in(entries, second)?))
     }
 
-    /// Keeps the value of the collector, where there is room and it is not kept already.
+    /// Keeps the value of the collector, where there is room and it is not kept already. It takes no
+    /// memory.
     pub(crate) fn keep(&mut self, collector: Collector, value: Option<Value>)
         ensures kept { (self.new ≡ self.old) ⊎ ((entries : List EntryOf) × (self.old ≡ Some entries) × (self.new ≡ Some (entries ++ record { collector = collector; value = value } ∷ []))) }
         ensures fresh { (self.new ≡ self.old) ⊎ (IsAtHand self.old collector → ⊥) }
@@ -211,18 +201,18 @@ impl Entries {
         self.push(Entry { collector, value });
     }
 
-    /// Adds the entry, where there is room.
+    /// Adds the entry, where there is room. It takes no memory.
     fn push(&mut self, entry: Entry)
         ensures kept { (self.new ≡ self.old) ⊎ ((entries : List EntryOf) × (self.old ≡ Some entries) × (self.new ≡ Some (entries ++ entry ∷ []))) }
         ensures open { IsSome self.old → IsSome self.new }
         ensures stays { StillKept self.old self.new }
         ensures room { HasRoom self.new → IsAtHand self.new entry.collector }
     {
-        if !self.open {
-            return;
+        if let Some(list) = &mut self.list {
+            if list.len() < list.capacity() {
+                list.push_reserved(entry);
+            }
         }
-        let list = self.list.get_or_insert_with(ArrayVec::new);
-        let _ = list.try_push(entry);
     }
 }
 

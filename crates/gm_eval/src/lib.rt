@@ -2,7 +2,8 @@
 //! that it has no value there.
 //!
 //! Numbers are whole and never wrap: each form is computed exactly, and then tested against the
-//! range of its kind. No call here takes memory.
+//! range of its kind. No call here takes memory but `Kept::between`, and that only where values may
+//! be kept.
 #![tactic(auto)]
 
 mod collectors;
