@@ -122,6 +122,14 @@ module _ (reading : Reading) (hooks : List ℕ) where
     within = within_edits start later (within_read reading hooks before e e 0 start steps h 0 (suc e) later (omega arith) (within_asked reading hooks before e start steps later h within cost));
   }
 
+  -- memory was wanting before the first of them was read
+  pub ended_opening : (before : PendingOf) (e start steps : ℕ) → HasRead reading hooks before (suc e) e 0 start steps → IsEnded reading hooks refusals.OutOfMemory start steps
+  ended_opening before e start steps h = record {
+    refused = λ ready. tt;
+    rises = h.rises;
+    within = within_edits start steps (within_read reading hooks before (suc e) e 0 start steps h 0 (suc e) steps (omega arith) h.within);
+  }
+
   -- a deciding instance is an assigned one, at a position
   pub assigned_at : (pending : PendingOf) (e i start steps node position : ℕ) → IsReadable reading hooks → HasRead reading hooks pending (suc e) e i start steps → IsEntryAt (instances_of pending e) i node position
       → IsAssigned (rule_of reading.plan.now.table) e node × (position < reading.found.now.positions)

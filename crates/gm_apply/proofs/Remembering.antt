@@ -1,22 +1,24 @@
 -- What is kept between the readings of an embedding: all that earlier readings of the same node read and its orbit shares.
-use Rattle.std.proofs.Common.{◌≡◌, ◌≢◌, ℕ, zero, suc, ◌+◌, ◌-◌, ◌*◌, ◌<◌, ◌≤◌, ◌⊎◌, inl, inr, List, [], ◌∷◌, length, map, take, sum, Option, Some, None, slice_get, get_or, refl, sym, ap, subst, ◌∙◌, arith}
+use Rattle.std.proofs.Common.{◌≡◌, ◌≢◌, ℕ, zero, suc, ◌+◌, ◌-◌, ◌*◌, ◌<◌, ◌≤◌, ◌⊎◌, inl, inr, Bool, true, false, IsTrue, List, [], ◌∷◌, length, map, take, sum, Option, Some, None, slice_get, get_or, refl, sym, ap, subst, ◌∙◌, arith}
 use Rattle.std.specs.Prelude.{IsSome, MatchOption}
 use Rattle.std.specs.List.{Contains}
 use Rattle.std.proofs.Math.Nat.{mul-le-mul_left}
-use Rattle.std.proofs.lemmas.Bool.{cases_eq, cases_lt}
+use Rattle.std.proofs.lemmas.Bool.{cases_eq, cases_lt, false≢true}
 use Rattle.std.proofs.lemmas.List.Sums.{sum_by_more}
 use Rattle.std.proofs.lemmas.Option.{slice_get-get_or, slice_get_within}
 use Rattle.gm_model.specs.declared.value.Value.{Value}
 use Rattle.gm_model.specs.Orbits.{IsPairBefore}
+use Rattle.gm_model.specs.Rules.{rule_of}
 use Rattle.gm_model.specs.Trees.{Tree}
 use Rattle.gm_theory.proofs.Lists.{none_some, some_same}
 use Rattle.gm_theory.proofs.ValuesLists.{in_contained}
+use Rattle.gm_plan.specs.Collecting.{CollectsNothing}
 use Rattle.gm_eval.specs.declared.kept.Collector.{Collector}
 use Rattle.gm_eval.specs.declared.kept.Entry.{Entry as KeptEntry}
 use Rattle.gm_eval.specs.Keeping.{KeptOf}
 use Rattle.gm_eval.specs.Sharing.{AreKeptOnce, HasRoom, HasUnitsBeside, IsAtHand, IsShared, Reads, StillKept, collectors_of}
 use Rattle.gm_eval.proofs.Adding.{has_room}
-use Rattle.gm_eval.proofs.Sharing.{still_at_hand, units_more}
+use Rattle.gm_eval.proofs.Sharing.{none_to_read, still_at_hand, units_more}
 use Rattle.gm_pending.specs.declared.deciding_instance.DecidingInstance.{DecidingInstance as Entry}
 use Rattle.gm_pending.specs.Results.{PendingOf, given_at, instances_of, place_of}
 use Rattle.gm_apply.specs.declared.reading.Reading.{Reading}
@@ -72,22 +74,27 @@ some_stays : (old new : Option (List KeptEntry)) → StillKept old new → IsSom
 some_stays None new still some = absurd (cc)
 some_stays (Some entries) new (more, is) some = subst (λ kept. IsSome kept) (sym is) refl
 
-module _ (reading : Reading) (e : ℕ) (places : List (ℕ × ℕ)) (count : ℕ) where
-  -- before the i-th reading: where there are several, what was read before of the node that was read last is at hand
+-- so many readings, and whether what is read may collect
+module _ (reading : Reading) (e : ℕ) (places : List (ℕ × ℕ)) (count : ℕ) (may_collect : Bool) where
+  -- values are kept between the readings
+  abbrev IsOpen : Type 0
+  IsOpen = (2 ≤ count) × IsTrue may_collect
+
+  -- before the i-th reading: where values are kept, what was read before of the node that was read last is at hand
   pub record IsKeptBefore (i : ℕ) (kept : KeptOf) : Type 0 where
     pub reader : (j x p : ℕ) → suc j ≡ i → slice_get places j ≡ Some (x, p) → kept.reader ≡ Some x
-    pub some : 2 ≤ count → IsSome kept.entries
+    pub some : IsOpen → IsSome kept.entries
     pub once : AreKeptOnce kept.entries
     pub among : (x : ℕ) (tree : Tree) → kept.reader ≡ Some x → IsExpression reading e x tree → (c : Collector) → IsAtHand kept.entries c → Contains (collectors_of tree) c
-    pub left : 2 ≤ count → (x : ℕ) (tree : Tree) → kept.reader ≡ Some x → IsExpression reading e x tree → (c : Collector) → WasRead reading e places i x tree c → IsAtHand kept.entries c
+    pub left : IsOpen → (x : ℕ) (tree : Tree) → kept.reader ≡ Some x → IsExpression reading e x tree → (c : Collector) → WasRead reading e places i x tree c → IsAtHand kept.entries c
 
   -- and then of the node that is read next
   pub record IsKeptFor (i x : ℕ) (kept : KeptOf) : Type 0 where
     pub reader : kept.reader ≡ Some x
-    pub some : 2 ≤ count → IsSome kept.entries
+    pub some : IsOpen → IsSome kept.entries
     pub once : AreKeptOnce kept.entries
     pub among : (tree : Tree) → IsExpression reading e x tree → (c : Collector) → IsAtHand kept.entries c → Contains (collectors_of tree) c
-    pub left : 2 ≤ count → (tree : Tree) → IsExpression reading e x tree → (c : Collector) → WasRead reading e places i x tree c → IsAtHand kept.entries c
+    pub left : IsOpen → (tree : Tree) → IsExpression reading e x tree → (c : Collector) → WasRead reading e places i x tree c → IsAtHand kept.entries c
 
   once_of : (o : Option (List KeptEntry)) → (o ≡ None) ⊎ (o ≡ Some []) → AreKeptOnce o
   once_of o (inl none) = subst (λ kept. AreKeptOnce kept) (sym none) tt
@@ -100,18 +107,19 @@ module _ (reading : Reading) (e : ℕ) (places : List (ℕ × ℕ)) (count : ℕ
 
   -- ---- before the first reading
 
-  pub kept_first : (kept : KeptOf) → (2 ≤ count → kept.entries ≡ Some []) → (count ≤ 1 → kept.entries ≡ None) → kept.reader ≡ None → IsKeptBefore 0 kept
-  kept_first kept several one nobody = record {
+  pub kept_first : (kept : KeptOf) → (2 ≤ count → IsTrue may_collect → kept.entries ≡ Some []) → ((2 ≤ count → IsTrue may_collect → ⊥) → kept.entries ≡ None) → kept.reader ≡ None → IsKeptBefore 0 kept
+  kept_first kept several otherwise nobody = record {
     reader = λ j x p on at. absurd (omega (arith, on));
-    some = λ many. subst (λ o. IsSome o) (sym (several many)) refl;
-    once = once_of kept.entries (either (cases_lt 1 count));
+    some = λ opened. subst (λ o. IsSome o) (sym (several opened.0 opened.1)) refl;
+    once = once_of kept.entries (either (cases_lt 1 count) may_collect refl);
     among = λ x tree is expression c at_hand. none_some x (sym nobody ∙ is);
-    left = λ many x tree is expression c was. none_some x (sym nobody ∙ is);
+    left = λ opened x tree is expression c was. none_some x (sym nobody ∙ is);
   }
     where
-      either : (1 < count) ⊎ (count ≤ 1) → (kept.entries ≡ None) ⊎ (kept.entries ≡ Some [])
-      either (inl more) = inr (several (omega (arith, more)))
-      either (inr few) = inl (one few)
+      either : (1 < count) ⊎ (count ≤ 1) → (b : Bool) → may_collect ≡ b → (kept.entries ≡ None) ⊎ (kept.entries ≡ Some [])
+      either (inl more) true is = inr (several (omega (arith, more)) is)
+      either (inl more) false is = inl (otherwise (λ many it_may. false≢true (sym is ∙ it_may)))
+      either (inr few) b is = inl (otherwise (λ many it_may. omega (arith, few, many)))
 
   -- ---- the node that is read next
 
@@ -146,14 +154,14 @@ module _ (reading : Reading) (e : ℕ) (places : List (ℕ × ℕ)) (count : ℕ
           some = h.some;
           once = h.once;
           among = λ tree expression c at_hand. h.among x tree same expression c at_hand;
-          left = λ many tree expression c was. h.left many x tree same expression c was;
+          left = λ opened tree expression c was. h.left opened x tree same expression c was;
         })
         go (inr apart) = record {
           reader = reader;
-          some = λ many. still_some old.entries (h.some many) (turned apart);
+          some = λ opened. still_some old.entries (h.some opened) (turned apart);
           once = once_of new.entries empty;
           among = λ tree expression c at_hand. absurd (nothing_at_hand new.entries c empty at_hand);
-          left = λ many tree expression c (j, q, less, there, reads, shared). absurd (apart (read_last j q less there));
+          left = λ opened tree expression c (j, q, less, there, reads, shared). absurd (apart (read_last j q less there));
         }
           where
             still_some : (o : Option (List KeptEntry)) → IsSome o → MatchOption o (new.entries ≡ None) (λ _. new.entries ≡ Some []) → IsSome new.entries
@@ -177,10 +185,10 @@ module _ (reading : Reading) (e : ℕ) (places : List (ℕ × ℕ)) (count : ℕ
         → IsKeptBefore (suc i) new
     kept_read new still reader among once remembers = record {
       reader = λ j y q on there. reader ∙ h.reader ∙ ap Some (ap (λ (place : ℕ × ℕ). place.0) (here j y q (omega (arith, on)) there));
-      some = λ many. some_stays old.entries new.entries still (h.some many);
+      some = λ opened. some_stays old.entries new.entries still (h.some opened);
       once = once h.once;
       among = λ y tree is expression c at_hand. now_among tree (subst (λ z. IsExpression reading e z tree) (node y is) expression) c at_hand;
-      left = λ many y tree is expression c was. now_left many tree (subst (λ z. IsExpression reading e z tree) (node y is) expression) c (subst (λ z. WasRead reading e places (suc i) z tree c) (node y is) was);
+      left = λ opened y tree is expression c was. now_left opened tree (subst (λ z. IsExpression reading e z tree) (node y is) expression) c (subst (λ z. WasRead reading e places (suc i) z tree c) (node y is) was);
     }
       where
         here : (j y q : ℕ) → j ≡ i → slice_get places j ≡ Some (y, q) → ◌≡◌ {A = ℕ × ℕ} (x, p) (y, q)
@@ -196,23 +204,23 @@ module _ (reading : Reading) (e : ℕ) (places : List (ℕ × ℕ)) (count : ℕ
             go (inl before) = h.among tree expression c before
             go (inr stands) = stands
 
-        now_left : 2 ≤ count → (tree : Tree) → IsExpression reading e x tree → (c : Collector) → WasRead reading e places (suc i) x tree c → IsAtHand new.entries c
-        now_left many tree expression c (j, q, less, there, reads, shared) = go (cases_eq j i)
+        now_left : IsOpen → (tree : Tree) → IsExpression reading e x tree → (c : Collector) → WasRead reading e places (suc i) x tree c → IsAtHand new.entries c
+        now_left opened tree expression c (j, q, less, there, reads, shared) = go (cases_eq j i)
           where
             room : HasRoom new.entries
-            room = has_room new.entries (collectors_of tree) (some_stays old.entries new.entries still (h.some many)) (once h.once) (now_among tree expression) (few x tree expression)
+            room = has_room new.entries (collectors_of tree) (some_stays old.entries new.entries still (h.some opened)) (once h.once) (now_among tree expression) (few x tree expression)
 
             go : (j ≡ i) ⊎ (j ≡ i → ⊥) → IsAtHand new.entries c
             go (inl same) =
                 let position : q ≡ p = sym (ap (λ (place : ℕ × ℕ). place.1) (here j x q same there)) in
                 remembers room tree c expression (subst (λ n. Reads (read_at reading n) tree c) position reads) (subst (λ n. IsShared reading.arena.now reading.found.now n c) position shared)
-            go (inr apart) = still_at_hand old.entries new.entries c still (h.left many tree expression c (j, q, omega (arith, less, apart), there, reads, shared))
+            go (inr apart) = still_at_hand old.entries new.entries c still (h.left opened tree expression c (j, q, omega (arith, less, apart), there, reads, shared))
 
     -- what it takes
-    pub within_one_more : (units : List ℕ) (start steps later : ℕ) → length places ≡ count → AreReadingUnits reading e places units
+    pub within_one_more : (may_collect ≡ false → CollectsNothing (rule_of reading.plan.now.table) e) → (units : List ℕ) (start steps later : ℕ) → length places ≡ count → AreReadingUnits reading e places units
         → ((tree : Tree) (u : ℕ) → IsExpression reading e x tree → HasUnitsBeside (IsAtHand old.entries) (read_at reading p) tree u → later ≤ steps + 6 * (reading.arena.now.schema.dim + 1) * u)
         → steps ≤ start + 6 * (reading.arena.now.schema.dim + 1) * sum (take i units) → later ≤ start + 6 * (reading.arena.now.schema.dim + 1) * sum (take (i + 1) units)
-    within_one_more units start steps later long are cheap before =
+    within_one_more silent units start steps later long are cheap before =
         let d = reading.arena.now.schema.dim + 1 in
         let within : i < length places = slice_get_within places i (x, p) at in
         let each = are.each in
@@ -226,12 +234,17 @@ module _ (reading : Reading) (e : ℕ) (places : List (ℕ × ℕ)) (count : ℕ
         let beside : HasUnitsBeside (WasRead reading e places i x these.tree) (read_at reading p) these.tree u =
         subst (λ y. HasUnitsBeside (WasRead reading e places i y these.tree) (read_at reading p) these.tree u) node (subst (λ q. HasUnitsBeside (WasRead reading e places i these.node these.tree) (read_at reading q) these.tree u) position these.beside) in
         let last = cheap these.tree u expression
-        (units_more (WasRead reading e places i x these.tree) (IsAtHand old.entries) (λ c was. h.left (several within was.2) these.tree expression c was) (read_at reading p) these.tree u beside) in
+        (units_more (WasRead reading e places i x these.tree) (IsAtHand old.entries) (λ c was. h.left (several within was.2, collecting these.tree expression c was may_collect refl) these.tree expression c was) (read_at reading p) these.tree u beside) in
         let spread : 6 * d * sum (take (i + 1) units) ≡ 6 * d * sum (take i units) + 6 * d * u = ap (λ n. 6 * d * n) (sum_by_more (λ n. n) units i 0 inside) ∙ omega arith in
         omega (arith, before, last, spread)
       where
         several : {j : ℕ} → i < length places → j < i → 2 ≤ count
         several within less = omega (arith, within, less, long)
+
+        -- where no expression collects, none was read before
+        collecting : (tree : Tree) → IsExpression reading e x tree → (c : Collector) → WasRead reading e places i x tree c → (b : Bool) → may_collect ≡ b → IsTrue may_collect
+        collecting tree expression c was true is = is
+        collecting tree expression c (j, q, less, there, reads, shared) false is = absurd (none_to_read (read_at reading q) tree c (silent is x tree expression) reads)
 
 -- what the first of them take is within what all take
 pub within_all : (d start steps i : ℕ) (units : List ℕ) → steps ≤ start + 6 * d * sum (take i units) → steps ≤ start + 6 * d * sum units

@@ -1,5 +1,5 @@
 -- What is collected over an orbit that holds a node at all positions has one value at all of them.
-use Rattle.std.proofs.Common.{◌≡◌, ℕ, zero, suc, ◌+◌, ◌<◌, ◌≤◌, ◌↔◌, ◌⊎◌, IsTrue, Bool, true, false, cond, List, [], ◌∷◌, ◌++◌, length, All, slice_get, Option, Some, None, MatchOption, refl, sym, ap, subst, ◌∙◌, inl, inr, arith}
+use Rattle.std.proofs.Common.{◌≡◌, ℕ, zero, suc, ◌+◌, ◌<◌, ◌≤◌, ◌↔◌, ◌⊎◌, IsTrue, List, [], ◌∷◌, ◌++◌, length, All, slice_get, Option, Some, None, MatchOption, refl, sym, ap, subst, ◌∙◌, inl, inr, arith}
 use Rattle.std.specs.List.{Contains}
 use Rattle.std.specs.Prelude.{IsSome}
 use Rattle.std.proofs.lemmas.List.Elements.{All-append, All-cons, All-contains, All-nil, recursion_from_All}
@@ -195,11 +195,6 @@ module _ (m : ArenaMap) (placed : Placed) (params : List Value) where
 
   pub nothing_yet : IsGeneralised (as_map m) → AreKept m placed params (Some [])
   nothing_yet generalised = record { generalised = λ some. generalised; right = λ entries is. subst (All Right) (some_same [] entries is) (All-nil Right) }
-
-  -- nothing, where values are kept or never are
-  pub none_yet : (is_open : Bool) → IsGeneralised (as_map m) → AreKept m placed params (cond is_open (Some []) None)
-  none_yet true generalised = nothing_yet generalised
-  none_yet false generalised = none_kept
 
   -- what was kept is forgotten
   pub cleared : (old new : Option (List Entry)) → MatchOption old (new ≡ None) (λ entries. new ≡ Some []) → AreKept m placed params old → AreKept m placed params new

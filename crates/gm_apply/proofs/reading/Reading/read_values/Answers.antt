@@ -1,13 +1,26 @@
-use Rattle.std.proofs.Common.{◌≡◌, ℕ, suc, ◌+◌, length, map, List, Some, slice_get, refl, ap, subst, ◌∙◌, arith}
+use Rattle.std.proofs.Common.{◌≡◌, ℕ, suc, ◌+◌, ◌<◌, length, map, List, Some, slice_get, refl, ap, subst, ◌∙◌, arith}
 use Rattle.std.proofs.lemmas.List.{length-map}
+use Rattle.std.proofs.lemmas.Result.{err_from_is_err_and}
+use Rattle.gm_model.specs.declared.schema.Schema.{Schema}
 use Rattle.gm_model.specs.Maps.{IsEmbedAt}
 use Rattle.gm_pending.specs.Results.{PendingOf, instances_of, place_of}
 use Rattle.gm_apply.specs.Readings.{places_of}
 use Rattle.gm_apply.specs.Reads.{HasRead}
-use Rattle.gm_apply.proofs.Giving.{entry_at, assigned_at, ended_without, given_more, given_long, these_deciders, all_given}
+use Rattle.gm_apply.proofs.Giving.{entry_at, assigned_at, ended_opening, ended_without, given_more, given_long, these_deciders, all_given}
 use Rattle.gm_eval.proofs.Sharing.{is_some}
 use Rattle.gm_apply.proofs.Remembering.{IsKeptBefore, kept_first, kept_read, kept_turned, nodes_rise, places_stay, within_all, within_one_more}
 use Rattle.gm_apply.proofs.reading.Reading.read_values.Goals as goal
+
+pub collects-collects-requires : goal.collects-collects-requires
+collects-collects-requires g c =
+    let few = c.requires.read.3.few in
+    let within : c.args.embed < length c.args.self.now.arena.now.schema.embeds = omega (arith, few) in
+    subst (λ (s : Schema). c.args.embed < length s.embeds) c.requires.read.2.schema within
+
+pub returns-in_err-kept-clause-given : goal.returns-in_err-kept-clause-given
+returns-in_err-kept-clause-given g c hooks start readable read =
+    let p = err_from_is_err_and c.from_residual.result c.from_residual.ensures.1 in
+    rw (p.1, p.2) (ended_opening c.args.self.now hooks c.args.pending.now c.args.embed start c.args.steps.now read)
 
 pub loop-index-init : goal.loop-index-init
 loop-index-init g c = record {
@@ -15,8 +28,8 @@ loop-index-init g c = record {
   long = c.requires.count;
   places = refl;
   room = refl;
-  kept = c.between-kept.ensures.kept c.args.self.now.arena.now c.args.self.now.found.now c.args.self.now.params.now c.requires.read.2.sound.generalised;
-  before = λ few. kept_first c.args.self.now c.args.embed (places_of c.args.pending.now c.args.embed) c.args.count c.between-kept.result c.between-kept.ensures.open c.between-kept.ensures.closed c.between-kept.ensures.reader;
+  kept = c.in_ok-kept.ensures.kept c.args.self.now.arena.now c.args.self.now.found.now c.args.self.now.params.now c.requires.read.2.sound.generalised;
+  before = λ few. kept_first c.args.self.now c.args.embed (places_of c.args.pending.now c.args.embed) c.args.count c.collects-collects.result c.in_ok-kept.kept c.in_ok-kept.ensures.open c.in_ok-kept.ensures.closed c.in_ok-kept.ensures.reader;
   once = λ units few are. omega arith;
 }
 
@@ -56,13 +69,13 @@ loop-index-preserved g c =
       room = c.value.ensures.room ∙ c.loop-index.invariant.room;
       kept = c.value.ensures.kept;
       before = λ few.
-          let turned = kept_turned c.args.self.now c.args.embed (places_of c.args.pending.now c.args.embed) c.args.count (nodes_rise c.args.self.now c.requires.read.0 c.args.pending.now c.args.embed 0 c.requires.read.1 c.args.steps.now c.requires.read.3) c.loop-index.index c.decider-node.result.0 c.decider-node.result.1 at c.loop-index.kept c.turn_to.new.self (c.loop-index.invariant.before few) c.turn_to.ensures.stays c.turn_to.ensures.turned c.turn_to.ensures.reader in
-          subst (λ n. IsKeptBefore c.args.self.now c.args.embed (places_of c.args.pending.now c.args.embed) c.args.count n c.value.new.kept) on
-          (kept_read c.args.self.now c.args.embed (places_of c.args.pending.now c.args.embed) c.args.count few c.loop-index.index c.decider-node.result.0 c.decider-node.result.1 at c.turn_to.new.self turned c.value.new.kept
+          let turned = kept_turned c.args.self.now c.args.embed (places_of c.args.pending.now c.args.embed) c.args.count c.collects-collects.result (nodes_rise c.args.self.now c.requires.read.0 c.args.pending.now c.args.embed 0 c.requires.read.1 c.args.steps.now c.requires.read.3) c.loop-index.index c.decider-node.result.0 c.decider-node.result.1 at c.loop-index.kept c.turn_to.new.self (c.loop-index.invariant.before few) c.turn_to.ensures.stays c.turn_to.ensures.turned c.turn_to.ensures.reader in
+          subst (λ n. IsKeptBefore c.args.self.now c.args.embed (places_of c.args.pending.now c.args.embed) c.args.count c.collects-collects.result n c.value.new.kept) on
+          (kept_read c.args.self.now c.args.embed (places_of c.args.pending.now c.args.embed) c.args.count c.collects-collects.result few c.loop-index.index c.decider-node.result.0 c.decider-node.result.1 at c.turn_to.new.self turned c.value.new.kept
           c.value.ensures.stays c.value.ensures.reader c.value.ensures.among c.value.ensures.once (c.value.ensures.remembers (is_some c.value.result c.in-Some.value c.in-Some.is)));
       once = λ units few are.
-          let turned = kept_turned c.args.self.now c.args.embed (places_of c.args.pending.now c.args.embed) c.args.count (nodes_rise c.args.self.now c.requires.read.0 c.args.pending.now c.args.embed 0 c.requires.read.1 c.args.steps.now c.requires.read.3) c.loop-index.index c.decider-node.result.0 c.decider-node.result.1 at c.loop-index.kept c.turn_to.new.self (c.loop-index.invariant.before few) c.turn_to.ensures.stays c.turn_to.ensures.turned c.turn_to.ensures.reader in
-          within_one_more c.args.self.now c.args.embed (places_of c.args.pending.now c.args.embed) c.args.count few c.loop-index.index c.decider-node.result.0 c.decider-node.result.1 at c.turn_to.new.self turned
+          let turned = kept_turned c.args.self.now c.args.embed (places_of c.args.pending.now c.args.embed) c.args.count c.collects-collects.result (nodes_rise c.args.self.now c.requires.read.0 c.args.pending.now c.args.embed 0 c.requires.read.1 c.args.steps.now c.requires.read.3) c.loop-index.index c.decider-node.result.0 c.decider-node.result.1 at c.loop-index.kept c.turn_to.new.self (c.loop-index.invariant.before few) c.turn_to.ensures.stays c.turn_to.ensures.turned c.turn_to.ensures.reader in
+          within_one_more c.args.self.now c.args.embed (places_of c.args.pending.now c.args.embed) c.args.count c.collects-collects.result few c.loop-index.index c.decider-node.result.0 c.decider-node.result.1 at c.turn_to.new.self turned c.collects-collects.ensures.nothing
           units c.args.steps.now c.loop-index.steps c.value.new.steps long are c.value.ensures.cheap (c.loop-index.invariant.once units few are);
     }
 
@@ -80,7 +93,7 @@ pub returns-in_default-clause-once : goal.returns-in_default-clause-once
 returns-in_default-clause-once g c = λ units few are.
     let at : slice_get (places_of c.args.pending.now c.args.embed) c.loop-index.index ≡ Some c.decider-node.result = subst (λ (places : List (ℕ × ℕ)). slice_get places c.loop-index.index ≡ Some c.decider-node.result) c.loop-index.invariant.places c.decider-node.ensures in
     let long : length (places_of c.args.pending.now c.args.embed) ≡ c.args.count = length-map (instances_of c.args.pending.now c.args.embed) place_of ∙ c.requires.count in
-    let turned = kept_turned c.args.self.now c.args.embed (places_of c.args.pending.now c.args.embed) c.args.count (nodes_rise c.args.self.now c.requires.read.0 c.args.pending.now c.args.embed 0 c.requires.read.1 c.args.steps.now c.requires.read.3) c.loop-index.index c.decider-node.result.0 c.decider-node.result.1 at c.loop-index.kept c.turn_to.new.self (c.loop-index.invariant.before few) c.turn_to.ensures.stays c.turn_to.ensures.turned c.turn_to.ensures.reader in
+    let turned = kept_turned c.args.self.now c.args.embed (places_of c.args.pending.now c.args.embed) c.args.count c.collects-collects.result (nodes_rise c.args.self.now c.requires.read.0 c.args.pending.now c.args.embed 0 c.requires.read.1 c.args.steps.now c.requires.read.3) c.loop-index.index c.decider-node.result.0 c.decider-node.result.1 at c.loop-index.kept c.turn_to.new.self (c.loop-index.invariant.before few) c.turn_to.ensures.stays c.turn_to.ensures.turned c.turn_to.ensures.reader in
     within_all (c.args.self.now.arena.now.schema.dim + 1) c.args.steps.now c.value.new.steps (c.loop-index.index + 1) units
-    (within_one_more c.args.self.now c.args.embed (places_of c.args.pending.now c.args.embed) c.args.count few c.loop-index.index c.decider-node.result.0 c.decider-node.result.1 at c.turn_to.new.self turned
+    (within_one_more c.args.self.now c.args.embed (places_of c.args.pending.now c.args.embed) c.args.count c.collects-collects.result few c.loop-index.index c.decider-node.result.0 c.decider-node.result.1 at c.turn_to.new.self turned c.collects-collects.ensures.nothing
     units c.args.steps.now c.loop-index.steps c.value.new.steps long are c.value.ensures.cheap (c.loop-index.invariant.once units few are))

@@ -13,6 +13,6 @@ invariant-loop-index g l = record {
   places : places_of l.pending l.embed ≡ places_of l.fn.pending l.embed;
   room : l.scratch.bound ≡ l.fn.scratch.bound;
   kept : AreKept l.self.arena.now l.self.found.now l.self.params.now l.kept.entries;
-  before : HaveFewCollectors l.self l.embed → IsKeptBefore l.self l.embed (places_of l.fn.pending l.embed) l.count l.index l.kept;
+  before : HaveFewCollectors l.self l.embed → IsKeptBefore l.self l.embed (places_of l.fn.pending l.embed) l.count l.collects l.index l.kept;
   once : (units : List ℕ) → HaveFewCollectors l.self l.embed → AreReadingUnits l.self l.embed (places_of l.fn.pending l.embed) units → l.steps ≤ l.fn.steps + 6 * (l.self.arena.now.schema.dim + 1) * sum (take l.index units);
 }
