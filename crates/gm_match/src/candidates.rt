@@ -178,6 +178,22 @@ fn push_row(row: &[Slot], slots: &mut Vec<Slot>)
     ensures items { slots.new.items ≡ slots.old.items ++ row.now }
     ensures capacity { vec_capacity slots.new ≡ vec_capacity slots.old }
 {
+    // Most rules with several hooks have two left nodes. A loop would become a call that copies memory.
+    match row {
+        [one, other] => {
+            slots.push_reserved(*one);
+            slots.push_reserved(*other);
+        }
+        _ => push_slots(row, slots),
+    }
+}
+
+/// The same, one slot after another.
+fn push_slots(row: &[Slot], slots: &mut Vec<Slot>)
+    requires room { length slots.old.items + length row.now ≤ vec_capacity slots.old }
+    ensures items { slots.new.items ≡ slots.old.items ++ row.now }
+    ensures capacity { vec_capacity slots.new ≡ vec_capacity slots.old }
+{
     for slot in row {
         slots.push_reserved(*slot);
     }

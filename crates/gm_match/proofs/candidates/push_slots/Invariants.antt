@@ -1,5 +1,5 @@
 use Rattle.std.proofs.Common.{◌≡◌, ◌++◌, take, vec_capacity}
-use Rattle.gm_match.proofs.candidates.push_row.Given as goal
+use Rattle.gm_match.proofs.candidates.push_slots.Given as goal
 
 abbrev pub invariant-loop-slot : goal.invariant-loop-slot
 invariant-loop-slot l = record {
