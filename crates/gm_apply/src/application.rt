@@ -17,12 +17,12 @@ ghost use Rattle.gm_apply.specs.Reads.{IsReadable, IsReadyAt, IsRefusedAt};
 
 use crate::reading::Reading;
 use crate::refusal::Refusal;
-use gm_arena::{Arena, Steps};
+use gm_arena::{Arena, Slot, Steps};
 use gm_match::find;
 use gm_model::{MOST_DARTS, MOST_NAMES, OutOfMemory, Value};
 use gm_pending::{Applied, Changes};
 use gm_plan::{Instances, Plan};
-use gm_walk::Scratch;
+use gm_walk::{Mark, Scratch};
 use std::alloc::Global;
 use std::sync::ledger::Ledger;
 
@@ -73,11 +73,21 @@ pub fn apply<L: Ledger>(
     };
     let (applied, changes) = ready(alloc, &reading, scratch, steps)?;
     reserve(arena, applied)?;
-    let left = changes.commit(arena, steps);
-    scratch.keep_slots(left);
+    let (left, marks) = changes.commit(arena, steps);
+    keep_room(scratch, left, marks);
     let (slots, turns) = found.into_rows();
     scratch.keep_rows(slots, turns);
     Ok(applied)
+}
+
+/// Keeps what a commit gives back, for the next application.
+fn keep_room(scratch: &mut Scratch, slots: Vec<Slot>, marks: Option<Vec<Mark>>)
+    ensures { scratch.new ≡ scratch.old }
+{
+    scratch.keep_slots(slots);
+    if let Some(marks) = marks {
+        scratch.keep_marks(marks);
+    }
 }
 
 /// What the application adds and removes, and the changes that make its result, where it isn't

@@ -17,6 +17,8 @@ use std::sync::ledger::Ledger;
 
 impl<'a, 'm> Reading<'a, 'm> {
     /// The changes that make the result. The map is only read.
+    // Inlined, so that the changes are laid out where they go.
+    #[inline(always)]
     pub(crate) fn changes<L: Ledger>(
         &self,
         alloc: Global,
@@ -32,7 +34,8 @@ impl<'a, 'm> Reading<'a, 'm> {
     {
         // The arena tells here that its embeddings are few.
         prove!(self.arena.count() <= MOST_DARTS);
-        let mut pending = Pending::build(alloc, self.plan, self.arena, self.found, steps)?;
+        let room = scratch.lend_marks(alloc);
+        let mut pending = Pending::build_in(alloc, self.plan, self.arena, self.found, room, steps)?;
         for embed in 0..self.plan.schema().embeds.as_slice().len() as u8 {
             self.give_values(alloc, &mut pending, embed, scratch, steps)?;
         }

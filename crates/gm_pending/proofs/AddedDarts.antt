@@ -9,7 +9,7 @@ use Rattle.gm_arena.specs.ArenaAsMap.{as_map}
 use Rattle.gm_theory.proofs.NewNames.{new_name}
 use Rattle.gm_theory.proofs.RuleSteps.{word_below}
 use Rattle.gm_theory.proofs.Tests.{both_true, not_both}
-use Rattle.gm_pending.specs.declared.at.At.TheVariants.{New}
+use Rattle.gm_walk.specs.declared.at.At.TheVariants.{New}
 use Rattle.gm_pending.specs.Gathered.{new_number}
 use Rattle.gm_pending.specs.Results.{PendingOf, IsPrepared, name_of, rule_in, place_in}
 use Rattle.gm_pending.proofs.Ends.{added_number, left_not_added}

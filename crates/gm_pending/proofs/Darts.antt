@@ -12,9 +12,9 @@ use Rattle.gm_plan.specs.Plans.{IsLeftCount}
 use Rattle.gm_theory.proofs.Arcs.{kept_name, right_dart, arc_to}
 use Rattle.gm_theory.proofs.Scenes.{IsRightAt}
 use Rattle.gm_theory.proofs.Tests.{both_true, and_true, not_true, true_not, true_or_false, not_both}
-use Rattle.gm_pending.specs.declared.at.At.{At}
-use Rattle.gm_pending.specs.declared.at.At.TheVariants.{Old, New}
-use Rattle.gm_pending.specs.Keys.{is_old}
+use Rattle.gm_walk.specs.declared.at.At.{At}
+use Rattle.gm_walk.specs.declared.at.At.TheVariants.{Old, New}
+use Rattle.gm_walk.specs.Keys.{is_old}
 use Rattle.gm_plan.specs.Lookup.{IsWithin, IsAtSlot}
 use Rattle.gm_pending.specs.Results.{PendingOf, IsPrepared, rule_in, scene_in, name_of, IsResultDart}
 use Rattle.gm_pending.proofs.Law.{law}

@@ -9,8 +9,8 @@ use Rattle.gm_model.specs.Maps.{IsEmbedAt, type_of}
 use Rattle.gm_model.specs.Unfolding.{IsArcAfter}
 use Rattle.gm_theory.proofs.Lists.{some_same}
 use Rattle.gm_theory.specs.Theorem.{Unfolded}
-use Rattle.gm_pending.specs.declared.at.At.{At}
-use Rattle.gm_pending.specs.declared.marks.Mark.{Mark}
+use Rattle.gm_walk.specs.declared.at.At.{At}
+use Rattle.gm_walk.specs.declared.mark.Mark.{Mark}
 use Rattle.gm_pending.specs.Marks.{IsMarkedMore, HasDistinctKeys}
 use Rattle.gm_pending.specs.Reached.{AreResultDarts, IsFollowedTo, IsFollowed, IsGrown, IsSpreadTo}
 use Rattle.gm_pending.specs.Results.{PendingOf, IsPrepared, IsResultDart, IsUnfoldedIn, scene_in, name_of}

@@ -16,10 +16,10 @@ use Rattle.gm_arena.proofs.MapLemmas.{name_below}
 use Rattle.gm_theory.proofs.Lists.{get_contained, contained_at}
 use Rattle.gm_theory.proofs.NewNames.{new_name}
 use Rattle.gm_theory.specs.Theorem.{Unfolded}
-use Rattle.gm_pending.specs.declared.at.At.{At}
-use Rattle.gm_pending.specs.declared.at.At.TheVariants.{Old, New}
+use Rattle.gm_walk.specs.declared.at.At.{At}
+use Rattle.gm_walk.specs.declared.at.At.TheVariants.{Old, New}
 use Rattle.gm_pending.specs.declared.changes.ValueAt.{ValueAt}
-use Rattle.gm_pending.specs.declared.marks.Mark.{Mark}
+use Rattle.gm_walk.specs.declared.mark.Mark.{Mark}
 use Rattle.gm_pending.specs.EditLists.{AreNewValues, IsNewValue, IsReachedSumIn, IsValueOfDart}
 use Rattle.gm_pending.specs.Reached.{AreReached}
 use Rattle.gm_pending.specs.Results.{PendingOf, IsPrepared, IsReachedIn, IsResultDart, IsUnfoldedIn, IsValueIn, name_of, rule_in, place_in}

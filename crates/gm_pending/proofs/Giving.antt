@@ -15,7 +15,7 @@ use Rattle.gm_plan.specs.Placed.{Placed}
 use Rattle.gm_theory.proofs.Lists.{some_same, none_some, contained_at, get_contained}
 use Rattle.gm_pending.specs.declared.decided_orbits.DecidedOrbits.{DecidedOrbits}
 use Rattle.gm_pending.specs.declared.deciding_instance.DecidingInstance.{DecidingInstance}
-use Rattle.gm_pending.specs.declared.marks.Mark.{Mark}
+use Rattle.gm_walk.specs.declared.mark.Mark.{Mark}
 use Rattle.gm_pending.specs.Answered.{instances_in, pending_as, AreDecidedOrbits}
 use Rattle.gm_pending.specs.Reached.{AreReached}
 use Rattle.gm_pending.specs.Results.{PendingOf, IsPrepared, AreDecidingInstances, IsDecidedIn, IsDecidingIn, instances_of, deciding_of, given_at, name_of, with_instances}

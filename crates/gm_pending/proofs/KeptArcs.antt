@@ -10,7 +10,7 @@ use Rattle.gm_arena.proofs.MapLemmas.{name_at-is}
 use Rattle.gm_plan.specs.Changes.{is_steady, made_step}
 use Rattle.gm_theory.proofs.Arcs.{arc_to}
 use Rattle.gm_theory.proofs.Tests.{and_true, true_not, true_or_false}
-use Rattle.gm_pending.specs.declared.at.At.TheVariants.{Old}
+use Rattle.gm_walk.specs.declared.at.At.TheVariants.{Old}
 use Rattle.gm_pending.specs.Results.{PendingOf, IsPrepared, rule_in, scene_in, IsResultDart}
 use Rattle.gm_pending.proofs.Collected.{steady_there}
 use Rattle.gm_pending.proofs.Darts.{old_result, result_dart}

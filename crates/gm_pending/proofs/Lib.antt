@@ -6,6 +6,7 @@ pub mod Following
 pub mod Giving
 pub mod Law
 pub mod Lefts
+pub mod MatchedBits
 pub mod Pairs
 pub mod Reached
 pub mod Spread

@@ -17,10 +17,10 @@ use Rattle.gm_theory.proofs.Lists.{some_same, contained_at, get_contained}
 use Rattle.gm_theory.proofs.Turns.{first_turn}
 use Rattle.gm_theory.proofs.ValuesReadOff.{letter_step}
 use Rattle.gm_theory.specs.Theorem.{Unfolded, IsDartOf}
-use Rattle.gm_pending.specs.declared.at.At.{At}
-use Rattle.gm_pending.specs.declared.marks.Mark.{Mark}
+use Rattle.gm_walk.specs.declared.at.At.{At}
+use Rattle.gm_walk.specs.declared.mark.Mark.{Mark}
 use Rattle.gm_pending.specs.Marks.{reached_by, HasKey}
-use Rattle.gm_pending.specs.Keys.{key_of}
+use Rattle.gm_walk.specs.Keys.{key_of}
 use Rattle.gm_pending.specs.Reached.{AreMarkedTo, AreResultDarts, HasMark, IsAlwaysOneOrbit, IsClosed, IsGrown, IsSpreadTo, IsUnmarked}
 use Rattle.gm_pending.specs.Results.{PendingOf, IsPrepared, IsResultDart, IsUnfoldedIn, name_of, place_in, rule_in, scene_in}
 use Rattle.gm_pending.proofs.Law.{law}

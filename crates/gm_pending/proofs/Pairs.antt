@@ -13,10 +13,10 @@ use Rattle.gm_model.specs.Unfolding.{IsArcAfter}
 use Rattle.gm_model.specs.Labels.{has}
 use Rattle.gm_theory.proofs.Lists.{some_same, get_contained}
 use Rattle.gm_theory.specs.Theorem.{Unfolded, IsDartOf}
-use Rattle.gm_pending.specs.declared.at.At.{At}
-use Rattle.gm_pending.specs.declared.marks.Mark.{Mark}
+use Rattle.gm_walk.specs.declared.at.At.{At}
+use Rattle.gm_walk.specs.declared.mark.Mark.{Mark}
 use Rattle.gm_pending.specs.Marks.{reached_by, HasKey, IsMarkedMore, HasDistinctKeys}
-use Rattle.gm_pending.specs.Keys.{key_of}
+use Rattle.gm_walk.specs.Keys.{key_of}
 use Rattle.gm_pending.specs.Pairs.{IsPair}
 use Rattle.gm_pending.specs.Reached.{AreResultDarts, HasMark, IsAdded, IsClosed, IsSpreadTo, IsFollowedBut}
 use Rattle.gm_pending.specs.Results.{PendingOf, IsPrepared, IsResultDart, IsUnfoldedIn, name_of, scene_in}
@@ -64,6 +64,11 @@ pair_found labels rest left one other few first second among others gone others'
 pub one_longer : (before after : List Mark) (at : At) (k : ℕ) (over : Option ℕ) → IsMarkedMore before after at k over → (HasKey before (key_of at) → ⊥) → length after ≡ length before + 1
 one_longer before after at k over (inl (there, same)) absent = absurd (absent there)
 one_longer before after at k over (inr (none, same)) absent = rw same (length-append before (reached_by at k over ∷ []))
+
+-- and where it was marked before, none less
+pub no_shorter : (before after : List Mark) (at : At) (k : ℕ) (over : Option ℕ) → IsMarkedMore before after at k over → length before ≤ length after
+no_shorter before after at k over (inl (there, same)) = rw same (omega arith)
+no_shorter before after at k over (inr (none, same)) = rw same (omega (arith, length-append before (reached_by at k over ∷ [])))
 
 pub pair_wide : (dim one other : ℕ) → one ≢ other → one ≤ dim → other ≤ dim → 1 ≤ dim
 pair_wide dim one other apart first second = elim (cases_lt 0 dim) [

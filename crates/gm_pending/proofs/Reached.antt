@@ -7,11 +7,11 @@ use Rattle.std.proofs.lemmas.Bool.{cases_eq, false≢true}
 use Rattle.std.proofs.lemmas.Nat.Bits.{bit_at_set_same, bit_at_set_other}
 use Rattle.std.proofs.lemmas.Option.{slice_get_within, slice_get-get_or}
 use Rattle.gm_theory.proofs.Lists.{some_same, none_some, contained_at, get_contained}
-use Rattle.gm_pending.specs.declared.marks.Mark.{Mark}
-use Rattle.gm_pending.specs.declared.at.At.{At}
+use Rattle.gm_walk.specs.declared.mark.Mark.{Mark}
+use Rattle.gm_walk.specs.declared.at.At.{At}
 use Rattle.gm_plan.specs.Indices.{AreTheSame, IsOneMore}
 use Rattle.gm_pending.specs.Marks.{ByKey, bit_of, reached_by, HasKey, AreMarked, AreSeen, IsIndex, IsMarkedBy, IsMarkedMore, HasDistinctKeys}
-use Rattle.gm_pending.specs.Keys.{key_of}
+use Rattle.gm_walk.specs.Keys.{key_of}
 
 -- ---- a list with one more element
 
@@ -141,11 +141,14 @@ module _ (bits key : ℕ) where
   low : bit_of key < 64
   low = omega arith
 
-  bit_kept : (b : ℕ) → bit_at bits b ≡ 1 → bit_at (with_bit bits key) b ≡ 1
+  pub bit_kept : (b : ℕ) → bit_at bits b ≡ 1 → bit_at (with_bit bits key) b ≡ 1
   bit_kept b set = elim (cases_eq b (bit_of key)) [
     | inl same ↦ rw same (bit_at_set_same w64 bits (bit_of key) low)
     | inr apart ↦ bit_at_set_other w64 bits (bit_of key) low b apart ∙ set
   ]
+
+  pub own_bit : bit_at (with_bit bits key) (bit_of key) ≡ 1
+  own_bit = bit_at_set_same w64 bits (bit_of key) low
 
   pub seen_kept : (reached : List Mark) → AreSeen reached bits → AreSeen reached (with_bit bits key)
   seen_kept reached seen entry among = bit_kept (bit_of (key_of entry.at)) (seen entry among)
@@ -154,7 +157,7 @@ module _ (bits key : ℕ) where
   seen_more reached entry own seen other among = go (among_or_last reached entry other among)
     where
       here : bit_at (with_bit bits key) (bit_of (key_of entry.at)) ≡ 1
-      here = subst (λ k. bit_at (with_bit bits key) (bit_of k) ≡ 1) own (bit_at_set_same w64 bits (bit_of key) low)
+      here = subst (λ k. bit_at (with_bit bits key) (bit_of k) ≡ 1) own own_bit
 
       go : Contains reached other ⊎ (entry ≡ other) → bit_at (with_bit bits key) (bit_of (key_of other.at)) ≡ 1
       go (inl c) = seen_kept reached seen other c
@@ -167,6 +170,11 @@ indexed_at reached by_key index key None e = none
   where
     none : HasKey reached key → ⊥
     none (entry, c, same) = none_some entry.instance (e ∙ ap by_key (sym same) ∙ index.marked entry c)
+
+-- where nothing is found under a key, no dart has it
+pub unmarked : (reached : List Mark) (key : ℕ) (found : Option ℕ) → is_some found ≡ false → MatchOption found (HasKey reached key → ⊥) (IsMarkedBy reached key) → HasKey reached key → ⊥
+unmarked reached key None none absent = absent
+unmarked reached key (Some k) none found = absurd (false≢true (sym none))
 
 -- one more dart, where there is no index
 pub marked_few : {E B : Type 0} (view : B → ByKey) (before after : List Mark) (by_key : Option B) (bits : ℕ) (entry : Mark) (pushed : Result Unit E) → is_some by_key ≡ false → AreMarked before (option_map view by_key) bits → (HasKey before (key_of entry.at) → ⊥) → OnOk pushed (after ≡ before ++ entry ∷ []) → OnErr pushed (after ≡ before) → AreMarked after (option_map view by_key) (with_bit bits (key_of entry.at))

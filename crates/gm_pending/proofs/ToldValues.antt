@@ -15,12 +15,12 @@ use Rattle.gm_arena.specs.ArenaMap.{ArenaMap, name_at}
 use Rattle.gm_arena.specs.Edits.{with_value}
 use Rattle.gm_arena.proofs.InsideLemmas.{some_of}
 use Rattle.gm_plan.specs.Placed.{Placed}
-use Rattle.gm_pending.specs.declared.at.At.{At}
-use Rattle.gm_pending.specs.declared.at.At.TheVariants.{Old, New}
+use Rattle.gm_walk.specs.declared.at.At.{At}
+use Rattle.gm_walk.specs.declared.at.At.TheVariants.{Old, New}
 use Rattle.gm_pending.specs.declared.changes.ValueAt.{ValueAt}
 use Rattle.gm_pending.specs.declared.decided_orbits.DecidedOrbits.{DecidedOrbits}
 use Rattle.gm_pending.specs.declared.deciding_instance.DecidingInstance.{DecidingInstance}
-use Rattle.gm_pending.specs.declared.marks.Mark.{Mark}
+use Rattle.gm_walk.specs.declared.mark.Mark.{Mark}
 use Rattle.gm_pending.specs.Answered.{AreDecidedOrbits, pending_as}
 use Rattle.gm_pending.specs.EditLists.{AllGiven, AreNewValues}
 use Rattle.gm_pending.specs.Reached.{AreReached}

@@ -16,12 +16,12 @@ use Rattle.gm_theory.proofs.Tests.{both_true}
 use Rattle.gm_theory.proofs.ValuesAcross.{new_together}
 use Rattle.gm_theory.proofs.ValuesReadOff.{read_off}
 use Rattle.gm_theory.specs.Theorem.{Unfolded, IsDartOf}
-use Rattle.gm_pending.specs.declared.at.At.{At}
-use Rattle.gm_pending.specs.declared.at.At.TheVariants.{Old, New}
+use Rattle.gm_walk.specs.declared.at.At.{At}
+use Rattle.gm_walk.specs.declared.at.At.TheVariants.{Old, New}
 use Rattle.gm_pending.specs.declared.deciding_instance.DecidingInstance.{DecidingInstance}
-use Rattle.gm_pending.specs.declared.marks.Mark.{Mark}
+use Rattle.gm_walk.specs.declared.mark.Mark.{Mark}
 use Rattle.gm_pending.specs.Marks.{HasKey, IsMarkedBy}
-use Rattle.gm_pending.specs.Keys.{key_of}
+use Rattle.gm_walk.specs.Keys.{key_of}
 use Rattle.gm_pending.specs.Reached.{AreReached}
 use Rattle.gm_pending.specs.Sources.{HasSourceNode, IsKeeperFor, IsOldValue, IsSourceOf, IsSourceValue, given_of}
 use Rattle.gm_pending.specs.Results.{PendingOf, IsPrepared, AreAllGiven, IsDecidedIn, IsGivenIn, IsResultDart, IsUnfoldedIn, IsValueIn, instances_of, rule_in, place_in, scene_in, name_of}

@@ -1,5 +1,6 @@
 -- How what was answered is kept. No public clause cites this module.
-use Rattle.std.specs.Prelude.{◌≡◌, ℕ, List, Option, Some, None, map, slice_get}
+use Rattle.std.specs.Int.{bit_at}
+use Rattle.std.specs.Prelude.{◌≡◌, ℕ, ◌*◌, List, Option, Some, None, map, slice_get}
 use Rattle.std.specs.Option.{option_map}
 use Rattle.gm_model.specs.declared.rule.RuleTable.{RuleTable}
 use Rattle.gm_model.specs.declared.schema.Embed.{Embed}
@@ -9,7 +10,9 @@ use Rattle.gm_plan.specs.Placed.{Placed}
 use Rattle.gm_pending.specs.declared.decided_orbits.DecidedOrbits.{DecidedOrbits}
 use Rattle.gm_pending.specs.declared.deciding_instance.DecidingInstance.{DecidingInstance}
 use Rattle.gm_plan.specs.declared.lookup.Lookup.{Lookup}
-use Rattle.gm_plan.specs.Lookup.{IsLookupIn}
+use Rattle.gm_plan.specs.InArena.{slot_number}
+use Rattle.gm_plan.specs.Lookup.{IsLookupIn, IsWithin}
+use Rattle.gm_pending.specs.Marks.{bit_of}
 use Rattle.gm_pending.specs.Reached.{AreReached}
 use Rattle.gm_pending.specs.Results.{PendingOf}
 
@@ -28,3 +31,7 @@ AreDecidedOrbits app answers = (e : ℕ) (embed : Embed) (orbits : DecidedOrbits
 abbrev pub IsLookedUp : Placed → Option Lookup → Type 0
 IsLookedUp placed None = Unit {0}
 IsLookedUp placed (Some lookup) = IsLookupIn placed lookup
+
+-- the bit of each instance's slot is set
+abbrev pub AreMatchedSeen : Placed → ℕ → Type 0
+AreMatchedSeen placed bits = (x p : ℕ) → IsWithin placed x p → bit_at bits (bit_of (slot_number placed x p * 2)) ≡ 1

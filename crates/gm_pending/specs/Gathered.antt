@@ -4,8 +4,8 @@ use Rattle.gm_model.specs.declared.schema.Embed.{Embed}
 use Rattle.gm_model.specs.Maps.{IsEmbedAt}
 use Rattle.gm_model.specs.declared.value.Value.{Value}
 use Rattle.gm_model.specs.Unfolding.{added_nodes}
-use Rattle.gm_pending.specs.declared.at.At.TheVariants.{New}
-use Rattle.gm_pending.specs.declared.marks.Mark.{Mark}
+use Rattle.gm_walk.specs.declared.at.At.TheVariants.{New}
+use Rattle.gm_walk.specs.declared.mark.Mark.{Mark}
 use Rattle.gm_pending.specs.EditLists.{added_value}
 use Rattle.gm_pending.specs.Results.{PendingOf, IsResultDart, IsValueIn, name_of, rule_in}
 use Rattle.gm_pending.specs.Sources.{IsSourceValue}

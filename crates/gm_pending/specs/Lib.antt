@@ -4,7 +4,6 @@ pub mod Collected
 pub mod EditLists
 pub mod Gathered
 pub mod Marks
-pub mod Keys
 pub mod Pairs
 pub mod Reached
 pub mod Results

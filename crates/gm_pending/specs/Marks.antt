@@ -1,10 +1,10 @@
 -- How reached darts are kept. No public clause cites this module.
-use Rattle.std.specs.Prelude.{◌≡◌, ◌≢◌, ℕ, ◌+◌, ◌/◌, ◌%◌, ◌<◌, ◌⊎◌, List, [], ◌∷◌, ◌++◌, Option, Some, IfSome, slice_get}
+use Rattle.std.specs.Prelude.{◌≡◌, ◌≢◌, ℕ, ◌+◌, ◌/◌, ◌%◌, ◌<◌, ◌≤◌, ◌⊎◌, List, [], ◌∷◌, ◌++◌, Option, Some, None, IfSome, slice_get}
 use Rattle.std.specs.Int.{bit_at}
 use Rattle.std.specs.List.{Contains}
-use Rattle.gm_pending.specs.declared.at.At.{At}
-use Rattle.gm_pending.specs.declared.marks.Mark.{Mark}
-use Rattle.gm_pending.specs.Keys.{key_of}
+use Rattle.gm_walk.specs.declared.at.At.{At}
+use Rattle.gm_walk.specs.declared.mark.Mark.{Mark}
+use Rattle.gm_walk.specs.Keys.{key_of}
 
 -- the bit, of 64, that stands for the dart of a key; others may have the same one
 abbrev pub bit_of : ℕ → ℕ
@@ -47,3 +47,7 @@ pub record AreMarked (reached : List Mark) (by_key : Option ByKey) (bits : ℕ) 
   pub distinct : HasDistinctKeys reached
   pub indexed : IfSome by_key (IsIndex reached)
   pub seen : AreSeen reached bits
+
+-- Up to so many entries there is room, and no index.
+abbrev pub IsQuick : {I : Type 0} → ℕ → ℕ → Option I → Type 0
+IsQuick quick capacity index = (quick ≤ capacity) × (0 < quick → index ≡ None)

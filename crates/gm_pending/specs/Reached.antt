@@ -7,7 +7,7 @@ use Rattle.gm_model.specs.Maps.{type_of}
 use Rattle.gm_model.specs.Orbits.{IsInOrbit, IsPairBefore}
 use Rattle.gm_theory.specs.Theorem.{Unfolded}
 use Rattle.gm_pending.specs.declared.deciding_instance.DecidingInstance.{DecidingInstance}
-use Rattle.gm_pending.specs.declared.marks.Mark.{Mark}
+use Rattle.gm_walk.specs.declared.mark.Mark.{Mark}
 use Rattle.gm_pending.specs.Results.{PendingOf, IsResultDart, IsUnfoldedIn, IsDecidedIn, IsReachedIn, name_of, rule_in, scene_in}
 
 -- a deciding instance that has no value yet

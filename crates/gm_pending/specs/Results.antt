@@ -19,8 +19,8 @@ use Rattle.gm_arena.specs.Lawful.{IsLawful}
 use Rattle.gm_plan.specs.InArena.{AreMatched, placement_in}
 use Rattle.gm_plan.specs.Placed.{Placed}
 use Rattle.gm_plan.specs.Plans.{IsPlanned}
-use Rattle.gm_pending.specs.declared.at.At.{At}
-use Rattle.gm_pending.specs.declared.at.At.TheVariants.{Old, New}
+use Rattle.gm_walk.specs.declared.at.At.{At}
+use Rattle.gm_walk.specs.declared.at.At.TheVariants.{Old, New}
 use Rattle.gm_pending.specs.declared.deciding_instance.DecidingInstance.{DecidingInstance}
 
 -- what is pending: the application of a rule to a map, at these instances, and what was asked of it

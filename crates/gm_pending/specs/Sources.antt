@@ -8,12 +8,12 @@ use Rattle.gm_model.specs.Maps.{IsEmbedAt, type_of}
 use Rattle.gm_arena.specs.ArenaAsMap.{value}
 use Rattle.gm_arena.specs.ArenaMap.{name_at}
 use Rattle.gm_plan.specs.InArena.{slot_number}
-use Rattle.gm_pending.specs.declared.at.At.{At}
-use Rattle.gm_pending.specs.declared.at.At.TheVariants.{Old, New}
+use Rattle.gm_walk.specs.declared.at.At.{At}
+use Rattle.gm_walk.specs.declared.at.At.TheVariants.{Old, New}
 use Rattle.gm_pending.specs.declared.deciding_instance.DecidingInstance.{DecidingInstance}
-use Rattle.gm_pending.specs.declared.marks.Mark.{Mark}
+use Rattle.gm_walk.specs.declared.mark.Mark.{Mark}
 use Rattle.gm_pending.specs.Marks.{HasKey}
-use Rattle.gm_pending.specs.Keys.{key_of}
+use Rattle.gm_walk.specs.Keys.{key_of}
 use Rattle.gm_pending.specs.Reached.{AreReached}
 use Rattle.gm_pending.specs.Results.{PendingOf, instances_of, rule_in}
 

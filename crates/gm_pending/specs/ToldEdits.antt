@@ -3,11 +3,11 @@ use Rattle.std.specs.Prelude.{ℕ, ◌+◌, List, [], ◌∷◌, ◌++◌, Optio
 use Rattle.gm_model.specs.declared.value.Value.{Value}
 use Rattle.gm_pending.specs.declared.changes.ValueAt.{ValueAt}
 use Rattle.gm_pending.specs.declared.rewrite.Arcs.TheVariants.{Freed, Made}
-use Rattle.gm_pending.specs.declared.at.At.{At}
-use Rattle.gm_pending.specs.declared.at.At.TheVariants.{Old, New}
+use Rattle.gm_walk.specs.declared.at.At.{At}
+use Rattle.gm_walk.specs.declared.at.At.TheVariants.{Old, New}
 use Rattle.gm_pending.specs.declared.decided_orbits.DecidedOrbits.{DecidedOrbits}
 use Rattle.gm_pending.specs.declared.deciding_instance.DecidingInstance.{DecidingInstance}
-use Rattle.gm_pending.specs.declared.marks.Mark.{Mark}
+use Rattle.gm_walk.specs.declared.mark.Mark.{Mark}
 use Rattle.gm_pending.specs.Collected.{RewriteOf, all_arcs, all_removed, left_slots}
 use Rattle.gm_pending.specs.EditLists.{EditLists, edit_lists}
 use Rattle.gm_pending.specs.Sources.{given_of}

@@ -75,8 +75,10 @@ impl<'a> Pending<'a, '_> {
             alloc: _,
             lookup,
             orbits,
+            matched: _,
+            room,
         } = self;
-        drop(lookup);
+        drop((lookup, room));
         Ok(Changes {
             rewrite,
             added,

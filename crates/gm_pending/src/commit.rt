@@ -19,15 +19,14 @@ ghost use Rattle.gm_pending.specs.Sources.{given_of};
 ghost use Rattle.gm_pending.specs.ToldEdits.{told_of, values_told};
 ghost use Rattle.gm_pending.specs.Written.{IsWritable, IsSettable, CanRemove, IsExtended, end_at, with_arcs, with_values, without_darts};
 
-use crate::at::At;
 use crate::changes::Changes;
-use crate::decided_orbits::DecidedOrbits;
+use crate::decided_orbits::{DecidedOrbits, OrbitsByEmbed};
 use crate::deciding_instance::DecidingInstance;
-use crate::marks::Mark;
 use crate::rewrite::{Arcs, Rewrite};
 use crate::values::given;
 use gm_arena::{Arena, Slot, Steps};
 use gm_model::{Step, Value};
+use gm_walk::{At, Mark};
 use std::sync::ledger::Ledger;
 
 impl Changes<'_> {
@@ -37,8 +36,13 @@ impl Changes<'_> {
     /// the arcs that led to them are freed, then they are removed, then darts are added, then linked.
     /// An arc whose step is the same on both sides stays as it is. The values of old darts come last.
     ///
-    /// It gives back the vector that the changes were made with.
-    pub fn commit<L: Ledger>(self, arena: &mut Arena, steps: &mut Steps<L>) -> Vec<Slot>
+    /// It gives back the vector that the changes were made with, and one in which darts were marked,
+    /// where there is one: for their room alone.
+    pub fn commit<L: Ledger>(
+        self,
+        arena: &mut Arena,
+        steps: &mut Steps<L>,
+    ) -> (Vec<Slot>, Option<Vec<Mark>>)
         requires edits { AreEditsHere arena.old self }
         requires names { arena.old.next + self.added ≤ arena.old.reserved }
         requires room { self.added ≤ arena.old.spare + length self.removed }
@@ -64,8 +68,22 @@ impl Changes<'_> {
         add_darts(arena, added, &added_values, &mut slots, steps);
         rewrite.write(Arcs::Made, &slots, arena, steps);
         set_values(&orbits, arena, steps);
-        slots
+        (slots, room_of(orbits))
     }
+}
+
+/// The room in which the darts of an embedding were marked; none where none took any.
+fn room_of(mut by_embed: OrbitsByEmbed) -> Option<Vec<Mark>> {
+    while let Some(orbits) = by_embed.pop() {
+        if let Some(DecidedOrbits { instances, marks }) = orbits {
+            drop(instances);
+            let room = marks.into_room();
+            if room.capacity() > 0 {
+                return Some(room);
+            }
+        }
+    }
+    None
 }
 
 impl Rewrite<'_> {

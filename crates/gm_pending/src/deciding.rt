@@ -9,21 +9,21 @@ ghost use Rattle.gm_model.specs.Maps.{IsEmbedAt};
 ghost use Rattle.gm_model.specs.Rules.{has_word};
 ghost use Rattle.gm_theory.specs.Theorem.{Unfolded};
 ghost use Rattle.gm_pending.specs.declared.deciding_instance.DecidingInstance.{DecidingInstance};
-ghost use Rattle.gm_pending.specs.declared.marks.Mark.{Mark};
+ghost use Rattle.gm_walk.specs.declared.mark.Mark.{Mark};
 ghost use Rattle.gm_pending.specs.Marks.{HasKey};
-ghost use Rattle.gm_pending.specs.Keys.{key_of};
+ghost use Rattle.gm_walk.specs.Keys.{key_of};
 ghost use Rattle.gm_pending.specs.Pairs.{IsPair};
 ghost use Rattle.gm_pending.specs.Reached.{AreReached, AreResultDarts, AreSomeReached, IsClosed, IsGrown, IsSpreadTo, IsFollowedTo, IsFollowed, IsFollowedAlong, IsGrownAlong, IsDecidedUpTo, IsAlwaysOneOrbit, IsUnmarked, AreMarkedTo, ungiven};
 ghost use Rattle.gm_pending.specs.Results.{IsPrepared, AreDecidingInstances, IsAsked, IsResultDart, IsUnfoldedIn, IsWithinReach, instances_of, with_instances, name_of, rule_in};
 
 use crate::decided_orbits::{DecidedOrbits, DecidingInstances};
 use crate::deciding_instance::DecidingInstance;
-use crate::marks::{Mark, Marks};
-use crate::packed::PackedAt;
+use crate::marks::{Marks, bits_of};
 use crate::pending::Pending;
 use gm_arena::Steps;
 use gm_model::{Embed, Mask, OutOfMemory};
 use gm_plan::Lookup;
+use gm_walk::{Mark, PackedAt};
 use std::sync::ledger::Ledger;
 
 /// So many instances are looked through one after another, since that is faster than any look-up.
@@ -47,39 +47,43 @@ impl Pending<'_, '_> {
         ensures cost { (kept : Embed) → IsEmbedAt self.old.map.schema embed kept → IsWithinReach self.old embed kept steps.old steps.new }
         ensures least { steps.old ≤ steps.new }
     {
+        let room = self.take_room();
         self.look_up(embed)?;
-        let orbits = self.decide(embed, steps)?;
+        let orbits = self.decide(embed, room, steps)?;
         let count = orbits.instances.len() as u32;
         self.orbits[embed as usize] = Some(orbits);
         Ok(count)
     }
 
-    /// Prepares the look-up of slots, where orbits have to be walked, over arcs that are made, and the
-    /// rule has more than a few instances.
+    /// Prepares the look-up of slots, where orbits have to be walked over arcs that are made: the bits
+    /// that stand for a few instances, and a table of more.
     fn look_up(&mut self, embed: u8) -> Result<(), OutOfMemory>
         requires { embed < length self.old.map.schema.embeds }
         ensures { self.new ≡ self.old }
     {
-        let nodes = self.plan.left_nodes();
-        let instances = u64::from(nodes) * u64::from(self.found.positions());
         let mask = self.arena.schema().embeds.as_slice()[embed as usize].mask;
-        if self.lookup.is_none()
-            && instances > FEW
-            && self.walks(embed)
-            && self.made_labels().bits & mask.bits != 0
-        {
+        if self.made_labels().bits & mask.bits == 0 || !self.walks(embed) {
+            return Ok(());
+        }
+        let nodes = self.plan.left_nodes();
+        if u64::from(nodes) * u64::from(self.found.positions()) <= FEW {
+            self.matched = bits_of(self.found.slots());
+        } else if self.lookup.is_none() {
             self.lookup = Some(Lookup::build(self.alloc, self.found, nodes)?);
         }
         Ok(())
     }
 
-    /// Finds the deciding instances of an embedding and the darts that they reach.
+    /// Finds the deciding instances of an embedding and the darts that they reach, which are marked in
+    /// the room of an empty vector.
     fn decide<L: Ledger>(
         &self,
         embed: u8,
+        room: Vec<Mark>,
         steps: &mut Steps<L>,
     ) -> Result<DecidedOrbits, OutOfMemory>
-        requires { embed < length self.now.map.schema.embeds }
+        requires embed { embed < length self.now.map.schema.embeds }
+        requires empty { room.items ≡ [] }
         ensures deciders { IfOk result (λ orbits. (kept : Embed) → IsEmbedAt self.now.map.schema embed kept → AreDecidingInstances self.now embed kept orbits.instances.items) }
         ensures reached { IfOk result (λ orbits. (kept : Embed) → IsEmbedAt self.now.map.schema embed kept → AreReached self.now embed kept orbits.instances.items orbits.marks) }
         ensures ungiven { IfOk result (λ orbits. (instance : DecidingInstance) → Contains orbits.instances.items instance → instance.given ≡ None) }
@@ -91,7 +95,12 @@ impl Pending<'_, '_> {
         let declared = &self.arena.schema().embeds.as_slice()[embed as usize];
         let mut orbits = DecidedOrbits {
             instances: DecidingInstances::new(self.alloc),
-            marks: Marks::new(self.alloc, self.positions() as usize, self.arena.bound()),
+            marks: Marks::new(
+                self.alloc,
+                room,
+                self.positions() as usize,
+                self.arena.bound(),
+            ),
         };
         let outcome = self.decide_nodes(embed, declared, &mut orbits, steps);
         // The marks tell here that no dart comes twice.
@@ -251,7 +260,7 @@ impl Pending<'_, '_> {
         // The application tells here what its type keeps.
         prove!(self.labels() <= 8);
         let mut next = marks.len();
-        marks.mark(at, index, None)?;
+        marks.mark_first(at, index)?;
         // An orbit over two labels is a path or a ring, of which the dart is one place.
         if let Some((one, other)) = pair_of(declared.mask) {
             self.follow(at, index, one, other, embed, declared, marks, steps)?;
@@ -296,18 +305,23 @@ impl Pending<'_, '_> {
         // The application tells here what its type keeps.
         prove!(self.labels() <= 8);
         let made = self.made_labels();
-        let (mut at, mut label, mut other) = (from, first, second);
+        let (makes_first, makes_second) = (made.has(first), made.has(second));
+        let mut at = from;
+        // Where one label led to, only the other leads on.
         loop {
-            let to = self.neighbour(at, label, made.has(label), steps);
+            let to = self.neighbour(at, first, makes_first, steps);
             let is_new = marks.mark_beside(at, to, index, None)?;
-            // The marks tell here that they have an end.
+            // The marks tell here, and below, that they have an end.
             prove!(marks.len() <= usize::MAX);
             if !is_new {
                 return Ok(());
             }
-            // Where one label led to, only the other leads on.
-            at = to;
-            (label, other) = (other, label);
+            at = self.neighbour(to, second, makes_second, steps);
+            let is_next_new = marks.mark_beside(to, at, index, None)?;
+            prove!(marks.len() <= usize::MAX);
+            if !is_next_new {
+                return Ok(());
+            }
         }
     }
 

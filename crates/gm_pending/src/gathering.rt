@@ -8,15 +8,15 @@ ghost use Rattle.gm_pending.specs.Results.{IsPrepared, rule_in};
 ghost use Rattle.gm_pending.specs.Sources.{AreKeepers};
 ghost use Rattle.gm_pending.specs.ToldEdits.{told_of, values_told};
 
-use crate::at::At;
 use crate::changes::ValueAt;
 use crate::decided_orbits::DecidedOrbits;
 use crate::deciding_instance::DecidingInstance;
-use crate::marks::{Mark, push};
+use crate::marks::push;
 use crate::pending::Pending;
 use crate::values::given;
 use gm_arena::Steps;
 use gm_model::{MOST_EMBEDS, OutOfMemory, Value};
+use gm_walk::{At, Mark};
 use std::alloc::Global;
 use std::sync::ledger::Ledger;
 

@@ -3,7 +3,6 @@
 #![tactic(auto)]
 
 mod applied;
-mod at;
 mod changes;
 mod commit;
 mod decided_orbits;
@@ -12,13 +11,12 @@ mod deciding_instance;
 mod edits;
 mod gathering;
 mod marks;
-mod packed;
 mod pending;
 mod rewrite;
 mod values;
 
 pub use applied::Applied;
-pub use at::At;
 pub use changes::Changes;
 pub use edits::Edits;
+pub use gm_walk::At;
 pub use pending::Pending;

@@ -1,25 +1,18 @@
 //! The darts of a result that are reached from deciding instances.
-ghost use Rattle.std.specs.Prelude.{◌≡◌, List, ◌∷◌, ◌++◌, ◌<◌, [], length, slice_get, Some, MatchOption, ◌↔◌, IsTrue, IfOk, IfSome, OnOk, OnErr};
+ghost use Rattle.std.specs.Prelude.{◌≡◌, ℕ, ◌*◌, List, ◌∷◌, ◌++◌, ◌<◌, ◌≤◌, [], length, slice_get, slice_index_or, None, Some, MatchOption, ◌↔◌, IsTrue, IfOk, IfSome, OnOk, OnErr};
+ghost use Rattle.std.specs.Int.{bit_at};
 ghost use Rattle.std.specs.Vec.{vec_capacity};
-ghost use Rattle.gm_pending.specs.declared.marks.Mark.{Mark};
+ghost use Rattle.gm_walk.specs.declared.mark.Mark.{Mark};
 ghost use Rattle.gm_pending.specs.Marks.{bit_of, reached_by, HasKey, IsIndex, IsMarkedBy, IsMarkedMore, HasDistinctKeys};
 ghost use Rattle.gm_plan.specs.Indices.{index_at};
-ghost use Rattle.gm_pending.specs.Keys.{key_of};
+ghost use Rattle.gm_walk.specs.Keys.{key_of};
 
-use crate::packed::PackedAt;
+use gm_arena::Slot;
 use gm_model::OutOfMemory;
 use gm_plan::Index;
+use gm_walk::{Mark, PackedAt};
 use std::alloc::Global;
 use std::marker::Model;
-
-/// A dart of a result, and the index of the instance that decides its orbit.
-#[derive(Clone, Copy)]
-pub(crate) struct Mark {
-    pub(crate) at: PackedAt,
-    pub(crate) instance: u32,
-    /// A label along which a marked dart lies, where one is known: a walk needn't go there.
-    pub(crate) over: Option<u8>,
-}
 
 /// So many darts are searched one after another, since that is faster than any index.
 const FEW: usize = 16;
@@ -38,35 +31,40 @@ pub(crate) struct Marks {
     room: usize,
     /// And for an arena of so many slots.
     slots: usize,
+    /// As long as fewer darts are reached, one more needs neither room nor an index.
+    quick: usize,
 }
 
 impl Model for Marks {
     ghost use Rattle.std.specs.Prelude.{List};
-    ghost use Rattle.gm_pending.specs.declared.marks.Mark.{Mark};
+    ghost use Rattle.gm_walk.specs.declared.mark.Mark.{Mark};
     ghost use Rattle.std.specs.Option.{option_map};
     ghost use Rattle.gm_plan.specs.Indices.{index_at};
-    ghost use Rattle.gm_pending.specs.Marks.{AreMarked};
+    ghost use Rattle.std.specs.Vec.{vec_capacity};
+    ghost use Rattle.gm_pending.specs.Marks.{AreMarked, IsQuick};
 
     ghost Value = { List Mark };
 
     ghost view = { λ a. a.reached.items };
 
-    ghost invariant = { λ a. AreMarked a.reached.items (option_map (λ b. index_at b.value) a.index) a.bits };
+    ghost invariant = { λ a. AreMarked a.reached.items (option_map (λ b. index_at b.value) a.index) a.bits × IsQuick a.quick (vec_capacity a.reached) a.index };
 }
 
 impl Marks {
-    /// No darts. It takes no memory; but where an index is needed, it is made with room for so many,
-    /// of an arena with so many slots.
-    pub(crate) fn new(alloc: Global, room: usize, slots: usize) -> Marks
+    /// No darts, in the room of an empty vector. It takes no memory; but where an index is needed, it is
+    /// made with room for so many, of an arena with so many slots.
+    pub(crate) fn new(alloc: Global, reached: Vec<Mark>, room: usize, slots: usize) -> Marks
+        requires { reached.items ≡ [] }
         ensures { result ≡ [] }
     {
         Marks {
             alloc,
-            reached: Vec::new(alloc),
+            reached,
             index: None,
             bits: 0,
             room,
             slots,
+            quick: 0,
         }
     }
 
@@ -86,6 +84,21 @@ impl Marks {
         self.reached.len()
     }
 
+    /// The room of marks that are no longer needed, or of none; what is in it means nothing.
+    pub(crate) fn into_room(self) -> Vec<Mark> {
+        let Marks {
+            alloc: _,
+            reached,
+            index,
+            bits: _,
+            room: _,
+            slots: _,
+            quick: _,
+        } = self;
+        drop(index);
+        reached
+    }
+
     /// The index of the instance that decides the dart's orbit; none where it isn't reached.
     #[inline(always)]
     pub(crate) fn decided_by(&self, at: PackedAt) -> Option<u32>
@@ -93,7 +106,7 @@ impl Marks {
         ensures distinct { HasDistinctKeys self.now }
     {
         let wanted = at.key();
-        if (self.bits >> bit(wanted)) & 1 == 0 {
+        if !is_set(self.bits, wanted) {
             return None;
         }
         match &self.index {
@@ -116,17 +129,65 @@ impl Marks {
         ensures err { OnErr result (self.new ≡ self.old) }
         ensures distinct { HasDistinctKeys self.old }
     {
-        if self.index.is_some() {
+        if self.reached.len() >= self.quick {
+            return self.mark_slowly(at, instance, over);
+        }
+        if self.decided_by(at).is_some() {
+            return Ok(false);
+        }
+        self.bits |= 1 << bit(at.key());
+        self.reached.push_reserved(Mark { at, instance, over });
+        Ok(true)
+    }
+
+    /// Marks a dart, unless it is marked, as `mark` does, where room or an index may have to be made.
+    // On its own, so that `mark` stays small enough to be inlined where darts are walked.
+    #[cold]
+    #[inline(never)]
+    fn mark_slowly(
+        &mut self,
+        at: PackedAt,
+        instance: u32,
+        over: Option<u8>,
+    ) -> Result<bool, OutOfMemory>
+        ensures ok { OnOk result (IsMarkedMore self.old self.new at instance over) }
+        ensures new { IfOk result (λ new. IsTrue new ↔ (HasKey self.old (key_of at) → ⊥)) }
+        ensures err { OnErr result (self.new ≡ self.old) }
+        ensures distinct { HasDistinctKeys self.old }
+    {
+        if self.index.is_some() || self.reached.len() >= FEW {
             return self.put(at, instance, over);
         }
         if self.decided_by(at).is_some() {
             return Ok(false);
         }
-        if self.reached.len() >= FEW {
-            return self.put(at, instance, over);
-        }
         self.mark_new(at, instance, over, FEW)?;
+        self.quicken();
         Ok(true)
+    }
+
+    /// Marks the dart with which a walk begins, which isn't marked, as `mark_new` does. It makes room for
+    /// a few more.
+    #[inline(always)]
+    pub(crate) fn mark_first(&mut self, at: PackedAt, instance: u32) -> Result<(), OutOfMemory>
+        requires absent { HasKey self.old (key_of at) → ⊥ }
+        ensures ok { OnOk result (IsMarkedMore self.old self.new at instance None) }
+        ensures err { OnErr result (self.new ≡ self.old) }
+    {
+        self.mark_new(at, instance, None, FEW)?;
+        self.quicken();
+        Ok(())
+    }
+
+    /// Takes note of the room that there is, where there is no index.
+    #[inline(always)]
+    fn quicken(&mut self)
+        ensures { self.new ≡ self.old }
+    {
+        self.quick = match self.index {
+            Some(_) => 0,
+            None => self.reached.capacity().min(FEW),
+        };
     }
 
     /// Marks a neighbour of a marked dart, as `mark` does.
@@ -188,6 +249,7 @@ impl Marks {
         ensures err { OnErr result (self.new ≡ self.old) }
         ensures distinct { HasDistinctKeys self.old }
     {
+        self.quick = 0;
         self.reached.reserve(1)?;
         let mut index = index(
             self.alloc,
@@ -211,6 +273,7 @@ impl Marks {
 #[inline(always)]
 pub(crate) fn push<T: Copy>(entries: &mut Vec<T>, entry: T, room: usize) -> Result<(), OutOfMemory>
     ensures ok { OnOk result (entries.new.items ≡ entries.old.items ++ entry ∷ []) }
+    ensures capacity { vec_capacity entries.old ≤ vec_capacity entries.new }
     ensures err { OnErr result (entries.new.items ≡ entries.old.items) }
 {
     if entries.len() >= entries.capacity() {
@@ -227,6 +290,7 @@ pub(crate) fn push<T: Copy>(entries: &mut Vec<T>, entry: T, room: usize) -> Resu
 fn make_room<T>(entries: &mut Vec<T>, room: usize) -> Result<(), OutOfMemory>
     ensures items { entries.new.items ≡ entries.old.items }
     ensures room { OnOk result (length entries.new.items < vec_capacity entries.new) }
+    ensures capacity { vec_capacity entries.old ≤ vec_capacity entries.new }
 {
     Ok(entries.reserve(room.max(1))?)
 }
@@ -276,4 +340,23 @@ fn bit(key: u64) -> u64
     ensures { result ≡ bit_of key }
 {
     (key / 2 + key / 128) % 64
+}
+
+/// Whether the bit that stands for the dart of a key is one of the bits.
+#[inline(always)]
+pub(crate) fn is_set(bits: u64, key: u64) -> bool
+    ensures { IsTrue result ↔ (bit_at bits (bit_of key) ≡ 1) }
+{
+    (bits >> bit(key)) & 1 == 1
+}
+
+/// The bits that stand for the old darts at the slots.
+pub(crate) fn bits_of(slots: &[Slot]) -> u64
+    ensures { (k : ℕ) → k < length slots.now → bit_at result (bit_of ((slice_index_or slots.now k (record { at = 0 })).at * 2)) ≡ 1 }
+{
+    let mut bits = 0;
+    for slot in slots {
+        bits |= 1 << bit(u64::from(slot.at) * 2);
+    }
+    bits
 }

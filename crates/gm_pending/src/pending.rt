@@ -1,13 +1,14 @@
-ghost use Rattle.std.specs.Prelude.{◌≡◌, ◌≢◌, ℕ, ◌+◌, ◌<◌, ◌≤◌, List, length, false, Some, None, MatchOption, ◌↔◌, IfOk, IsTrue};
+ghost use Rattle.std.specs.Prelude.{◌≡◌, ◌≢◌, ℕ, ◌+◌, ◌<◌, ◌≤◌, List, [], length, false, Some, None, MatchOption, ◌↔◌, IfOk, IsTrue};
 
-use crate::at::At;
 use crate::decided_orbits::{OrbitsByEmbed, no_orbits};
-use crate::packed::PackedAt;
+use crate::marks::is_set;
 use gm_arena::{Arena, Slot, Steps};
 use gm_model::{MOST_DARTS, Mask, OutOfMemory, Side, Step};
 use gm_plan::{Instances, Lookup, Plan, instance_at};
+use gm_walk::{At, Mark, PackedAt};
 use std::alloc::Global;
 use std::marker::Model;
+use std::mem;
 use std::sync::ledger::Ledger;
 
 /// An application that nothing is written of yet. It answers for the result.
@@ -20,16 +21,21 @@ pub struct Pending<'a, 'm> {
     /// The instances by their slots, where they are looked up more than once.
     pub(crate) lookup: Option<Lookup>,
     pub(crate) orbits: OrbitsByEmbed,
+    /// The bits that stand for the slots of instances, or all bits. An old dart whose bit isn't set lies
+    /// at none, and isn't looked up.
+    pub(crate) matched: u64,
+    /// An empty vector, in whose room the darts are marked that the next embedding's instances reach.
+    pub(crate) room: Vec<Mark>,
 }
 
 impl<'a, 'm> Model for Pending<'a, 'm> {
     ghost use Rattle.std.specs.Coded.{codes};
-    ghost use Rattle.std.specs.Prelude.{◌≡◌};
+    ghost use Rattle.std.specs.Prelude.{◌≡◌, []};
     ghost use Rattle.gm_model.specs.contracts.expr.Expr as expr_block;
     ghost use Rattle.gm_arena.specs.ArenaMap.{arena_code};
     ghost use Rattle.gm_pending.specs.contracts.deciding_instance.DecidingInstance as instance_block;
     ghost use Rattle.gm_pending.specs.Results.{PendingOf, IsPrepared};
-    ghost use Rattle.gm_pending.specs.Answered.{pending_as, AreDecidedOrbits, IsLookedUp};
+    ghost use Rattle.gm_pending.specs.Answered.{pending_as, AreDecidedOrbits, AreMatchedSeen, IsLookedUp};
 
     ghost Value = { PendingOf };
 
@@ -37,7 +43,7 @@ impl<'a, 'm> Model for Pending<'a, 'm> {
 
     ghost view = { λ a. pending_as a.arena.now a.plan.now.table a.found.now a.orbits.items };
 
-    ghost invariant = { λ a. IsPrepared (pending_as a.arena.now a.plan.now.table a.found.now a.orbits.items) × (a.arena.now.schema ≡ a.plan.now.schema) × AreDecidedOrbits (pending_as a.arena.now a.plan.now.table a.found.now a.orbits.items) a.orbits.items × IsLookedUp a.found.now a.lookup };
+    ghost invariant = { λ a. IsPrepared (pending_as a.arena.now a.plan.now.table a.found.now a.orbits.items) × (a.arena.now.schema ≡ a.plan.now.schema) × AreDecidedOrbits (pending_as a.arena.now a.plan.now.table a.found.now a.orbits.items) a.orbits.items × IsLookedUp a.found.now a.lookup × AreMatchedSeen a.found.now a.matched × (a.room.items ≡ []) };
 }
 
 impl<'a, 'm> Pending<'a, 'm> {
@@ -65,6 +71,25 @@ impl<'a, 'm> Pending<'a, 'm> {
         ensures pending { IfOk result (λ pending. pending ≡ pending_of arena.now plan.now.table found.now) }
         ensures no_step { steps.new ≡ steps.old }
     {
+        Pending::build_in(alloc, plan, arena, found, Vec::new(alloc), steps)
+    }
+
+    /// The same, where marks are made in the room of an empty vector, as a scratch lends it.
+    pub fn build_in<L: Ledger>(
+        alloc: Global,
+        plan: &'a Plan<'a>,
+        arena: &'m Arena,
+        found: &'a Instances,
+        room: Vec<Mark>,
+        steps: &mut Steps<L>,
+    ) -> Result<Pending<'a, 'm>, OutOfMemory>
+        requires room { room.items ≡ [] }
+        requires schema { arena.now.schema ≡ plan.now.schema }
+        requires sound { IsSound (as_map arena.now) }
+        requires matched { (hooks : List ℕ) × AreMatched arena.now (rule_of plan.now.table) hooks found.now }
+        ensures pending { IfOk result (λ pending. pending ≡ pending_of arena.now plan.now.table found.now) }
+        ensures no_step { steps.new ≡ steps.old }
+    {
         // The arena and the plan tell here what their types keep.
         prove!(arena.count() <= MOST_DARTS);
         prove_eq!(plan.schema().dim, arena.schema().dim);
@@ -76,6 +101,8 @@ impl<'a, 'm> Pending<'a, 'm> {
             alloc,
             lookup: None,
             orbits,
+            matched: u64::MAX,
+            room,
         })
     }
 
@@ -138,6 +165,14 @@ impl<'a, 'm> Pending<'a, 'm> {
         }
     }
 
+    /// The room for marks, which then is none.
+    pub(crate) fn take_room(&mut self) -> Vec<Mark>
+        ensures empty { result.items ≡ [] }
+        ensures stays { self.new ≡ self.old }
+    {
+        mem::replace(&mut self.room, Vec::new(self.alloc))
+    }
+
     /// The labels at which the rule makes arcs that the old map doesn't have.
     pub(crate) fn made_labels(&self) -> Mask
         ensures { AreMadeLabels (rule_in self.now) result }
@@ -185,6 +220,9 @@ impl<'a, 'm> Pending<'a, 'm> {
             ((x p : ℕ) → IsWithin self.now.placed x p → slot_number self.now.placed x p ≢ slot.at)
             (λ i. IsAtSlot self.now.placed slot.at i.0 i.1) }
     {
+        if !is_set(self.matched, u64::from(slot.at) * 2) {
+            return None;
+        }
         match &self.lookup {
             Some(lookup) => lookup.find(self.found, slot),
             None => instance_at(self.found, self.plan.left_nodes(), slot),

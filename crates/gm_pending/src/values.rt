@@ -11,12 +11,12 @@ ghost use Rattle.gm_arena.specs.ArenaMap.{IsLiveSlot};
 ghost use Rattle.gm_plan.specs.InArena.{slot_number};
 ghost use Rattle.gm_pending.specs.Results.{IsPrepared, IsAsked, AreAllGiven, IsResultDart, IsValueIn, instances_of, given_at, with_instances, name_of, place_of, rule_in};
 
-use crate::at::At;
 use crate::decided_orbits::DecidedOrbits;
 use crate::deciding_instance::DecidingInstance;
 use crate::pending::Pending;
 use gm_arena::{Slot, Steps};
 use gm_model::Value;
+use gm_walk::At;
 use std::sync::ledger::Ledger;
 
 impl Pending<'_, '_> {

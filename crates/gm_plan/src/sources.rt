@@ -24,7 +24,7 @@ pub struct Sources {
     pub assigned: NodeSet,
     /// The nodes whose letters are the labels of the embedding's type.
     pub exact: NodeSet,
-    /// Whether a collector may stand in an expression that is assigned to the embedding.
+    /// Whether a collector stands in an expression that is assigned to the embedding.
     pub collects: bool,
 }
 

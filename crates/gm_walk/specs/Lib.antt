@@ -5,3 +5,4 @@ pub mod Lent
 pub mod Cells
 pub mod Turns
 pub mod Seen
+pub mod Keys

@@ -3,6 +3,7 @@ ghost use Rattle.std.specs.List.{Contains};
 ghost use Rattle.gm_walk.specs.Marks.{IsMarked, numbers};
 ghost use Rattle.gm_walk.specs.Room.{Fits, TakesIn};
 
+use crate::mark::Mark;
 use gm_arena::{Arena, Slot};
 use gm_model::{MOST_DARTS, OutOfMemory};
 use std::alloc::Global;
@@ -25,6 +26,8 @@ pub struct Scratch {
     turns: Vec<u32>,
     /// Empty, or what was given back of what was lent for one list: it is kept for its room alone.
     list: Vec<Slot>,
+    /// Empty, or what was given back of what was lent for marks: it is kept for its room alone.
+    reached: Vec<Mark>,
 }
 
 impl Model for Scratch {
@@ -54,6 +57,7 @@ impl Scratch {
             slots: Vec::new(alloc),
             turns: Vec::new(alloc),
             list: Vec::new(alloc),
+            reached: Vec::new(alloc),
         }
     }
 
@@ -90,6 +94,23 @@ impl Scratch {
         ensures { self.new ≡ self.old }
     {
         self.list = slots;
+    }
+
+    /// An empty vector for marks, with the room that it had when it was last given back.
+    pub fn lend_marks(&mut self, alloc: Global) -> Vec<Mark>
+        ensures marks { result.items ≡ [] }
+        ensures stays { self.new ≡ self.old }
+    {
+        let mut marks = mem::replace(&mut self.reached, Vec::new(alloc));
+        marks.clear();
+        marks
+    }
+
+    /// Keeps the room of a vector for the next marks. What is in it is forgotten.
+    pub fn keep_marks(&mut self, marks: Vec<Mark>)
+        ensures { self.new ≡ self.old }
+    {
+        self.reached = marks;
     }
 
     /// Makes room for walks in the arena, and in any arena with no greater bound. A scratch that

@@ -257,7 +257,7 @@ pub returns-in_err-reserve-clause-room : goal.returns-in_err-reserve-clause-room
 returns-in_err-reserve-clause-room g c = still_above _ _ _ c.fit.ensures.kept (c.ready.ensures.room ∙ c.find.ensures.room)
 
 pub returns-clause-room : goal.returns-clause-room
-returns-clause-room g c = still_above _ _ _ c.fit.ensures.kept (ap (λ room. room.bound) (c.keep_rows.ensures ∙ c.keep_slots.ensures) ∙ c.ready.ensures.room ∙ c.find.ensures.room)
+returns-clause-room g c = still_above _ _ _ c.fit.ensures.kept (ap (λ room. room.bound) (c.keep_rows.ensures ∙ c.keep_room.ensures) ∙ c.ready.ensures.room ∙ c.find.ensures.room)
 
 pub returns-clause-no_more : goal.returns-clause-no_more
 returns-clause-no_more g c = tt

@@ -1,8 +1,8 @@
 use Rattle.std.proofs.Common.{◌++◌, ◌∷◌, [], take, sym, ap, ◌∙◌, subst}
 use Rattle.std.proofs.lemmas.List.{take_more}
-use Rattle.gm_pending.specs.declared.marks.Mark.{Mark}
+use Rattle.gm_walk.specs.declared.mark.Mark.{Mark}
 use Rattle.gm_plan.specs.Indices.{index_at}
-use Rattle.gm_pending.specs.Keys.{key_of}
+use Rattle.gm_walk.specs.Keys.{key_of}
 use Rattle.gm_pending.specs.Marks.{HasKey, IsIndex}
 use Rattle.gm_pending.proofs.Reached.{put_fresh, fresh_key}
 use Rattle.gm_pending.proofs.marks.index.Goals as goal

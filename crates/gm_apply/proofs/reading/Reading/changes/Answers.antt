@@ -1,32 +1,33 @@
-use Rattle.std.proofs.Common.{◌≡◌, length, refl, ap, subst, sym, ◌∙◌, arith}
+use Rattle.std.proofs.Common.{◌≡◌, length, ap, subst, sym, ◌∙◌, arith}
 use Rattle.std.proofs.lemmas.Result.{err_from_is_err_and}
 use Rattle.gm_model.specs.declared.schema.Schema.{Schema}
+use Rattle.gm_walk.specs.Room.{Room}
 use Rattle.gm_apply.specs.Reads.{HasRead}
 use Rattle.gm_apply.proofs.Asking.{none_read}
 use Rattle.gm_apply.proofs.Giving.{every_one, ended_building, ended_editing, has_edits}
 use Rattle.gm_apply.proofs.reading.Reading.changes.Goals as goal
 
-pub build-requires-clause-schema : goal.build-requires-clause-schema
-build-requires-clause-schema g c = c.requires.readable.1.schema
+pub build_in-requires-clause-schema : goal.build_in-requires-clause-schema
+build_in-requires-clause-schema g c = c.requires.readable.1.schema
 
-pub build-requires-clause-sound : goal.build-requires-clause-sound
-build-requires-clause-sound g c = c.requires.readable.1.sound
+pub build_in-requires-clause-sound : goal.build_in-requires-clause-sound
+build_in-requires-clause-sound g c = c.requires.readable.1.sound
 
-pub build-requires-clause-matched : goal.build-requires-clause-matched
-build-requires-clause-matched g c = (c.requires.readable.0, c.requires.readable.1.answer.matched)
+pub build_in-requires-clause-matched : goal.build_in-requires-clause-matched
+build_in-requires-clause-matched g c = (c.requires.readable.0, c.requires.readable.1.answer.matched)
 
 pub returns-in_err-pending-clause-edits : goal.returns-in_err-pending-clause-edits
 returns-in_err-pending-clause-edits g c hooks readable =
     let p = err_from_is_err_and c.from_residual.result c.from_residual.ensures.1 in
-    rw (p.1, p.2) (ended_building c.args.self.now hooks _ _ c.build.ensures.no_step)
+    rw (p.1, p.2) (ended_building c.args.self.now hooks _ _ c.build_in.ensures.no_step)
 
 pub returns-in_err-pending-clause-room : goal.returns-in_err-pending-clause-room
-returns-in_err-pending-clause-room g c = refl
+returns-in_err-pending-clause-room g c = ap (λ (r : Room). r.bound) c.lend_marks-room.ensures.stays
 
 pub loop-embed-init : goal.loop-embed-init
 loop-embed-init g c = record {
-  read = λ hooks readable. subst (λ n. HasRead c.args.self.now hooks c.in_ok-pending.pending 0 0 0 c.args.steps.now n) (sym c.build.ensures.no_step) (none_read c.args.self.now hooks c.in_ok-pending.pending c.args.steps.now c.in_ok-pending.ensures.pending);
-  room = refl;
+  read = λ hooks readable. subst (λ n. HasRead c.args.self.now hooks c.in_ok-pending.pending 0 0 0 c.args.steps.now n) (sym c.build_in.ensures.no_step) (none_read c.args.self.now hooks c.in_ok-pending.pending c.args.steps.now c.in_ok-pending.ensures.pending);
+  room = ap (λ (r : Room). r.bound) c.lend_marks-room.ensures.stays;
 }
 
 pub give_values-requires-clause-embed : goal.give_values-requires-clause-embed

@@ -14,7 +14,7 @@ returns-in_err-outcome-clause-cost g c = λ kept at.
     let app = c.args.self.now in
     let declared = c.index-as_slice-embed.result in
     let here = read_there c.as_slice.result.now app.map.schema.embeds c.args.embed declared c.index-as_slice-embed.is
-    (c.as_slice.ensures ∙ ap (λ (s : Schema). s.embeds) c.schema.ensures ∙ ap (λ (a : PendingOf). a.map.schema.embeds) c.self.view_is) c.requires in
+    (c.as_slice.ensures ∙ ap (λ (s : Schema). s.embeds) c.schema.ensures ∙ ap (λ (a : PendingOf). a.map.schema.embeds) c.self.view_is) c.requires.embed in
     subst (λ (k : Embed). IsWithinReach app c.args.embed k c.args.steps.now c.decide_nodes-outcome.new.steps) (some_same declared kept (sym here ∙ at))
     (within_reach app c.decide_nodes-outcome.ensures.prepared c.args.embed declared here c.decide_nodes-outcome.new.orbits.marks c.args.steps.now c.decide_nodes-outcome.new.steps
     c.decide_nodes-outcome.ensures.darts c.len.ensures.distinct c.decide_nodes-outcome.ensures.reached (omega (arith, c.decide_nodes-outcome.ensures.cost)))
@@ -24,7 +24,7 @@ returns-clause-cost g c = λ kept at.
     let app = c.args.self.now in
     let declared = c.index-as_slice-embed.result in
     let here = read_there c.as_slice.result.now app.map.schema.embeds c.args.embed declared c.index-as_slice-embed.is
-    (c.as_slice.ensures ∙ ap (λ (s : Schema). s.embeds) c.schema.ensures ∙ ap (λ (a : PendingOf). a.map.schema.embeds) c.self.view_is) c.requires in
+    (c.as_slice.ensures ∙ ap (λ (s : Schema). s.embeds) c.schema.ensures ∙ ap (λ (a : PendingOf). a.map.schema.embeds) c.self.view_is) c.requires.embed in
     subst (λ (k : Embed). IsWithinReach app c.args.embed k c.args.steps.now c.decide_nodes-outcome.new.steps) (some_same declared kept (sym here ∙ at))
     (within_reach app c.decide_nodes-outcome.ensures.prepared c.args.embed declared here c.decide_nodes-outcome.new.orbits.marks c.args.steps.now c.decide_nodes-outcome.new.steps
     c.decide_nodes-outcome.ensures.darts c.len.ensures.distinct c.decide_nodes-outcome.ensures.reached (omega (arith, c.decide_nodes-outcome.ensures.cost)))
@@ -35,7 +35,7 @@ returns-clause-deciders g c = λ kept at.
     let declared = c.index-as_slice-embed.result in
     let orbits = c.decide_nodes-outcome.new.orbits in
     let here = read_there c.as_slice.result.now app.map.schema.embeds c.args.embed declared c.index-as_slice-embed.is
-    (c.as_slice.ensures ∙ ap (λ (s : Schema). s.embeds) c.schema.ensures ∙ ap (λ (a : PendingOf). a.map.schema.embeds) c.self.view_is) c.requires in
+    (c.as_slice.ensures ∙ ap (λ (s : Schema). s.embeds) c.schema.ensures ∙ ap (λ (a : PendingOf). a.map.schema.embeds) c.self.view_is) c.requires.embed in
     subst (λ (k : Embed). AreDecidingInstances app c.args.embed k orbits.instances.items) (some_same declared kept (sym here ∙ at))
     (are_deciders app c.decide_nodes-outcome.ensures.prepared c.args.embed declared here orbits.instances.items orbits.marks c.in_ok-outcome.ensures.decided)
 
@@ -45,7 +45,7 @@ returns-clause-reached g c = λ kept at.
     let declared = c.index-as_slice-embed.result in
     let orbits = c.decide_nodes-outcome.new.orbits in
     let here = read_there c.as_slice.result.now app.map.schema.embeds c.args.embed declared c.index-as_slice-embed.is
-    (c.as_slice.ensures ∙ ap (λ (s : Schema). s.embeds) c.schema.ensures ∙ ap (λ (a : PendingOf). a.map.schema.embeds) c.self.view_is) c.requires in
+    (c.as_slice.ensures ∙ ap (λ (s : Schema). s.embeds) c.schema.ensures ∙ ap (λ (a : PendingOf). a.map.schema.embeds) c.self.view_is) c.requires.embed in
     subst (λ (k : Embed). AreReached app c.args.embed k orbits.instances.items orbits.marks) (some_same declared kept (sym here ∙ at))
     (are_reached app c.decide_nodes-outcome.ensures.prepared c.args.embed declared here orbits.instances.items orbits.marks c.in_ok-outcome.ensures.decided c.len.ensures.distinct)
 
@@ -57,12 +57,12 @@ returns-clause-few g c = c.in_ok-outcome.ensures.decided.few
 
 pub bounds-as_slice-embed : goal.bounds-as_slice-embed
 bounds-as_slice-embed g c =
-    subst (λ (es : List Embed). c.args.embed < length es) (sym (c.as_slice.ensures ∙ ap (λ (s : Schema). s.embeds) c.schema.ensures ∙ ap (λ (a : PendingOf). a.map.schema.embeds) c.self.view_is)) c.requires
+    subst (λ (es : List Embed). c.args.embed < length es) (sym (c.as_slice.ensures ∙ ap (λ (s : Schema). s.embeds) c.schema.ensures ∙ ap (λ (a : PendingOf). a.map.schema.embeds) c.self.view_is)) c.requires.embed
 
 pub decide_nodes-outcome-requires-clause-embed : goal.decide_nodes-outcome-requires-clause-embed
 decide_nodes-outcome-requires-clause-embed g c =
     read_there c.as_slice.result.now c.args.self.now.map.schema.embeds c.args.embed c.index-as_slice-embed.result c.index-as_slice-embed.is
-    (c.as_slice.ensures ∙ ap (λ (s : Schema). s.embeds) c.schema.ensures ∙ ap (λ (a : PendingOf). a.map.schema.embeds) c.self.view_is) c.requires
+    (c.as_slice.ensures ∙ ap (λ (s : Schema). s.embeds) c.schema.ensures ∙ ap (λ (a : PendingOf). a.map.schema.embeds) c.self.view_is) c.requires.embed
 
 pub returns-in_err-outcome-clause-least : goal.returns-in_err-outcome-clause-least
 returns-in_err-outcome-clause-least g c = c.decide_nodes-outcome.ensures.least
@@ -79,7 +79,7 @@ returns-clause-prepared g c = c.decide_nodes-outcome.ensures.prepared
 pub decide_nodes-outcome-requires-clause-earlier : goal.decide_nodes-outcome-requires-clause-earlier
 decide_nodes-outcome-requires-clause-earlier g c =
     let here = read_there c.as_slice.result.now c.args.self.now.map.schema.embeds c.args.embed c.index-as_slice-embed.result c.index-as_slice-embed.is
-    (c.as_slice.ensures ∙ ap (λ (s : Schema). s.embeds) c.schema.ensures ∙ ap (λ (a : PendingOf). a.map.schema.embeds) c.self.view_is) c.requires in
+    (c.as_slice.ensures ∙ ap (λ (s : Schema). s.embeds) c.schema.ensures ∙ ap (λ (a : PendingOf). a.map.schema.embeds) c.self.view_is) c.requires.embed in
     rw (c.new.ensures.items, c.new-2.ensures) (none_decided c.args.self.now (subst IsPrepared c.self.view_is c.self.invariant.0) c.args.embed c.index-as_slice-embed.result here)
 
 pub returns-in_err-outcome-clause-deciders : goal.returns-in_err-outcome-clause-deciders

@@ -45,4 +45,6 @@ invariant_of-self c =
           (λ embed at. c.requires.value embed (subst (λ (a : PendingOf). IsEmbedAt a.map.schema c.args.embed embed) c.self.view_is at))
           _ _ refl written refl,
       c.self.invariant.3,
+      c.self.invariant.4,
+      c.self.invariant.5,
     )

@@ -1,9 +1,11 @@
-use Rattle.std.proofs.Common.{◌≢◌, ℕ, MatchOption, subst}
+use Rattle.std.proofs.Common.{◌≢◌, ℕ, MatchOption, sym, ◌∙◌, subst}
+use Rattle.std.proofs.lemmas.Bool.{false≢true}
 use Rattle.gm_model.specs.Rules.{rule_of}
 use Rattle.gm_plan.specs.InArena.{slot_number}
 use Rattle.gm_plan.specs.Lookup.{IsWithin, IsAtSlot}
 use Rattle.gm_pending.specs.Results.{PendingOf, IsPrepared}
 use Rattle.gm_pending.proofs.Darts.{one_left_count}
+use Rattle.gm_pending.proofs.MatchedBits.{none_matched}
 use Rattle.gm_pending.specs.Answered.{IsLookedUp}
 use Rattle.gm_pending.proofs.pending.Pending.left_instance.Goals as goal
 
@@ -24,3 +26,10 @@ returns-in-None-clause-prepared c = subst IsPrepared c.self.view_is c.self.invar
 
 pub returns-in-None-clause-instance : goal.returns-in-None-clause-instance
 returns-in-None-clause-instance c = subst (λ (a : PendingOf). MatchOption c.instance_at.result ((x p : ℕ) → IsWithin a.placed x p → slot_number a.placed x p ≢ c.args.slot.at) (λ i. IsAtSlot a.placed c.args.slot.at i.0 i.1)) c.self.view_is c.instance_at.ensures
+
+pub returns-then-not-is_set-clause-prepared : goal.returns-then-not-is_set-clause-prepared
+returns-then-not-is_set-clause-prepared c = subst IsPrepared c.self.view_is c.self.invariant.0
+
+pub returns-then-not-is_set-clause-instance : goal.returns-then-not-is_set-clause-instance
+returns-then-not-is_set-clause-instance c = subst (λ (a : PendingOf). (x p : ℕ) → IsWithin a.placed x p → slot_number a.placed x p ≢ c.args.slot.at) c.self.view_is
+    (none_matched c.self.inside.found.now c.self.inside.matched c.args.slot.at c.self.invariant.4 (λ set. false≢true (sym c.if-not-is_set.true ∙ c.is_set.ensures.1 (rw c.from.ensures set))))

@@ -1,6 +1,6 @@
 use Rattle.std.proofs.Common.{◌≡◌, ◌+◌, ◌<◌, List, length, get_or, None, sym, ap, ◌∙◌, subst, arith, ◌*◌, ◌≤◌}
 use Rattle.std.proofs.lemmas.Option.{slice_get_read}
-use Rattle.gm_pending.specs.declared.marks.Mark.{Mark}
+use Rattle.gm_walk.specs.declared.mark.Mark.{Mark}
 use Rattle.gm_pending.specs.Reached.{IsSpreadTo}
 use Rattle.gm_pending.specs.Results.{name_of}
 use Rattle.gm_pending.proofs.Following.{stays_longer, walked_cost, walked_on, walked_some}
@@ -11,25 +11,25 @@ use Rattle.gm_pending.proofs.Spread.{marked_kept, marked_darts, nothing_grown, s
 use Rattle.gm_theory.proofs.Lists.{get_contained}
 use Rattle.gm_pending.proofs.pending.Pending.reach.Goals as goal
 
-pub returns-in_err-mark-clause-darts : goal.returns-in_err-mark-clause-darts
-returns-in_err-mark-clause-darts g c = rw c.in_err-mark.ensures.err c.requires.darts
+pub returns-in_err-mark_first-clause-darts : goal.returns-in_err-mark_first-clause-darts
+returns-in_err-mark_first-clause-darts g c = rw c.in_err-mark_first.ensures.err c.requires.darts
 
-pub returns-in_err-mark-clause-grown : goal.returns-in_err-mark-clause-grown
-returns-in_err-mark-clause-grown g c = λ result unfolded closed. rw c.in_err-mark.ensures.err
+pub returns-in_err-mark_first-clause-grown : goal.returns-in_err-mark_first-clause-grown
+returns-in_err-mark_first-clause-grown g c = λ result unfolded closed. rw c.in_err-mark_first.ensures.err
     (nothing_grown c.args.self.now c.labels.ensures.prepared c.args.embed c.args.declared.now c.requires.embed result unfolded c.args.marks.now c.args.index (name_of c.args.self.now c.args.at))
 
 pub loop-next-init : goal.loop-next-init
 loop-next-init g c =
     let app = c.args.self.now in
     let prepared = c.labels.ensures.prepared in
-    let more = c.in_ok-mark.ensures.ok in
+    let more = c.in_ok-mark_first.ensures.ok in
     let start : c.len-next.result ≡ length c.args.marks.now = c.len-next.ensures.len in
     record {
-      darts = marked_darts app prepared c.args.marks.now c.mark.new.self c.args.at c.args.index None more c.requires.dart c.requires.darts;
+      darts = marked_darts app prepared c.args.marks.now c.mark_first.new.self c.args.at c.args.index None more c.requires.dart c.requires.darts;
       late = omega (arith, start);
-      within = omega (arith, start, stays_longer c.args.marks.now c.mark.new.self (marked_kept app prepared c.args.marks.now c.mark.new.self c.args.at c.args.index None more));
-      spread = λ result unfolded closed. subst (λ n. IsSpreadTo app c.args.declared.now result c.args.marks.now c.mark.new.self c.args.index (name_of app c.args.at) n 0) (sym start)
-          (spread_starts app prepared c.args.embed c.args.declared.now c.requires.embed result unfolded c.args.marks.now c.mark.new.self c.args.at c.args.index closed c.requires.absent more);
+      within = omega (arith, start, stays_longer c.args.marks.now c.mark_first.new.self (marked_kept app prepared c.args.marks.now c.mark_first.new.self c.args.at c.args.index None more));
+      spread = λ result unfolded closed. subst (λ n. IsSpreadTo app c.args.declared.now result c.args.marks.now c.mark_first.new.self c.args.index (name_of app c.args.at) n 0) (sym start)
+          (spread_starts app prepared c.args.embed c.args.declared.now c.requires.embed result unfolded c.args.marks.now c.mark_first.new.self c.args.at c.args.index closed c.requires.absent more);
       cost = rw start (omega arith);
       least = omega arith;
     }
@@ -76,11 +76,11 @@ spread-requires-clause-from g c =
     let l = c.loop-next in
     get_contained l.marks l.next _ (slice_get_read l.marks _ l.next c.index-as_slice-next.result c.len.ensures.len c.loop-next-test.true (c.index-as_slice-next.is ∙ ap (λ (marks : List Mark). get_or marks l.next c.index-as_slice-next.result) c.as_slice.ensures.reached))
 
-pub returns-in_err-mark-clause-cost : goal.returns-in_err-mark-clause-cost
-returns-in_err-mark-clause-cost g c = rw c.in_err-mark.ensures.err (omega arith)
+pub returns-in_err-mark_first-clause-cost : goal.returns-in_err-mark_first-clause-cost
+returns-in_err-mark_first-clause-cost g c = rw c.in_err-mark_first.ensures.err (omega arith)
 
-pub returns-in_err-mark-clause-least : goal.returns-in_err-mark-clause-least
-returns-in_err-mark-clause-least g c = omega arith
+pub returns-in_err-mark_first-clause-least : goal.returns-in_err-mark_first-clause-least
+returns-in_err-mark_first-clause-least g c = omega arith
 
 pub returns-in_err-spread-clause-darts : goal.returns-in_err-spread-clause-darts
 returns-in_err-spread-clause-darts g c = c.spread.ensures.darts
@@ -110,11 +110,11 @@ pub returns-clause-least : goal.returns-clause-least
 returns-clause-least g c = c.loop-next.invariant.least
 
 pub follow-requires-clause-darts : goal.follow-requires-clause-darts
-follow-requires-clause-darts g c = marked_darts c.args.self.now c.labels.ensures.prepared c.args.marks.now c.mark.new.self c.args.at c.args.index None c.in_ok-mark.ensures.ok c.requires.dart c.requires.darts
+follow-requires-clause-darts g c = marked_darts c.args.self.now c.labels.ensures.prepared c.args.marks.now c.mark_first.new.self c.args.at c.args.index None c.in_ok-mark_first.ensures.ok c.requires.dart c.requires.darts
 
 pub returns-in_err-follow-clause-grown : goal.returns-in_err-follow-clause-grown
 returns-in_err-follow-clause-grown g c = λ result unfolded closed. c.follow.ensures.grown result c.args.marks.now c.in-Some.other unfolded
-    (follow_starts c.args.self.now c.labels.ensures.prepared c.args.embed c.args.declared.now c.requires.embed result unfolded c.args.marks.now c.mark.new.self c.args.at c.args.index c.in-Some.one c.in-Some.other c.in-Some.ensures closed c.requires.absent c.in_ok-mark.ensures.ok)
+    (follow_starts c.args.self.now c.labels.ensures.prepared c.args.embed c.args.declared.now c.requires.embed result unfolded c.args.marks.now c.mark_first.new.self c.args.at c.args.index c.in-Some.one c.in-Some.other c.in-Some.ensures closed c.requires.absent c.in_ok-mark_first.ensures.ok)
 
 pub returns-in-Some-clause-spread : goal.returns-in-Some-clause-spread
 returns-in-Some-clause-spread g c =
@@ -125,7 +125,7 @@ returns-in-Some-clause-spread g c =
     let one = c.in-Some.one in
     let other = c.in-Some.other in
     on_ok c.follow-in-Some.result c.follow-in-Some.ensures.followed (λ followed result unfolded closed.
-    let first = c.in_ok-follow.ensures.followed result c.args.marks.now other unfolded (follow_starts app prepared c.args.embed c.args.declared.now c.requires.embed result unfolded c.args.marks.now c.mark.new.self c.args.at c.args.index one other c.in-Some.ensures closed c.requires.absent c.in_ok-mark.ensures.ok) in
+    let first = c.in_ok-follow.ensures.followed result c.args.marks.now other unfolded (follow_starts app prepared c.args.embed c.args.declared.now c.requires.embed result unfolded c.args.marks.now c.mark_first.new.self c.args.at c.args.index one other c.in-Some.ensures closed c.requires.absent c.in_ok-mark_first.ensures.ok) in
     let second = followed result c.args.marks.now (dim + 1) unfolded (follow_other app prepared c.args.embed c.args.declared.now c.requires.embed result unfolded c.args.marks.now c.follow.new.marks c.args.index d other (dim + 1) first) in
     follow_spreads app prepared c.args.embed c.args.declared.now c.requires.embed result unfolded c.args.marks.now c.follow-in-Some.new.marks c.args.index d second)
 
@@ -135,7 +135,7 @@ returns-in-Some-clause-grown g c = λ result unfolded closed.
     let prepared = c.labels.ensures.prepared in
     let dim = app.map.schema.dim in
     let other = c.in-Some.other in
-    let first = c.in_ok-follow.ensures.followed result c.args.marks.now other unfolded (follow_starts app prepared c.args.embed c.args.declared.now c.requires.embed result unfolded c.args.marks.now c.mark.new.self c.args.at c.args.index c.in-Some.one other c.in-Some.ensures closed c.requires.absent c.in_ok-mark.ensures.ok) in
+    let first = c.in_ok-follow.ensures.followed result c.args.marks.now other unfolded (follow_starts app prepared c.args.embed c.args.declared.now c.requires.embed result unfolded c.args.marks.now c.mark_first.new.self c.args.at c.args.index c.in-Some.one other c.in-Some.ensures closed c.requires.absent c.in_ok-mark_first.ensures.ok) in
     c.follow-in-Some.ensures.grown result c.args.marks.now (dim + 1) unfolded (follow_other app prepared c.args.embed c.args.declared.now c.requires.embed result unfolded c.args.marks.now c.follow.new.marks c.args.index (name_of app c.args.at) other (dim + 1) first)
 
 pub returns-in-Some-clause-cost : goal.returns-in-Some-clause-cost
@@ -144,12 +144,12 @@ returns-in-Some-clause-cost g c =
     let labels = c.labels.ensures.prepared.lawful.schema.labels in
     let pair = c.in-Some.ensures in
     let wide : 1 ≤ app.map.schema.dim = pair_wide app.map.schema.dim c.in-Some.one c.in-Some.other pair.apart (labels c.args.embed c.in-Some.one c.args.declared.now c.requires.embed pair.has_one) (labels c.args.embed c.in-Some.other c.args.declared.now c.requires.embed pair.has_other) in
-    let long : length c.mark.new.self ≡ length c.args.marks.now + 1 = one_longer c.args.marks.now c.mark.new.self c.args.at c.args.index None c.in_ok-mark.ensures.ok c.requires.absent in
+    let long : length c.mark_first.new.self ≡ length c.args.marks.now + 1 = one_longer c.args.marks.now c.mark_first.new.self c.args.at c.args.index None c.in_ok-mark_first.ensures.ok c.requires.absent in
     pair_cost app.map.schema.dim (length c.args.marks.now) (length c.follow-in-Some.new.marks) c.args.steps.now c.follow-in-Some.new.steps wide
     (omega (arith, long, c.follow.ensures.longer, c.follow-in-Some.ensures.longer)) (omega (arith, long, c.follow.ensures.cost, c.follow-in-Some.ensures.cost))
 
 pub follow-requires-clause-here : goal.follow-requires-clause-here
-follow-requires-clause-here g c = key_marked c.args.marks.now c.mark.new.self c.args.at c.args.index None c.in_ok-mark.ensures.ok
+follow-requires-clause-here g c = key_marked c.args.marks.now c.mark_first.new.self c.args.at c.args.index None c.in_ok-mark_first.ensures.ok
 
 pub follow-requires-in-Some-clause-pair : goal.follow-requires-in-Some-clause-pair
 follow-requires-in-Some-clause-pair g c = pair_turned c.args.declared.now.mask c.in-Some.one c.in-Some.other c.in-Some.ensures

@@ -1,7 +1,7 @@
 //! A dart of a result in one number.
 ghost use Rattle.std.specs.Prelude.{◌≡◌, ◌<◌, false, IsTrue};
-ghost use Rattle.gm_pending.specs.declared.at.At.TheVariants.{Old, New};
-ghost use Rattle.gm_pending.specs.Keys.{key_of, is_old};
+ghost use Rattle.gm_walk.specs.declared.at.At.TheVariants.{Old, New};
+ghost use Rattle.gm_walk.specs.Keys.{key_of, is_old};
 
 use crate::at::At;
 use gm_arena::Slot;
@@ -10,13 +10,13 @@ use std::marker::Model;
 /// A dart of a result as one number, which no other dart has: so a walk compares, keeps and looks up
 /// numbers alone. Contracts see the dart.
 #[derive(Clone, Copy)]
-pub(crate) struct PackedAt {
+pub struct PackedAt {
     key: u64,
 }
 
 impl Model for PackedAt {
-    ghost use Rattle.gm_pending.specs.declared.at.At.{At};
-    ghost use Rattle.gm_pending.specs.Keys.{at_of, key_of, IsKey};
+    ghost use Rattle.gm_walk.specs.declared.at.At.{At};
+    ghost use Rattle.gm_walk.specs.Keys.{at_of, key_of, IsKey};
 
     ghost Value = { At };
 
@@ -32,7 +32,7 @@ impl Model for PackedAt {
 impl PackedAt {
     /// The dart of the old map at the slot.
     #[inline(always)]
-    pub(crate) fn old(slot: Slot) -> PackedAt
+    pub fn old(slot: Slot) -> PackedAt
         ensures { result ≡ Old slot }
     {
         PackedAt {
@@ -42,7 +42,7 @@ impl PackedAt {
 
     /// The new dart of an added node at a position.
     #[inline(always)]
-    pub(crate) fn new(node: u8, position: u32) -> PackedAt
+    pub fn new(node: u8, position: u32) -> PackedAt
         requires { node < 32 }
         ensures { result ≡ New node position }
     {
@@ -53,7 +53,7 @@ impl PackedAt {
 
     /// Whether it is a dart of the old map.
     #[inline(always)]
-    pub(crate) fn is_old(self) -> bool
+    pub fn is_old(self) -> bool
         ensures { result ≡ is_old self }
     {
         self.key % 2 == 0
@@ -61,7 +61,7 @@ impl PackedAt {
 
     /// The slot of a dart of the old map.
     #[inline(always)]
-    pub(crate) fn slot(self) -> Slot
+    pub fn slot(self) -> Slot
         requires { IsTrue (is_old self) }
         ensures { self ≡ Old result }
     {
@@ -72,7 +72,7 @@ impl PackedAt {
 
     /// The dart as callers see it.
     #[inline(always)]
-    pub(crate) fn unpack(self) -> At
+    pub fn unpack(self) -> At
         ensures { result ≡ self }
     {
         if self.is_old() {
@@ -86,7 +86,7 @@ impl PackedAt {
 
     /// The number.
     #[inline(always)]
-    pub(crate) fn key(self) -> u64
+    pub fn key(self) -> u64
         ensures { result ≡ key_of self }
     {
         self.key

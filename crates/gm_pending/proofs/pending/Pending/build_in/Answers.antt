@@ -4,7 +4,8 @@ use Rattle.gm_model.specs.Rules.{rule_of}
 use Rattle.gm_plan.specs.Plans.{IsPlanned}
 use Rattle.gm_pending.specs.Results.{IsPrepared}
 use Rattle.gm_pending.proofs.Answered.{no_answers, nothing_answered, nothing_prepared}
-use Rattle.gm_pending.proofs.pending.Pending.build.Goals as goal
+use Rattle.gm_pending.proofs.MatchedBits.{all_seen}
+use Rattle.gm_pending.proofs.pending.Pending.build_in.Goals as goal
 
 pub returns-clause-pending : goal.returns-clause-pending
 returns-clause-pending g c = nothing_answered c.args.arena.now c.args.plan.now.table c.args.found.now c.in_ok-orbits.orbits.items
@@ -22,4 +23,6 @@ invariant_of-result g c = (
   no_answers _ (length c.args.arena.now.schema.embeds) c.in_ok-orbits.orbits.items
       (c.in_ok-orbits.ensures ∙ ap (λ embeds. replicate (length embeds) None) (c.as_slice.ensures ∙ ap (λ (s : Schema). s.embeds) c.schema-3.ensures)),
   tt,
+  all_seen c.args.found.now,
+  c.requires.room,
 )
