@@ -2,8 +2,9 @@
 //!
 //! `read_text` knows the grammar, its limits and the schema's declarations alone. Whether the darts
 //! that it lists are a map is tested afterwards.
-ghost use Rattle.std.specs.Prelude.{◌≡◌, ℕ, ◌+◌, ◌*◌, ◌≤◌, List, [], ◌∷◌, length, pos, replicate, Bool, IfOk, IfErr, IfSome, IfNone, OnOk};
+ghost use Rattle.std.specs.Prelude.{◌≡◌, ℕ, ◌+◌, ◌*◌, ◌≤◌, List, [], ◌∷◌, length, pos, replicate, Bool, IsTrue, IfOk, IfErr, IfSome, IfNone, OnOk};
 ghost use Rattle.gm_model.specs.declared.schema.Schema.{Schema};
+ghost use Rattle.gm_model.specs.Tokens as tokens;
 ghost use Rattle.gm_model.specs.Limits.{most_darts, most_names};
 ghost use Rattle.gm_model.specs.Maps.{IsSchema, IsSound};
 ghost use Rattle.gm_arena.specs.ArenaAsMap.{as_map};
@@ -20,13 +21,13 @@ ghost use Rattle.gm_mapfile.specs.declared.version.MapVersion.{MapVersion};
 
 use crate::building::build;
 use crate::fault::{MapFault, NoMap};
-use crate::values::read_values;
+use crate::values::{Guesses, read_values};
 use crate::version::MapVersion;
-use crate::words::{Numeral, read_number, read_word, small_numeral};
+use crate::words::{Numeral, numeral_behind, read_number, read_word};
 use gm_arena::{Arena, Steps};
 use gm_laws::{LawFault, MapBreach, check_map};
 use gm_model::{Embed, LimitKind, MOST_DARTS, MOST_NAMES, Name, Schema, Value};
-use gm_text::{Lexer, SchemaFault, read_schema};
+use gm_text::{Guess, Lexer, SchemaFault, read_schema};
 use std::alloc::Global;
 use std::sync::ledger::Ledger;
 
@@ -133,15 +134,16 @@ fn read_name(lexer: &mut Lexer<'_>) -> Result<u32, SchemaFault>
     Ok(value as u32)
 }
 
-/// A name that stands next and is small, or else the lexer stays.
+/// A name that stands next behind this blank and is small, or else the lexer stays.
 // Inlined, as `read_number` is.
 #[inline(always)]
-fn small_dart_name(lexer: &mut Lexer<'_>) -> Option<u32>
+fn small_dart_name(lexer: &mut Lexer<'_>, blank: u8, guess: &mut Guess) -> Option<u32>
+    requires { IsTrue (tokens.is_blank blank) }
     ensures takes { IfSome result (λ name. Takes (TheNumber DartName ∷ []) (pos name ∷ []) lexer.old lexer.new) }
     ensures none { IfNone result (lexer.new ≡ lexer.old) }
 {
     let mut ahead = lexer.fork();
-    let Numeral { value, .. } = small_numeral(&mut ahead)?;
+    let Numeral { value, .. } = numeral_behind(&mut ahead, Some(blank), guess)?;
     if value >= u64::from(MOST_NAMES) {
         return None;
     }
@@ -153,7 +155,12 @@ fn small_dart_name(lexer: &mut Lexer<'_>) -> Option<u32>
 /// read where there is no room for all.
 // Inlined, as `read_number` is. The lexer is copied, so that the copy stays in registers.
 #[inline(always)]
-fn read_small_dart_names(lexer: &mut Lexer<'_>, count: usize, names: &mut Vec<u32>) -> usize
+fn read_small_dart_names(
+    lexer: &mut Lexer<'_>,
+    guess: &mut Guess,
+    count: usize,
+    names: &mut Vec<u32>,
+) -> usize
     ensures reads { ReadsNames result lexer.old lexer.new names.old.items names.new.items }
     ensures few { result ≤ count }
 {
@@ -162,11 +169,13 @@ fn read_small_dart_names(lexer: &mut Lexer<'_>, count: usize, names: &mut Vec<u3
     }
     let mut ahead = lexer.fork();
     let mut done = 0;
+    let mut blank = b'\n';
     while done < count {
-        let Some(name) = small_dart_name(&mut ahead) else {
+        let Some(name) = small_dart_name(&mut ahead, blank, guess) else {
             break;
         };
         names.push_reserved(name);
+        blank = b' ';
         done += 1;
     }
     *lexer = ahead;
@@ -176,11 +185,16 @@ fn read_small_dart_names(lexer: &mut Lexer<'_>, count: usize, names: &mut Vec<u3
 /// So many names, behind those before them.
 // Inlined, as `read_number` is.
 #[inline(always)]
-fn read_names(lexer: &mut Lexer<'_>, count: usize, names: &mut Vec<u32>) -> Result<(), SchemaFault>
+fn read_names(
+    lexer: &mut Lexer<'_>,
+    guess: &mut Guess,
+    count: usize,
+    names: &mut Vec<u32>,
+) -> Result<(), SchemaFault>
     ensures reads { OnOk result (ReadsNames count lexer.old lexer.new names.old.items names.new.items) }
     ensures stops { IfErr result (Misses (replicate count (TheNumber DartName)) lexer.old) }
 {
-    let first = read_small_dart_names(lexer, count, names);
+    let first = read_small_dart_names(lexer, guess, count, names);
     for _ in first..count {
         names.push(read_name(lexer)?)?;
     }
@@ -211,9 +225,16 @@ fn read_darts(
     let mut values = Vec::with_capacity(alloc, room * embeds.len())?;
     // The copy stays in registers.
     let mut ahead = lexer.fork();
+    // Names and components have guesses of their own, since a line's names have more digits.
+    let mut guess = Guess::new();
+    let mut guesses = Guesses {
+        x: guess,
+        y: guess,
+        z: guess,
+    };
     for _ in 0..count {
-        read_names(&mut ahead, width, &mut numbers)?;
-        read_values(&mut ahead, embeds, &mut values)?;
+        read_names(&mut ahead, &mut guess, width, &mut numbers)?;
+        read_values(&mut ahead, &mut guesses, embeds, &mut values)?;
     }
     *lexer = ahead;
     Ok(Lines { numbers, values })

@@ -1,5 +1,5 @@
 //! The values of a dart, read from its line.
-ghost use Rattle.std.specs.Prelude.{◌≡◌, ℕ, false, ◌<◌, ◌≤◌, [], ◌∷◌, codes, IsTrue, MatchOption, IfOk, IfErr, OnOk, OnErr};
+ghost use Rattle.std.specs.Prelude.{◌≡◌, ℕ, false, ◌<◌, ◌≤◌, [], ◌∷◌, codes, IsTrue, MatchOption, IfOk, IfErr, IfSome, OnOk, OnErr};
 ghost use Rattle.gm_model.specs.declared.value.Kind.TheVariants as kinds;
 ghost use Rattle.gm_model.specs.Tokens as tokens;
 ghost use Rattle.gm_model.specs.Expressions.{components};
@@ -8,9 +8,20 @@ ghost use Rattle.gm_text.specs.ValueText.{is_channel};
 ghost use Rattle.gm_mapfile.specs.Words.{IsSignedNext, IsNoSignedNext};
 ghost use Rattle.gm_mapfile.specs.MapReading.{Takes, Misses, TheSign, Component, value_wants, values_wants, ReadsValues};
 
-use crate::words::{Numeral, read_number, read_sign, small_numeral};
+use crate::words::{Numeral, numeral_behind, read_number, read_sign};
 use gm_model::{Embed, Kind, LimitKind, TokenKind, Value};
-use gm_text::{Lexer, SchemaFault, next_token, signed_value};
+use gm_text::{Guess, Lexer, SchemaFault, next_token, signed_value};
+
+/// The blank that stands before most values and components.
+const SPACE: Option<u8> = Some(b' ');
+
+/// How many digits the components of a value are guessed to have.
+#[derive(Clone, Copy)]
+pub(crate) struct Guesses {
+    pub x: Guess,
+    pub y: Guess,
+    pub z: Guess,
+}
 
 /// A number with a minus before it or without, and where the number stands.
 struct Signed {
@@ -64,12 +75,18 @@ fn read_signed_numeral(lexer: &mut Lexer<'_>) -> Result<Signed, SchemaFault>
 /// A component of a value, of a colour or not. Most are small, without a minus.
 // Inlined, as `read_number` is.
 #[inline(always)]
-fn read_component(lexer: &mut Lexer<'_>, colour: bool) -> Result<i64, SchemaFault>
+fn read_component(
+    lexer: &mut Lexer<'_>,
+    blank: Option<u8>,
+    guess: &mut Guess,
+    colour: bool,
+) -> Result<i64, SchemaFault>
+    requires blank { IfSome blank (λ b. IsTrue (tokens.is_blank b)) }
     ensures takes { IfOk result (λ n. Takes (Component colour ∷ []) (n ∷ []) lexer.old lexer.new) }
     ensures channel { IfOk result (λ n. IsTrue colour → IsTrue (is_channel n)) }
     ensures misses { IfErr result (Misses (Component colour ∷ []) lexer.old) }
 {
-    let Some(Numeral { value, place }) = small_numeral(lexer) else {
+    let Some(Numeral { value, place }) = numeral_behind(lexer, blank, guess) else {
         return read_other_component(lexer, colour);
     };
     if colour && value > 255 {
@@ -115,42 +132,47 @@ fn read_any_component(lexer: &mut Lexer<'_>, colour: bool) -> Result<i64, Schema
 /// A sign around the components of a value.
 // Inlined, as `read_number` is.
 #[inline(always)]
-fn read_bracket(lexer: &mut Lexer<'_>, sign: u8) -> Result<(), SchemaFault>
+fn read_bracket(lexer: &mut Lexer<'_>, blank: Option<u8>, sign: u8) -> Result<(), SchemaFault>
+    requires blank { IfSome blank (λ b. IsTrue (tokens.is_blank b)) }
     requires sign { IsTrue (tokens.is_sign sign) }
     requires alone { (c : ℕ) → tokens.is_two_byte_sign sign c ≡ false }
     ensures takes { OnOk result (Takes (TheSign (sign ∷ []) ∷ []) [] lexer.old lexer.new) }
     ensures misses { IfErr result (Misses (TheSign (sign ∷ []) ∷ []) lexer.old) }
 {
-    read_sign(lexer, sign)
+    read_sign(lexer, blank, sign)
 }
 
 /// Three components behind the sign before them, with the sign behind them.
 // Inlined, as `read_number` is, so that vectors and colours are each read without a test which it is.
 #[inline(always)]
-fn read_triple(lexer: &mut Lexer<'_>, colour: bool) -> Result<(i64, i64, i64), SchemaFault>
+fn read_triple(
+    lexer: &mut Lexer<'_>,
+    guesses: &mut Guesses,
+    colour: bool,
+) -> Result<(i64, i64, i64), SchemaFault>
     ensures takes { IfOk result (λ xs. Takes (TheSign (codes "(") ∷ Component colour ∷ Component colour ∷ Component colour ∷ TheSign (codes ")") ∷ []) (xs.0 ∷ xs.1 ∷ xs.2 ∷ []) lexer.old lexer.new) }
     ensures channels { IfOk result (λ xs. IsTrue colour → IsTrue (is_channel xs.0) × IsTrue (is_channel xs.1) × IsTrue (is_channel xs.2)) }
     ensures misses { IfErr result (Misses (TheSign (codes "(") ∷ Component colour ∷ Component colour ∷ Component colour ∷ TheSign (codes ")") ∷ []) lexer.old) }
 {
-    read_bracket(lexer, b'(')?;
-    let x = read_component(lexer, colour)?;
-    let y = read_component(lexer, colour)?;
-    let z = read_component(lexer, colour)?;
-    read_bracket(lexer, b')')?;
+    read_bracket(lexer, SPACE, b'(')?;
+    let x = read_component(lexer, None, &mut guesses.x, colour)?;
+    let y = read_component(lexer, SPACE, &mut guesses.y, colour)?;
+    let z = read_component(lexer, SPACE, &mut guesses.z, colour)?;
+    read_bracket(lexer, None, b')')?;
     Ok((x, y, z))
 }
 
 // Inlined, as `read_triple` is.
 #[inline(always)]
-fn read_pair(lexer: &mut Lexer<'_>) -> Result<Value, SchemaFault>
+fn read_pair(lexer: &mut Lexer<'_>, guesses: &mut Guesses) -> Result<Value, SchemaFault>
     ensures takes { IfOk result (λ value. Takes (value_wants kinds.Vec2) (components value) lexer.old lexer.new) }
     ensures kind { IfOk result (λ value. kind_of value ≡ kinds.Vec2) }
     ensures misses { IfErr result (Misses (value_wants kinds.Vec2) lexer.old) }
 {
-    read_bracket(lexer, b'(')?;
-    let x = read_component(lexer, false)?;
-    let y = read_component(lexer, false)?;
-    read_bracket(lexer, b')')?;
+    read_bracket(lexer, SPACE, b'(')?;
+    let x = read_component(lexer, None, &mut guesses.x, false)?;
+    let y = read_component(lexer, SPACE, &mut guesses.y, false)?;
+    read_bracket(lexer, None, b')')?;
     Ok(Value::Vec2(x, y))
 }
 
@@ -162,26 +184,30 @@ fn read_truth(lexer: &mut Lexer<'_>) -> Result<Value, SchemaFault>
     ensures kind { IfOk result (λ value. kind_of value ≡ kinds.Bool) }
     ensures misses { IfErr result (Misses (value_wants kinds.Bool) lexer.old) }
 {
-    read_bracket(lexer, b'(')?;
-    read_bracket(lexer, b')')?;
+    read_bracket(lexer, SPACE, b'(')?;
+    read_bracket(lexer, None, b')')?;
     Ok(Value::Bool(false))
 }
 
-fn read_value(lexer: &mut Lexer<'_>, kind: Kind) -> Result<Value, SchemaFault>
+fn read_value(
+    lexer: &mut Lexer<'_>,
+    guesses: &mut Guesses,
+    kind: Kind,
+) -> Result<Value, SchemaFault>
     ensures takes { IfOk result (λ value. Takes (value_wants kind) (components value) lexer.old lexer.new) }
     ensures kind { IfOk result (λ value. kind_of value ≡ kind) }
     ensures misses { IfErr result (Misses (value_wants kind) lexer.old) }
 {
     match kind {
-        Kind::Int => Ok(Value::Int(read_component(lexer, false)?)),
+        Kind::Int => Ok(Value::Int(read_component(lexer, SPACE, &mut guesses.x, false)?)),
         Kind::Bool => read_truth(lexer),
-        Kind::Vec2 => read_pair(lexer),
+        Kind::Vec2 => read_pair(lexer, guesses),
         Kind::Vec3 => {
-            let (x, y, z) = read_triple(lexer, false)?;
+            let (x, y, z) = read_triple(lexer, guesses, false)?;
             Ok(Value::Vec3(x, y, z))
         }
         Kind::Rgb => {
-            let (red, green, blue) = read_triple(lexer, true)?;
+            let (red, green, blue) = read_triple(lexer, guesses, true)?;
             Ok(Value::Rgb(red as u8, green as u8, blue as u8))
         }
     }
@@ -192,6 +218,7 @@ fn read_value(lexer: &mut Lexer<'_>, kind: Kind) -> Result<Value, SchemaFault>
 #[inline(always)]
 pub(crate) fn read_values(
     lexer: &mut Lexer<'_>,
+    guesses: &mut Guesses,
     embeds: &[Embed],
     values: &mut Vec<Value>,
 ) -> Result<(), SchemaFault>
@@ -199,7 +226,7 @@ pub(crate) fn read_values(
     ensures stops { IfErr result (Misses (values_wants embeds.now) lexer.old) }
 {
     for embed in embeds {
-        let value = read_value(lexer, embed.kind)?;
+        let value = read_value(lexer, guesses, embed.kind)?;
         values.push(value)?;
     }
     Ok(())

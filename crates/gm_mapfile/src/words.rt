@@ -4,7 +4,7 @@ ghost use Rattle.gm_model.specs.Symbols.{Word, Sign};
 ghost use Rattle.gm_model.specs.Tokens as tokens;
 ghost use Rattle.gm_mapfile.specs.Words.{StandsNext, IsNumberNext, IsOtherNext, IsNoNumberNext};
 
-use gm_text::{Lexer, SchemaFault, SmallNumber, TokenKind, next_token};
+use gm_text::{Guess, Lexer, SchemaFault, SmallNumber, TokenKind, next_token};
 
 /// A number of the text, and where it stands.
 #[derive(Clone, Copy)]
@@ -26,16 +26,22 @@ pub(crate) fn read_word(lexer: &mut Lexer<'_>, word: &[u8]) -> Result<(), Schema
     Ok(())
 }
 
-/// A sign of the format that has one byte, which mostly stands next or behind one blank.
+/// A sign of the format that has one byte. It mostly stands behind this blank, or next where none is
+/// named.
 // Inlined, as `read_number` is.
 #[inline(always)]
-pub(crate) fn read_sign(lexer: &mut Lexer<'_>, sign: u8) -> Result<(), SchemaFault>
+pub(crate) fn read_sign(
+    lexer: &mut Lexer<'_>,
+    blank: Option<u8>,
+    sign: u8,
+) -> Result<(), SchemaFault>
+    requires blank { IfSome blank (λ b. IsTrue (tokens.is_blank b)) }
     requires sign { IsTrue (tokens.is_sign sign) }
     requires alone { (c : ℕ) → tokens.is_two_byte_sign sign c ≡ false }
     ensures next { IfOk result (λ _. StandsNext (Sign (sign ∷ [])) lexer.old lexer.new) }
     ensures other { IfErr result (IsOtherNext (Sign (sign ∷ [])) lexer.old) }
 {
-    if lexer.small_sign(sign) {
+    if lexer.sign_behind(blank, sign) {
         return Ok(());
     }
     read_sign_token(lexer, &[sign])
@@ -89,6 +95,26 @@ pub(crate) fn small_numeral(lexer: &mut Lexer<'_>) -> Option<Numeral>
     ensures none { IfNone result (lexer.new ≡ lexer.old) }
 {
     let SmallNumber { value, place } = lexer.small_number()?;
+    Some(Numeral {
+        value: u64::from(value),
+        place,
+    })
+}
+
+/// The same behind this blank, or with nothing before it where none is named.
+// Inlined, as `read_number` is.
+#[inline(always)]
+pub(crate) fn numeral_behind(
+    lexer: &mut Lexer<'_>,
+    blank: Option<u8>,
+    guess: &mut Guess,
+) -> Option<Numeral>
+    requires blank { IfSome blank (λ b. IsTrue (tokens.is_blank b)) }
+    ensures next { IfSome result (λ found. IsNumberNext lexer.old found.value found.place lexer.new) }
+    ensures small { IfSome result (λ found. found.value < 2 ^ 32) }
+    ensures none { IfNone result (lexer.new ≡ lexer.old) }
+{
+    let SmallNumber { value, place } = lexer.number_behind(blank, guess)?;
     Some(Numeral {
         value: u64::from(value),
         place,

@@ -8,8 +8,10 @@ ghost use Rattle.gm_text.specs.Lexing.{rest_of, items_read, after, stand_of, IsI
 ghost use Rattle.gm_text.specs.SchemaAnswers.{IsToken, IsNext, IsNoneNext};
 
 use crate::fault::LexFault;
+use crate::guess::Guess;
 use crate::scan::{
-    Small, behind_blank, gap_end, name_near, number_near, past_blank, small_at, token_at,
+    Small, behind_blank, behind_this, gap_end, name_near, number_near, past_blank, small_at,
+    token_at,
 };
 use gm_model::Token;
 use std::marker::Model;
@@ -27,8 +29,8 @@ pub struct SmallNumber {
 pub struct Lexer<'a> {
     source: &'a [u8],
     at: usize,
-    /// How many digits the last small number had: a guess how many the next one has.
-    digits: usize,
+    /// How many digits the next small number is guessed to have.
+    guess: Guess,
 }
 
 impl<'a> Model for Lexer<'a> {
@@ -50,7 +52,7 @@ impl<'a> Lexer<'a> {
         Lexer {
             source: text,
             at: 0,
-            digits: 1,
+            guess: Guess::new(),
         }
     }
 
@@ -62,7 +64,7 @@ impl<'a> Lexer<'a> {
         Lexer {
             source: text,
             at: place,
-            digits: 1,
+            guess: Guess::new(),
         }
     }
 
@@ -73,7 +75,7 @@ impl<'a> Lexer<'a> {
         Lexer {
             source: self.source,
             at: self.at,
-            digits: self.digits,
+            guess: self.guess,
         }
     }
 
@@ -144,17 +146,40 @@ impl<'a> Lexer<'a> {
         if self.source.len() - self.at < 17 {
             return None;
         }
-        let guess = self.digits;
         let place = past_blank(self.source, self.at);
-        let Small { value, count } = small_at(self.source, place)?;
-        // Where the guess is right, as it mostly is, the processor goes on behind the number before it
-        // has found how long this is.
-        if count == guess {
-            self.at = place + guess;
-        } else {
-            self.digits = count;
-            self.at = end_apart(place, count);
+        let mut guess = self.guess;
+        let found = self.number_from(place, &mut guess)?;
+        self.guess = guess;
+        Some(found)
+    }
+
+    /// The same behind this blank, or with nothing before it where none is named, by a guess that
+    /// the caller keeps: one for each column of a table, say.
+    // Inlined, as `small_at` is.
+    #[inline(always)]
+    pub fn number_behind(&mut self, blank: Option<u8>, guess: &mut Guess) -> Option<SmallNumber>
+        requires blank { IfSome blank (λ b. IsTrue (tokens.is_blank b)) }
+        ensures number { IfSome result (λ found. IsNumberRead found.value found.place self.old self.new) }
+        ensures none { IfNone result (self.new ≡ self.old) }
+    {
+        if self.source.len() - self.at < 17 {
+            return None;
         }
+        let place = behind_this(self.source, self.at, blank)?;
+        self.number_from(place, guess)
+    }
+
+    /// The number that begins at the place, up to which no token stands.
+    // Inlined, as `small_at` is.
+    #[inline(always)]
+    fn number_from(&mut self, place: usize, guess: &mut Guess) -> Option<SmallNumber>
+        requires room { place + 16 ≤ length self.now.text }
+        requires same { rest_of self.now ≡ tokens.items_at self.now.text place }
+        ensures number { IfSome result (λ found. IsNumberRead found.value found.place self.old self.new) }
+        ensures none { IfNone result (self.new ≡ self.old) }
+    {
+        let Small { value, end } = small_at(self.source, place, guess)?;
+        self.at = end;
         Some(SmallNumber { value, place })
     }
 
@@ -185,6 +210,29 @@ impl<'a> Lexer<'a> {
     {
         let start = behind_blank(self.source, self.at);
         if start < self.source.len() && self.source[start] == sign {
+            self.at = start + 1;
+            return true;
+        }
+        false
+    }
+
+    /// The same behind this blank, or with nothing before it where none is named.
+    // Inlined, as `small_at` is.
+    #[inline(always)]
+    pub fn sign_behind(&mut self, blank: Option<u8>, sign: u8) -> bool
+        requires blank { IfSome blank (λ b. IsTrue (tokens.is_blank b)) }
+        requires sign { IsTrue (tokens.is_sign sign) }
+        requires alone { (c : ℕ) → tokens.is_two_byte_sign sign c ≡ false }
+        ensures read { IsTrue result → IsSignRead sign self.old self.new }
+        ensures none { result ≡ false → self.new ≡ self.old }
+    {
+        if self.source.len() - self.at < 2 {
+            return false;
+        }
+        let Some(start) = behind_this(self.source, self.at, blank) else {
+            return false;
+        };
+        if self.source[start] == sign {
             self.at = start + 1;
             return true;
         }
@@ -230,17 +278,6 @@ impl<'a> Lexer<'a> {
     {
         self.number(token).unwrap_or(u64::MAX)
     }
-}
-
-/// The end of a number of so many digits.
-// Not inlined, since a compiler that saw both ends would make them one, and wait for the count.
-#[cold]
-#[inline(never)]
-fn end_apart(place: usize, count: usize) -> usize
-    requires { place + count < 2 ^ 64 }
-    ensures { result ≡ place + count }
-{
-    place + count
 }
 
 fn value_of_digits(digits: &[u8]) -> Option<u64>

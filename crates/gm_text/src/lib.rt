@@ -10,6 +10,7 @@ mod at_least;
 mod bytes;
 mod digits;
 mod fault;
+mod guess;
 mod laws;
 mod lexer;
 mod scan;
@@ -24,6 +25,7 @@ mod writing;
 pub use at_least::a_schema_is_read_or_has_a_first_fault;
 pub use fault::LexFault;
 pub use gm_model::{Token, TokenKind};
+pub use guess::Guess;
 pub use laws::{
     a_printed_schema_is_read_again, no_schema_at_a_fault, one_place_behind_tokens,
     one_schema_at_most, one_schema_fault_at_most,

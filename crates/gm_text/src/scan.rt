@@ -7,6 +7,7 @@ ghost use Rattle.gm_text.specs.Lexing.{IsGap, IsTokenAt, front_at};
 
 use crate::bytes::{is_blank, is_digit, is_letter, is_name_byte, is_sign, is_two_byte_sign};
 use crate::digits::{digits_at, leading_digits, leading_number};
+use crate::guess::Guess;
 use gm_model::{Token, TokenKind};
 
 /// The first place from `from` on where neither a blank nor a comment stands.
@@ -72,30 +73,28 @@ pub fn name_near(text: &[u8], from: usize) -> Option<Token>
     None
 }
 
-/// A number below 100,000,000, and how many digits it has.
+/// A number below 100,000,000, and where it ends.
 pub struct Small {
     pub value: u32,
-    pub count: usize,
+    pub end: usize,
 }
 
 /// The number whose first digit stands at `start`, where it has eight digits at most.
 // Inlined up to who reads a number, it takes some 20 instructions less: nothing goes by memory.
 #[inline(always)]
-pub fn small_at(text: &[u8], start: usize) -> Option<Small>
+pub fn small_at(text: &[u8], start: usize, guess: &mut Guess) -> Option<Small>
     requires inside { start + 16 ≤ length text.now }
     ensures digit { IfSome result (λ _. IsTrue (tokens.is_digit (slice_index text.now start))) }
-    ensures end { IfSome result (λ small. start + small.count ≡ start + 1 + length (take_while tokens.is_digit (drop (start + 1) text.now))) }
-    ensures within { IfSome result (λ small. start + small.count ≤ length text.now) }
+    ensures end { IfSome result (λ small. small.end ≡ start + 1 + length (take_while tokens.is_digit (drop (start + 1) text.now))) }
+    ensures within { IfSome result (λ small. small.end ≤ length text.now) }
     ensures value { IfSome result (λ small. small.value ≡ value_of (take_while tokens.is_digit (drop start text.now))) }
 {
     let digits = digits_at(text, start);
     let count = leading_digits(digits);
-    if count == 0 || count > 8 {
-        return None;
-    }
+    let end = guess.end(start, count)?;
     Some(Small {
         value: leading_number(digits, count),
-        count,
+        end,
     })
 }
 
@@ -129,6 +128,24 @@ pub fn past_blank(text: &[u8], from: usize) -> usize
         return from + 1;
     }
     from
+}
+
+/// The place behind this blank, or the place itself where none is named.
+// Inlined, as `small_at` is.
+#[inline(always)]
+pub fn behind_this(text: &[u8], from: usize, blank: Option<u8>) -> Option<usize>
+    requires inside { from < length text.now }
+    requires blank { IfSome blank (λ b. IsTrue (tokens.is_blank b)) }
+    ensures near { IfSome result (λ place. place ≤ from + 1) }
+    ensures same { IfSome result (λ place. tokens.items_at text.now from ≡ tokens.items_at text.now place) }
+{
+    let Some(blank) = blank else {
+        return Some(from);
+    };
+    if text[from] != blank {
+        return None;
+    }
+    Some(from + 1)
 }
 
 /// The token that begins at `at`, where neither a blank nor a comment stands.

@@ -1,4 +1,4 @@
-use Rattle.std.proofs.Common.{ℕ, ◌+◌, List, subst, sym, arith}
+use Rattle.std.proofs.Common.{ℕ, ◌+◌, List, refl, subst, sym, arith}
 use Rattle.gm_mapfile.specs.MapReading.{ReadsNames}
 use Rattle.gm_mapfile.proofs.DartReads.{names_more}
 use Rattle.gm_mapfile.proofs.reading.read_small_dart_names.Goals as goal
@@ -11,5 +11,6 @@ loop-done-preserved c =
       reads = subst (λ (names : List ℕ). ReadsNames (l.done + 1) c.args.lexer.now c.small_dart_name.new.lexer c.args.names.now.items names) (sym c.push_reserved.ensures.items)
           (names_more l.done c.args.lexer.now l.ahead c.small_dart_name.new.lexer c.args.names.now.items l.names.items c.in-Some.name before.reads c.in-Some.ensures.takes);
       few = omega (arith, c.loop-done-test.true);
+      blank = refl;
       room = omega (arith, before.room, c.loop-done-test.true, c.push_reserved.ensures.len, c.push_reserved.ensures.capacity);
     }

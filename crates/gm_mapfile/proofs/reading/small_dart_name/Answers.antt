@@ -8,5 +8,5 @@ use Rattle.gm_mapfile.proofs.reading.small_dart_name.Goals as goal
 pub returns-clause-takes : goal.returns-clause-takes
 returns-clause-takes c =
     let found = c.in_ok-value.field-0 in
-    subst (λ (old : Cursor). Takes (TheNumber DartName ∷ []) (pos found.value ∷ []) old c.small_numeral.new.lexer) c.fork-ahead.ensures
-    (name_takes c.fork-ahead.result found.value found.place c.small_numeral.new.lexer c.in_ok-value.ensures.next (omega (arith, c.if-value-from.false, c.from.ensures)))
+    subst (λ (old : Cursor). Takes (TheNumber DartName ∷ []) (pos found.value ∷ []) old c.numeral_behind.new.lexer) c.fork-ahead.ensures
+    (name_takes c.fork-ahead.result found.value found.place c.numeral_behind.new.lexer c.in_ok-value.ensures.next (omega (arith, c.if-value-from.false, c.from.ensures)))

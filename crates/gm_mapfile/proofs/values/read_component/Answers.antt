@@ -10,7 +10,7 @@ pub returns-clause-takes : goal.returns-clause-takes
 returns-clause-takes c =
     let found = c.in-Some.field-0 in
     let between = c.args.lexer.now in
-    let new = c.small_numeral.new.lexer in
+    let new = c.numeral_behind.new.lexer in
     let back : to_z w64 found.value ≡ pos found.value = search rules in
     let small : found.value ≤ greatest false = omega (arith, c.in-Some.ensures.small) in
     let channel : c.args.colour ≡ true → is_channel (pos found.value) ≡ true = elim c.else-colour.branch [
