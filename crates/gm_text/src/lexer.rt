@@ -143,7 +143,7 @@ impl<'a> Lexer<'a> {
         ensures none { IfNone result (self.new ≡ self.old) }
     {
         // One test of the text's end serves the blank, each digit and what stands behind them.
-        if self.source.len() - self.at < 17 {
+        if self.at + 17 > self.source.len() {
             return None;
         }
         let place = past_blank(self.source, self.at);
@@ -162,7 +162,7 @@ impl<'a> Lexer<'a> {
         ensures number { IfSome result (λ found. IsNumberRead found.value found.place self.old self.new) }
         ensures none { IfNone result (self.new ≡ self.old) }
     {
-        if self.source.len() - self.at < 17 {
+        if self.at + 17 > self.source.len() {
             return None;
         }
         let place = behind_this(self.source, self.at, blank)?;
@@ -226,7 +226,7 @@ impl<'a> Lexer<'a> {
         ensures read { IsTrue result → IsSignRead sign self.old self.new }
         ensures none { result ≡ false → self.new ≡ self.old }
     {
-        if self.source.len() - self.at < 2 {
+        if self.at + 2 > self.source.len() {
             return false;
         }
         let Some(start) = behind_this(self.source, self.at, blank) else {

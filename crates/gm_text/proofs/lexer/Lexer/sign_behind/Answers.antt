@@ -8,6 +8,6 @@ pub returns-then-self-start-clause-read : goal.returns-then-self-start-clause-re
 returns-then-self-start-clause-read c _ =
     let text = c.self.inside.source.now in
     let place = c.in-Some.start in
-    let inside : place < length text = omega (arith, c.in-Some.ensures.near, c.if-self-lt2.false) in
+    let inside : place < length text = omega (arith, c.in-Some.ensures.near, c.if-self.false) in
     subst (λ (old : Cursor). IsSignRead c.args.sign old (record { text = text; place = place + 1 })) c.self.view_is
     (sign_read text c.self.inside.at place c.args.sign c.in-Some.ensures.same inside c.if-self-start.true c.requires.sign c.requires.alone)
