@@ -1,4 +1,5 @@
 pub mod Agreement
+mod Alike
 pub mod AtLeast
 mod Compared
 mod Drafts

@@ -5,6 +5,7 @@ mod at_least;
 mod comparing;
 mod fault;
 mod laws;
+mod near;
 mod reader;
 mod reading;
 mod rules;

@@ -204,6 +204,7 @@ impl Reader {
     ) -> Result<(), ScriptFault>
         requires in_text { IsInText bytes.now self.old.stat.name }
         ensures added { OnOk result (Adds bytes.now (map rule_of rules.now) (reading.ended_by self.old.spot sight self.old.stat) compared.old compared.new) }
+        ensures spot { self.new.spot ≡ self.old.spot }
         ensures next { (top : ℕ) (token : Token) → reading.taken_at top sight token self.new ≡ reading.taken_at top sight token self.old }
         ensures err { IfErr result (λ fault. fault ≡ ScriptFault.OutOfMemory) }
     {
@@ -212,6 +213,23 @@ impl Reader {
             (Sight::Begins(_), _) => compared.add(bytes, &mut self.stat, rules),
             _ => Ok(()),
         }
+    }
+
+    /// Reads the word `apply`, where the statement before it is whole.
+    #[inline(always)]
+    pub(crate) fn take_apply(&mut self, token: Token) -> Result<(), TextFault>
+        requires spot { IsTrue (reading.is_whole self.old.spot) }
+        ensures { (n : ℕ) → Gives (λ _. self.new) result (reading.taken_at n (Sight.Begins Head.Apply) token self.old) }
+    {
+        if self.begun >= MOST_LINES {
+            return Err(TextFault::Limit {
+                what: LimitKind::Lines,
+                place: token.start,
+            });
+        }
+        self.begin(Head::Apply, token);
+        self.spot = Spot::Apply;
+        Ok(())
     }
 
     /// Reads a token, in which this is seen, where labels go up to `top`.

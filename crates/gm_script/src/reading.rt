@@ -2,14 +2,14 @@
 //!
 //! The reader knows the grammar and its limits alone. Each statement is compared with the book as
 //! soon as it is whole, and where one disagrees, the text is read on: a fault of the text comes first.
-ghost use Rattle.std.specs.Prelude.{◌≡◌, ◌∷◌, ℕ, [], length, map, OnOk, IfOk, IfErr};
+ghost use Rattle.std.specs.Prelude.{◌≡◌, ◌<◌, ◌∷◌, ℕ, [], length, map, IsTrue, IsFalse, OnOk, IfOk, IfErr};
 ghost use Rattle.gm_model.specs.Rules.{rule_of};
 ghost use Rattle.gm_model.specs.Tokens.{EndAt};
 ghost use Rattle.gm_text.specs.Lexing.{rest_of};
 ghost use Rattle.gm_script.specs.ScriptText.{ScriptText};
 ghost use Rattle.gm_script.specs.Faults.{IsFaultOf};
 ghost use Rattle.gm_script.specs.FirstRules.{first_rules};
-ghost use Rattle.gm_script.specs.Reading.{nothing, read_from, Fails, ReadsOn};
+ghost use Rattle.gm_script.specs.Reading.{nothing, read_from, Fails, ReadsOn, IsInText};
 ghost use Rattle.gm_script.specs.SoFar.{IsSoFar};
 ghost use Rattle.gm_script.specs.declared.spot.Spot.{Spot};
 
@@ -17,7 +17,8 @@ use crate::comparing::Compared;
 use crate::fault::ScriptFault;
 use crate::reader::{Reader, TextFault};
 use crate::rules::RulesByName;
-use crate::seen::{Seen, near_name, next_seen};
+use crate::seen::{Seen, near_apply, near_name, next_seen};
+use crate::sight::{Head, Sight};
 use gm_model::{Book, Dim, Script};
 use gm_text::{Lexer, Token, TokenKind};
 use std::alloc::Global;
@@ -84,7 +85,93 @@ fn read_on(lexer: &mut Lexer<'_>, reader: &mut Reader) -> Result<(), TextFault>
     read_hooks_there(lexer, reader)
 }
 
+/// Reads the word `apply` with which a line begins, where one stands next behind a whole statement. That
+/// is compared.
+// What such a word is and leads to needs no look at the grammar, which takes some 90 instructions less.
+fn begin_line<'a>(
+    bytes: &'a [u8],
+    lexer: &mut Lexer<'a>,
+    rules: &RulesByName<'_>,
+    reader: &mut Reader,
+    compared: &mut Compared,
+) -> Result<bool, ScriptFault>
+    requires text { lexer.old.text ≡ bytes.now }
+    requires named { IsInText bytes.now reader.old.stat.name }
+    ensures text { lexer.new.text ≡ lexer.old.text }
+    ensures inside { IfOk result (λ began. IsTrue began → lexer.old.place < length lexer.old.text) }
+    ensures moved { IfOk result (λ began. IsTrue began → lexer.old.place < lexer.new.place) }
+    ensures none { IfOk result (λ began. IsFalse began → lexer.new ≡ lexer.old) }
+    ensures so_far { (n : ℕ) → IsSoFar n bytes.now (map rule_of rules.now) reader.old (rest_of lexer.old) compared.old
+        → OnOk result (IsSoFar n bytes.now (map rule_of rules.now) reader.new (rest_of lexer.new) compared.new) }
+    ensures fault { (n : ℕ) → IsSoFar n bytes.now (map rule_of rules.now) reader.old (rest_of lexer.old) compared.old
+        → IfErr result (IsFaultOf bytes.now n (map rule_of rules.now)) }
+{
+    if !reader.spot().is_whole() {
+        return Ok(false);
+    }
+    let Some(token) = near_apply(bytes, lexer) else {
+        return Ok(false);
+    };
+    reader.end_stat(bytes, Sight::Begins(Head::Apply), rules, compared)?;
+    reader.take_apply(token)?;
+    Ok(true)
+}
+
+/// Reads the token that stands next, whatever it is, and compares the statement that ends before it.
+/// `false` comes at the text's end.
+fn read_token<'a>(
+    bytes: &'a [u8],
+    top: u8,
+    lexer: &mut Lexer<'a>,
+    rules: &RulesByName<'_>,
+    reader: &mut Reader,
+    compared: &mut Compared,
+) -> Result<bool, ScriptFault>
+    requires text { lexer.old.text ≡ bytes.now }
+    requires so_far { IsSoFar top bytes.now (map rule_of rules.now) reader.old (rest_of lexer.old) compared.old }
+    ensures text { lexer.new.text ≡ lexer.old.text }
+    ensures inside { IfOk result (λ more. IsTrue more → lexer.old.place < length lexer.old.text) }
+    ensures moved { IfOk result (λ more. IsTrue more → lexer.old.place < lexer.new.place) }
+    ensures so_far { IfOk result (λ more. IsTrue more → IsSoFar top bytes.now (map rule_of rules.now) reader.new (rest_of lexer.new) compared.new) }
+    ensures all { IfOk result (λ more. IsFalse more → IsSoFar top bytes.now (map rule_of rules.now) reader.new (EndAt (length bytes.now) ∷ []) compared.new) }
+    ensures fault { IfErr result (IsFaultOf bytes.now top (map rule_of rules.now)) }
+{
+    let Some(seen) = next_seen(bytes, lexer, reader.spot())? else {
+        return Ok(false);
+    };
+    let Seen { sight, token } = seen;
+    reader.end_stat(bytes, sight, rules, compared)?;
+    reader.take(top, sight, token)?;
+    Ok(true)
+}
+
+/// Reads what stands next: the beginning of a line, or else a token.
+fn read_next<'a>(
+    bytes: &'a [u8],
+    top: u8,
+    lexer: &mut Lexer<'a>,
+    rules: &RulesByName<'_>,
+    reader: &mut Reader,
+    compared: &mut Compared,
+) -> Result<bool, ScriptFault>
+    requires text { lexer.old.text ≡ bytes.now }
+    requires so_far { IsSoFar top bytes.now (map rule_of rules.now) reader.old (rest_of lexer.old) compared.old }
+    ensures text { lexer.new.text ≡ lexer.old.text }
+    ensures inside { IfOk result (λ more. IsTrue more → lexer.old.place < length lexer.old.text) }
+    ensures moved { IfOk result (λ more. IsTrue more → lexer.old.place < lexer.new.place) }
+    ensures so_far { IfOk result (λ more. IsTrue more → IsSoFar top bytes.now (map rule_of rules.now) reader.new (rest_of lexer.new) compared.new) }
+    ensures all { IfOk result (λ more. IsFalse more → IsSoFar top bytes.now (map rule_of rules.now) reader.new (EndAt (length bytes.now) ∷ []) compared.new) }
+    ensures fault { IfErr result (IsFaultOf bytes.now top (map rule_of rules.now)) }
+{
+    if begin_line(bytes, lexer, rules, reader, compared)? {
+        return Ok(true);
+    }
+    read_token(bytes, top, lexer, rules, reader, compared)
+}
+
 /// Reads the text to its end, and compares each statement but the last.
+// By itself it has more registers than within the command.
+#[inline(never)]
 fn read_tokens(
     bytes: &[u8],
     dim: Dim,
@@ -99,10 +186,7 @@ fn read_tokens(
 {
     let top = dim.top();
     let mut lexer = Lexer::new(bytes);
-    while let Some(seen) = next_seen(bytes, &mut lexer, reader.spot())? {
-        let Seen { sight, token } = seen;
-        reader.end_stat(bytes, sight, rules, compared)?;
-        reader.take(top, sight, token)?;
+    while read_next(bytes, top, &mut lexer, rules, reader, compared)? {
         read_on(&mut lexer, reader)?;
     }
     Ok(())

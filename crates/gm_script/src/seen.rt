@@ -4,12 +4,16 @@ ghost use Rattle.gm_model.specs.Tokens as tokens;
 ghost use Rattle.gm_model.specs.Tokens.{EndAt};
 ghost use Rattle.gm_text.specs.Lexing.{rest_of};
 ghost use Rattle.gm_script.specs.Reading as reading;
-ghost use Rattle.gm_script.specs.Reading.{IsLead, IsNext, IsSeenNext, IsStray};
+ghost use Rattle.gm_script.specs.Reading.{IsNext, IsSeenNext, IsStray};
+ghost use Rattle.gm_script.specs.declared.sight.Head.{Head};
+ghost use Rattle.gm_script.specs.declared.sight.Sight.{Sight};
 
+use crate::near::word_of_lead;
 use crate::reader::TextFault;
 use crate::sight::{Head, Sight, sight_of, sight_of_word};
 use crate::spot::Spot;
 use gm_text::{Lexer, Token, TokenKind};
+use std::simd::prelude::*;
 
 /// A token, and what the script sees in it.
 #[derive(Clone, Copy)]
@@ -32,7 +36,7 @@ pub(crate) fn next_seen<'a>(
         (λ seen. IsSeenNext lexer.old seen.sight seen.token lexer.new)) }
     ensures stray { IfErr result (IsStray lexer.old) }
 {
-    if let Some(seen) = frequent_word(bytes, lexer, spot) {
+    if let Some(seen) = near_with(bytes, lexer, spot) {
         return Ok(Some(seen));
     }
     if let Some(seen) = small_part(lexer, spot) {
@@ -56,47 +60,38 @@ pub(crate) fn near_name(lexer: &mut Lexer<'_>) -> Option<Token>
     Some(token)
 }
 
-/// The word `apply` at the beginning of a line, or `with`, where it can stand behind the spot.
-/// `None` says nothing of what stands next, and the lexer is then as before.
-fn frequent_word<'a>(bytes: &'a [u8], lexer: &mut Lexer<'a>, spot: Spot) -> Option<Seen>
+/// The word `apply` behind a line's end, and how many bytes of it are compared.
+const APPLY: ([u8; 16], usize) = (*b"\napply \0\0\0\0\0\0\0\0\0", 7);
+
+/// The word `with` within a line.
+const WITH: ([u8; 16], usize) = (*b" with \0\0\0\0\0\0\0\0\0\0", 6);
+
+/// The word `apply` that stands next, where a line begins with it. `None` says nothing of what stands
+/// next, and the lexer is then as before.
+#[inline(always)]
+pub(crate) fn near_apply<'a>(bytes: &'a [u8], lexer: &mut Lexer<'a>) -> Option<Token>
     requires bytes { lexer.old.text ≡ bytes.now }
-    ensures seen { IfSome result (λ seen. IsSeenNext lexer.old seen.sight seen.token lexer.new) }
+    ensures seen { IfSome result (λ token. IsSeenNext lexer.old (Sight.Begins Head.Apply) token lexer.new) }
     ensures none { IfNone result (lexer.new ≡ lexer.old) }
 {
-    if !spot.is_whole() {
-        return None;
-    }
-    match blank_and_word(bytes, lexer, b"\napply ", Sight::Begins(Head::Apply)) {
-        Some(seen) => Some(seen),
-        None => blank_and_word(bytes, lexer, b" with ", Sight::With),
-    }
+    word_of_lead(bytes, lexer, u8x16::from_array(APPLY.0), APPLY.1)
 }
 
-/// A word between two blanks, in which this is seen, where these bytes stand next.
-#[inline(always)]
-fn blank_and_word<'a>(
-    bytes: &'a [u8],
-    lexer: &mut Lexer<'a>,
-    lead: &[u8],
-    sight: Sight,
-) -> Option<Seen>
+/// The word `with`, where it can stand behind the spot. `None` says nothing of what stands next, and the
+/// lexer is then as before.
+fn near_with<'a>(bytes: &'a [u8], lexer: &mut Lexer<'a>, spot: Spot) -> Option<Seen>
     requires bytes { lexer.old.text ≡ bytes.now }
-    requires lead { IsLead lead.now sight }
     ensures seen { IfSome result (λ seen. IsSeenNext lexer.old seen.sight seen.token lexer.new) }
     ensures none { IfNone result (lexer.new ≡ lexer.old) }
 {
-    let place = lexer.place();
-    if bytes.len() - place < lead.len() || &bytes[place..place + lead.len()] != lead {
+    if !matches!(spot, Spot::Rule | Spot::Named) {
         return None;
     }
-    let end = place + lead.len() - 1;
-    *lexer = Lexer::at(bytes, end);
-    let token = Token {
-        kind: TokenKind::Name,
-        start: place + 1,
-        end,
-    };
-    Some(Seen { sight, token })
+    let token = word_of_lead(bytes, lexer, u8x16::from_array(WITH.0), WITH.1)?;
+    Some(Seen {
+        sight: Sight::With,
+        token,
+    })
 }
 
 /// What stands next, whatever it is.

@@ -4,11 +4,11 @@ use Rattle.gm_text.specs.Lexing.{rest_of}
 use Rattle.gm_script.specs.SoFar.{IsSoFar}
 use Rattle.gm_script.proofs.reading.read_tokens.Given as goal
 
-abbrev pub invariant-loop-seen : goal.invariant-loop-seen
-invariant-loop-seen l = record {
+abbrev pub invariant-loop-lexer : goal.invariant-loop-lexer
+invariant-loop-lexer l = record {
   text : l.lexer.text ≡ l.bytes;
-  so_far : IsSoFar l.fn.dim l.bytes (map rule_of l.rules) l.reader (rest_of l.lexer) l.compared;
+  so_far : IsSoFar l.top l.bytes (map rule_of l.rules) l.reader (rest_of l.lexer) l.compared;
 }
 
-abbrev pub decreases-loop-seen : goal.decreases-loop-seen
-decreases-loop-seen l = length l.lexer.text - l.lexer.place
+abbrev pub decreases-loop-lexer : goal.decreases-loop-lexer
+decreases-loop-lexer l = length l.lexer.text - l.lexer.place

@@ -1,0 +1,53 @@
+//! Words that stand between two blanks, compared with the bytes of a text at once.
+ghost use Rattle.std.specs.Prelude.{◌≡◌, ◌+◌, ◌≤◌, length, take, drop, IsTrue, IfSome, IfNone};
+ghost use Rattle.std.specs.List.{prefix_len};
+ghost use Rattle.gm_script.specs.Reading.{IsLead, IsSeenNext};
+ghost use Rattle.gm_script.specs.declared.sight.Sight.{Sight};
+
+use gm_text::{Lexer, Token, TokenKind};
+use std::simd::prelude::*;
+
+/// How many bytes are compared at once.
+const LANES: usize = 16;
+
+/// Whether the bytes from a place on are those of the lead, as many as it has.
+#[inline(always)]
+fn stands_at(bytes: &[u8], place: usize, lead: u8x16, size: usize) -> bool
+    requires inside { place + 16 ≤ length bytes.now }
+    requires few { size ≤ 16 }
+    ensures { IsTrue result → take size (drop place bytes.now) ≡ take size lead }
+{
+    let others = u8x16::from_slice(&bytes[place..])
+        .simd_ne(lead)
+        .to_bitmask();
+    others == 0 || others.trailing_zeros() as usize >= size
+}
+
+/// The word between two blanks that begins with the lead's, where these bytes stand next. `None` says
+/// nothing of what stands next, and the lexer is then as before.
+// Sixteen bytes are compared in some ten instructions, where a slice takes thirty.
+#[inline(always)]
+pub(crate) fn word_of_lead<'a>(
+    bytes: &'a [u8],
+    lexer: &mut Lexer<'a>,
+    lead: u8x16,
+    size: usize,
+) -> Option<Token>
+    requires bytes { lexer.old.text ≡ bytes.now }
+    requires some { 1 ≤ size }
+    requires few { size ≤ 16 }
+    ensures seen { (sight : Sight) → IsLead (take size lead) sight → IfSome result (λ token. IsSeenNext lexer.old sight token lexer.new) }
+    ensures none { IfNone result (lexer.new ≡ lexer.old) }
+{
+    let place = lexer.place();
+    if bytes.len() - place < LANES || !stands_at(bytes, place, lead, size) {
+        return None;
+    }
+    let end = place + size - 1;
+    *lexer = Lexer::at(bytes, end);
+    Some(Token {
+        kind: TokenKind::Name,
+        start: place + 1,
+        end,
+    })
+}
