@@ -20,7 +20,7 @@ use Rattle.gm_theory.proofs.ReadingsTyped.{then_some, of_two, of_three, typed}
 use Rattle.gm_theory.proofs.ValuesUnique.{one_value, int_same}
 use Rattle.gm_eval.specs.declared.kept.Entry.{Entry}
 use Rattle.gm_eval.specs.declared.reader.Reader.{Reader}
-use Rattle.gm_eval.specs.Readers.{AreLeft, AreNumbersThere, IsReady, IsInt, IsValueThere, IsWithin, Read, UnitsBeside, reading_of}
+use Rattle.gm_eval.specs.Readers.{AreLeft, AreNumbersThere, AreValuesThere, IsReady, IsInt, IsValueThere, IsWithin, Read, UnitsBeside, reading_of}
 use Rattle.gm_eval.proofs.Operated.{Found, found_as}
 use Rattle.gm_eval.proofs.Ready.{is_reading}
 
@@ -180,6 +180,9 @@ module _ (reader : Reader) where
 
   pub left_as : (expr : Expr) (tree : Tree) (kept : Option (List Entry)) → tree_of expr ≡ tree → AreLeft reader (Read reader tree) kept → AreLeft reader (Read reader (tree_of expr)) kept
   left_as expr tree kept e h = subst (λ x. AreLeft reader (Read reader x) kept) (sym e) h
+
+  pub no_values : (a b : Tree) (o : Option (Value × Value)) → o ≡ None → ((v w : Value) → HasValue R a v → HasValue R b w → ⊥) → AreValuesThere reader a b o
+  no_values a b o e none = subst (AreValuesThere reader a b) (sym e) none
 
   pub none_there : (tree : Tree) (o : Option Value) → o ≡ None → HasNoValue R tree → IsValueThere reader tree o
   none_there tree o e none = subst (IsValueThere reader tree) (sym e) none

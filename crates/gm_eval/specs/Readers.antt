@@ -50,6 +50,12 @@ pub record IsOrbit (reader : Reader) (mask : Mask) (term : DartTerm) (slots : Li
 abbrev pub IsValueThere : Reader → Tree → Option Value → Type 0
 IsValueThere reader tree result = MatchOption result (HasNoValue (reading_of reader) tree) (HasValue (reading_of reader) tree)
 
+-- the answers are the values of two expressions there, and none where one of them has none
+abbrev pub AreValuesThere : Reader → Tree → Tree → Option (Value × Value) → Type 0
+AreValuesThere reader a b result =
+    MatchOption result ((v w : Value) → HasValue (reading_of reader) a v → HasValue (reading_of reader) b w → ⊥)
+    (λ vs. HasValue (reading_of reader) a vs.0 × HasValue (reading_of reader) b vs.1)
+
 -- the value there is this number
 abbrev pub IsInt : Reader → Tree → ℤ → Type 0
 IsInt reader tree x = HasValue (reading_of reader) tree (Int x)

@@ -1,20 +1,23 @@
 //! The value of an expression, form by form, down its tree.
 
-ghost use Rattle.std.specs.Prelude.{◌≡◌, ◌≤◌, ℤ, Bool, [], ◌∷◌, IfSome, IsSome, IsTrue, MatchOption, None, Some};
+ghost use Rattle.std.specs.Prelude.{◌≡◌, ◌≢◌, ◌≤◌, ◌⊎◌, ℕ, ℤ, Bool, [], ◌∷◌, IfSome, IsSome, IsTrue, MatchOption, None, Some};
 ghost use Rattle.gm_model.specs.Expressions.{IsMade};
 ghost use Rattle.gm_model.specs.Trees.{Count, Sum, Unary, Binary, If, MakeVec2, MakeVec3, tree_of};
+ghost use Rattle.gm_model.specs.declared.expr.BinOp.TheVariants.{Add, Sub, Div};
+ghost use Rattle.gm_model.specs.declared.expr.DartTerm.{DartTerm as TermOf};
+ghost use Rattle.gm_model.specs.declared.expr.Expr.TheVariants.{Int as IntOf, Param as ParamOf, Field as FieldOf};
 ghost use Rattle.gm_model.specs.declared.value.Kind.TheVariants.{Vec3, Rgb};
 ghost use Rattle.gm_model.specs.declared.value.Value.TheVariants.{Int, Bool as Truth};
 ghost use Rattle.gm_walk.specs.Room.{Fits};
 ghost use Rattle.gm_eval.specs.Keeping.{AreKept};
 ghost use Rattle.gm_eval.specs.Made.{IsNone};
 ghost use Rattle.gm_eval.specs.Places.{IsWithinUnits};
-ghost use Rattle.gm_eval.specs.Readers.{AddsOnly, AreLeft, AreNumbersThere, IsReady, IsValueThere, IsWithin, Read, UnitsBeside, reading_of};
+ghost use Rattle.gm_eval.specs.Readers.{AddsOnly, AreLeft, AreNumbersThere, AreValuesThere, IsReady, IsValueThere, IsWithin, Read, UnitsBeside, reading_of};
 ghost use Rattle.gm_eval.specs.Sharing.{StillKept, collectors_of};
 
 use crate::kept::{Entries, Form};
 use crate::numbers::{rgb, vec2, vec3};
-use crate::operators::{binary, unary};
+use crate::operators::{binary, is_most_met, most_met, unary};
 use crate::reader::Reader;
 use gm_arena::Steps;
 use gm_model::{BinOp, DartTerm, Expr, Mask, UnOp, Value};
@@ -48,10 +51,41 @@ impl Reader<'_> {
     {
         match expr {
             Expr::Int(number) => Some(Value::Int(*number)),
-            Expr::Bool(truth) => Some(Value::Bool(*truth)),
             Expr::Param(at) => Some(self.params[*at as usize]),
             Expr::Field(term, embed) => Some(self.field(term, *embed, steps)),
-            Expr::Same(term, other) => Some(self.same(term, other, steps)),
+            _ => self.composed(expr, kept, scratch, steps),
+        }
+    }
+
+    /// The value of an expression that is more than a number, a parameter or a field.
+    // It is a function, so that what the calls in it write to is cleared only where one is made.
+    #[cycle(value)]
+    #[inline(always)]
+    fn composed<L: Ledger>(
+        &self,
+        expr: &Expr,
+        kept: &mut Entries,
+        scratch: &mut Scratch,
+        steps: &mut Steps<L>,
+    ) -> Option<Value>
+        requires ready { IsReady self.now (tree_of expr.now) }
+        requires int { (x : ℤ) → expr.now ≢ IntOf x }
+        requires param { (k : ℕ) → expr.now ≢ ParamOf k }
+        requires field { (d : TermOf) (e : ℕ) → expr.now ≢ FieldOf d e }
+        requires fits { Fits scratch.old self.now.arena.now }
+        requires kept { AreKept self.now.arena.now self.now.found.now self.now.params.now kept.old }
+        ensures value { IsValueThere self.now (tree_of expr.now) result }
+        ensures cost { IsWithin self.now (UnitsBeside self.now kept.old (tree_of expr.now)) steps.old steps.new }
+        ensures least { steps.old ≤ steps.new }
+        ensures room { scratch.new.bound ≡ scratch.old.bound }
+        ensures kept { AreKept self.now.arena.now self.now.found.now self.now.params.now kept.new }
+        ensures stays { StillKept kept.old kept.new }
+        ensures adds { AddsOnly (collectors_of (tree_of expr.now)) kept.old kept.new }
+        ensures left { IsSome result → AreLeft self.now (Read self.now (tree_of expr.now)) kept.new }
+    {
+        match expr {
+            Expr::Bool(truth) => Some(Value::Bool(*truth)),
+            Expr::Same(term, other) => Some(Value::Bool(self.same(term, other, steps))),
             Expr::Count(mask, term) => {
                 self.collected(Form::Count, *mask, term, 0, kept, scratch, steps)
             }
@@ -65,6 +99,9 @@ impl Reader<'_> {
                 self.collected(Form::Greatest, *mask, term, *embed, kept, scratch, steps)
             }
             Expr::Unary(op, part) => self.unary(*op, part, kept, scratch, steps),
+            Expr::Binary(op, left, right) if is_quick(*op, left) => {
+                self.quick(*op, left, right, kept, scratch, steps)
+            }
             Expr::Binary(op, left, right) => self.binary(*op, left, right, kept, scratch, steps),
             Expr::If(condition, chosen, other) => {
                 self.choice(condition, chosen, other, kept, scratch, steps)
@@ -74,6 +111,7 @@ impl Reader<'_> {
             Expr::MakeRgb(red, green, blue) => {
                 colour(self.numbers(red, green, blue, kept, scratch, steps))
             }
+            Expr::Int(_) | Expr::Param(_) | Expr::Field(_, _) => unreachable!(),
         }
     }
 
@@ -104,6 +142,35 @@ impl Reader<'_> {
         unary(op, part)
     }
 
+    /// The value of an operator that rules have most.
+    #[cycle(value)]
+    #[inline(never)]
+    fn quick<L: Ledger>(
+        &self,
+        op: BinOp,
+        left: &Expr,
+        right: &Expr,
+        kept: &mut Entries,
+        scratch: &mut Scratch,
+        steps: &mut Steps<L>,
+    ) -> Option<Value>
+        requires ready { IsReady self.now (Binary op (tree_of left.now) (tree_of right.now)) }
+        requires op { (op ≡ Add) ⊎ (op ≡ Sub) ⊎ (op ≡ Div) }
+        requires fits { Fits scratch.old self.now.arena.now }
+        requires kept { AreKept self.now.arena.now self.now.found.now self.now.params.now kept.old }
+        ensures value { IsValueThere self.now (Binary op (tree_of left.now) (tree_of right.now)) result }
+        ensures cost { IsWithin self.now (UnitsBeside self.now kept.old (Binary op (tree_of left.now) (tree_of right.now))) steps.old steps.new }
+        ensures least { steps.old ≤ steps.new }
+        ensures room { scratch.new.bound ≡ scratch.old.bound }
+        ensures kept { AreKept self.now.arena.now self.now.found.now self.now.params.now kept.new }
+        ensures stays { StillKept kept.old kept.new }
+        ensures adds { AddsOnly (collectors_of (Binary op (tree_of left.now) (tree_of right.now))) kept.old kept.new }
+        ensures left { IsSome result → AreLeft self.now (Read self.now (Binary op (tree_of left.now) (tree_of right.now))) kept.new }
+    {
+        let (left, right) = self.parts(left, right, kept, scratch, steps)?;
+        most_met(op, left, right)
+    }
+
     /// The value of an operator of two parts. Both are read.
     #[cycle(value)]
     #[inline(never)]
@@ -131,9 +198,37 @@ impl Reader<'_> {
         if let Some((mask, term, embed)) = parts_of_mean(left, right) {
             return self.of_mean(op, mask, term, embed, kept, scratch, steps);
         }
-        let left = self.value(left, kept, scratch, steps)?;
-        let right = self.value(right, kept, scratch, steps)?;
+        let (left, right) = self.parts(left, right, kept, scratch, steps)?;
         binary(op, left, right)
+    }
+
+    /// The values of two expressions; none where one of them has none. Both are read.
+    #[cycle(value)]
+    #[inline(always)]
+    fn parts<L: Ledger>(
+        &self,
+        first: &Expr,
+        second: &Expr,
+        kept: &mut Entries,
+        scratch: &mut Scratch,
+        steps: &mut Steps<L>,
+    ) -> Option<(Value, Value)>
+        requires first { IsReady self.now (tree_of first.now) }
+        requires second { IsReady self.now (tree_of second.now) }
+        requires fits { Fits scratch.old self.now.arena.now }
+        requires kept { AreKept self.now.arena.now self.now.found.now self.now.params.now kept.old }
+        ensures value { AreValuesThere self.now (tree_of first.now) (tree_of second.now) result }
+        ensures cost { IsWithin self.now (UnitsBeside self.now kept.old (MakeVec2 (tree_of first.now) (tree_of second.now))) steps.old steps.new }
+        ensures least { steps.old ≤ steps.new }
+        ensures room { scratch.new.bound ≡ scratch.old.bound }
+        ensures kept { AreKept self.now.arena.now self.now.found.now self.now.params.now kept.new }
+        ensures stays { StillKept kept.old kept.new }
+        ensures adds { AddsOnly (collectors_of (MakeVec2 (tree_of first.now) (tree_of second.now))) kept.old kept.new }
+        ensures left { IsSome result → AreLeft self.now (Read self.now (MakeVec2 (tree_of first.now) (tree_of second.now))) kept.new }
+    {
+        let first = self.value(first, kept, scratch, steps)?;
+        let second = self.value(second, kept, scratch, steps)?;
+        Some((first, second))
     }
 
     /// The value of an operator of a sum and of the number of the darts that are summed over, as of a
@@ -311,6 +406,14 @@ fn parts_of_mean<'e>(left: &'e Expr, right: &'e Expr) -> Option<(Mask, &'e DartT
         return None;
     }
     Some((*mask, term, *embed))
+}
+
+/// Whether the operator is one that rules have most, and its first part no sum, as it is in a mean.
+#[inline(always)]
+fn is_quick(op: BinOp, left: &Expr) -> bool
+    ensures { IsTrue result → (op ≡ Add) ⊎ (op ≡ Sub) ⊎ (op ≡ Div) }
+{
+    is_most_met(op) && !matches!(left, Expr::Sum(_, _, _))
 }
 
 /// Whether both terms are the same.

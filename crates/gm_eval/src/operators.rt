@@ -1,6 +1,6 @@
 //! Operators on values, each by the table of kinds.
 
-ghost use Rattle.std.specs.Prelude.{◌≡◌, ◌≢◌, ◌↔◌, IsTrue, pos, map, IsSome, MatchOption, int_lt, int_le, ◌&&◌, ◌||◌};
+ghost use Rattle.std.specs.Prelude.{◌≡◌, ◌≢◌, ◌↔◌, ◌⊎◌, IsTrue, pos, map, IsSome, MatchOption, int_lt, int_le, ◌&&◌, ◌||◌};
 ghost use Rattle.gm_model.specs.Expressions.{IsUnary, IsBinary, IsComponent, IsScaled, IsProduct, IsQuotient, IsRemainder, IsTest, IsLogic, IsMade, components, floor};
 ghost use Rattle.gm_model.specs.declared.expr.UnOp.TheVariants.{Neg, Not};
 ghost use Rattle.gm_model.specs.declared.expr.BinOp.TheVariants.{Add, Sub, Mul, Div};
@@ -40,6 +40,34 @@ pub(crate) fn binary(op: BinOp, left: Value, right: Value) -> Option<Value>
         BinOp::Sub => subtracted(left, right),
         BinOp::Div => divided(left, right),
         _ => other(op, (left, right)),
+    }
+}
+
+/// Whether it is an operator that rules have most.
+#[inline(always)]
+pub(crate) fn is_most_met(op: BinOp) -> bool
+    ensures { IsTrue result → (op ≡ Add) ⊎ (op ≡ Sub) ⊎ (op ≡ Div) }
+{
+    match op {
+        BinOp::Add | BinOp::Sub | BinOp::Div => true,
+        _ => false,
+    }
+}
+
+/// The value of an operator that rules have most.
+// No colour or truth is a part of these, so that of parts that were read for them the kind and the
+// numbers alone are moved.
+#[inline(always)]
+pub(crate) fn most_met(op: BinOp, left: Value, right: Value) -> Option<Value>
+    requires kind { IsSome (binary_kind op (kind_of left) (kind_of right)) }
+    requires op { (op ≡ Add) ⊎ (op ≡ Sub) ⊎ (op ≡ Div) }
+    ensures { MatchOption result (IsNone (IsBinary op left right)) (IsBinary op left right) }
+{
+    match op {
+        BinOp::Add => added(left, right),
+        BinOp::Sub => subtracted(left, right),
+        BinOp::Div => divided(left, right),
+        _ => unreachable!(),
     }
 }
 

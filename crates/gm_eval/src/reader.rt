@@ -4,6 +4,7 @@ ghost use Rattle.std.specs.Prelude.{◌≡◌, ◌+◌, ◌≤◌, length};
 ghost use Rattle.gm_arena.specs.ArenaMap.{IsAt};
 ghost use Rattle.gm_model.specs.Expressions.{HasValue, dart_at};
 ghost use Rattle.gm_model.specs.Trees.{Field, Same};
+ghost use Rattle.gm_model.specs.declared.value.Value.TheVariants.{Bool as Truth};
 ghost use Rattle.gm_eval.specs.Places.{IsWithinUnits};
 ghost use Rattle.gm_eval.specs.Readers.{IsHere, IsReady, IsTermHere, reading_of};
 
@@ -23,7 +24,7 @@ pub(crate) struct Reader<'a> {
 
 impl Reader<'_> {
     /// The slot of the dart that the term names.
-    #[inline]
+    #[inline(always)]
     pub(crate) fn slot<L: Ledger>(&self, term: &DartTerm, steps: &mut Steps<L>) -> Slot
         requires here { IsHere self.now }
         requires term { IsTermHere self.now term.now }
@@ -38,6 +39,7 @@ impl Reader<'_> {
     }
 
     /// The value of the embedding at the dart that the term names.
+    #[inline(always)]
     pub(crate) fn field<L: Ledger>(&self, term: &DartTerm, embed: u8, steps: &mut Steps<L>) -> Value
         requires ready { IsReady self.now (Field term.now embed) }
         ensures value { HasValue (reading_of self.now) (Field term.now embed) result }
@@ -48,19 +50,19 @@ impl Reader<'_> {
         self.arena.value(slot, embed, steps)
     }
 
-    /// Whether both terms name one dart, as a value.
+    /// Whether both terms name one dart.
     #[inline(never)]
     pub(crate) fn same<L: Ledger>(
         &self,
         term: &DartTerm,
         other: &DartTerm,
         steps: &mut Steps<L>,
-    ) -> Value
+    ) -> bool
         requires ready { IsReady self.now (Same term.now other.now) }
-        ensures value { HasValue (reading_of self.now) (Same term.now other.now) result }
+        ensures value { HasValue (reading_of self.now) (Same term.now other.now) (Truth result) }
         ensures cost { IsWithinUnits (reading_of self.now) (Same term.now other.now) steps.old steps.new }
         ensures least { steps.old ≤ steps.new }
     {
-        Value::Bool(self.slot(term, steps) == self.slot(other, steps))
+        self.slot(term, steps) == self.slot(other, steps)
     }
 }

@@ -10,7 +10,7 @@ use Rattle.gm_model.specs.Expressions.{HasValue}
 use Rattle.gm_model.specs.Trees.{Count, Unary, Binary, If, MakeVec2, MakeVec3, MakeRgb, tree_of}
 use Rattle.gm_eval.specs.Readers.{IsReady, Read, reading_of}
 use Rattle.gm_eval.proofs.Adding.{adds_as, ends_add, first_adds, front_adds, same_adds, start_adds, three_add, two_add}
-use Rattle.gm_eval.proofs.Parts.{beside_as, binary_known, binary_ready, binary_there, choice_ready, chosen_there, colour_ready, int_as, is_there, left_as, made_of_three, no_choice, no_numbers, none_there, not_there, other_there, pair_ready, pair_there, param_within, ready_as, some_numbers, there_as, three_trees, triple_ready, unary_known, unary_ready, unary_there, value_as}
+use Rattle.gm_eval.proofs.Parts.{beside_as, binary_known, binary_ready, binary_there, choice_ready, chosen_there, colour_ready, int_as, is_there, left_as, made_of_three, no_choice, no_numbers, no_values, none_there, not_there, other_there, pair_ready, pair_there, param_within, ready_as, some_numbers, there_as, three_trees, triple_ready, unary_known, unary_ready, unary_there, value_as}
 use Rattle.gm_eval.proofs.Sharing.{chosen_beside, chosen_left, condition_beside, first_beside, front_beside, is_some, later_kept, not_some, other_beside, other_left, same_kept, start_beside, still_beside, three_beside, three_left, two_beside, two_left}
 use Rattle.gm_eval.proofs.reader.Reader.+value.Goals as goal
 
@@ -19,11 +19,21 @@ use Rattle.gm_eval.proofs.reader.Reader.+value.Goals as goal
 pub unary-value-requires : goal.unary-value-requires
 unary-value-requires g t c = λ κs lives. (omega arith, (lives, (unary_ready c.args.self.now c.args.op (tree_of c.args.part.now) c.requires.ready, (c.requires.fits, c.requires.kept))))
 
-pub binary-value-requires : goal.binary-value-requires
-binary-value-requires g t c = λ κs lives. (omega arith, (lives, ((binary_ready c.args.self.now c.args.op (tree_of c.args.left.now) (tree_of c.args.right.now) c.requires.ready).0, (c.requires.fits, c.requires.kept))))
+pub parts-value-requires : goal.parts-value-requires
+parts-value-requires g t c = λ κs lives. (omega arith, (lives, (c.requires.first, (c.requires.fits, c.requires.kept))))
 
-pub binary-value-requires-2 : goal.binary-value-requires-2
-binary-value-requires-2 g t c = λ κs lives. (omega arith, (lives, ((binary_ready c.args.self.now c.args.op (tree_of c.args.left.now) (tree_of c.args.right.now) c.requires.ready).1, (omega (arith, c.requires.fits, c.value.ensures.room), c.value.ensures.kept))))
+pub parts-value-requires-2 : goal.parts-value-requires-2
+parts-value-requires-2 g t c = λ κs lives. (omega arith, (lives, (c.requires.second, (omega (arith, c.requires.fits, c.value.ensures.room), c.value.ensures.kept))))
+
+pub binary-parts-requires : goal.binary-parts-requires
+binary-parts-requires g t c =
+    let ready = binary_ready c.args.self.now c.args.op (tree_of c.args.left.now) (tree_of c.args.right.now) c.requires.ready in
+    λ κs lives. (omega arith, (lives, (ready.0, (ready.1, (c.requires.fits, c.requires.kept)))))
+
+pub quick-parts-requires : goal.quick-parts-requires
+quick-parts-requires g t c =
+    let ready = binary_ready c.args.self.now c.args.op (tree_of c.args.left.now) (tree_of c.args.right.now) c.requires.ready in
+    λ κs lives. (omega arith, (lives, (ready.0, (ready.1, (c.requires.fits, c.requires.kept)))))
 
 pub pair-value-requires : goal.pair-value-requires
 pair-value-requires g t c = λ κs lives. (omega arith, (lives, ((pair_ready c.args.self.now (tree_of c.args.x.now) (tree_of c.args.y.now) c.requires.ready).0, (c.requires.fits, c.requires.kept))))
@@ -80,47 +90,62 @@ unary-returns-in_err-part g t c =
       left = λ some. absurd (not_some _ c.from_residual.ensures some);
     }
 
-pub binary-returns-in_err-left : goal.binary-returns-in_err-left
-binary-returns-in_err-left g t c =
+pub parts-returns-in_err-first : goal.parts-returns-in_err-first
+parts-returns-in_err-first g t c =
     record {
-      value = none_there c.args.self.now (Binary c.args.op (tree_of c.args.left.now) (tree_of c.args.right.now)) c.from_residual.result c.from_residual.ensures (λ v (x, y, h, k, u). c.in_err-left.ensures.value x h);
-      cost = first_beside c.args.self.now _ (tree_of c.args.left.now) (tree_of c.args.right.now) _ _ c.value.ensures.cost;
+      value = no_values c.args.self.now (tree_of c.args.first.now) (tree_of c.args.second.now) c.from_residual.result c.from_residual.ensures (λ v w h k. c.in_err-first.ensures.value v h);
+      cost = first_beside c.args.self.now _ (tree_of c.args.first.now) (tree_of c.args.second.now) _ _ c.value.ensures.cost;
       least = c.value.ensures.least;
       room = c.value.ensures.room;
       kept = c.value.ensures.kept;
       stays = c.value.ensures.stays;
-      adds = first_adds (tree_of c.args.left.now) (tree_of c.args.right.now) _ _ c.value.ensures.adds;
+      adds = first_adds (tree_of c.args.first.now) (tree_of c.args.second.now) _ _ c.value.ensures.adds;
       left = λ some. absurd (not_some _ c.from_residual.ensures some);
     }
 
-pub binary-returns-in_err-right : goal.binary-returns-in_err-right
-binary-returns-in_err-right g t c =
+pub parts-returns-in_err-second : goal.parts-returns-in_err-second
+parts-returns-in_err-second g t c =
     record {
-      value = none_there c.args.self.now (Binary c.args.op (tree_of c.args.left.now) (tree_of c.args.right.now)) c.from_residual-in_err-right.result c.from_residual-in_err-right.ensures (λ v (x, y, h, k, u). c.in_err-right.ensures.value y k);
-      cost = two_beside c.args.self.now _ _ (tree_of c.args.left.now) (tree_of c.args.right.now) _ _ _ c.value.ensures.stays c.value.ensures.cost c.value-2.ensures.cost;
+      value = no_values c.args.self.now (tree_of c.args.first.now) (tree_of c.args.second.now) c.from_residual-in_err-second.result c.from_residual-in_err-second.ensures (λ v w h k. c.in_err-second.ensures.value w k);
+      cost = two_beside c.args.self.now _ _ (tree_of c.args.first.now) (tree_of c.args.second.now) _ _ _ c.value.ensures.stays c.value.ensures.cost c.value-2.ensures.cost;
       least = omega (arith, c.value.ensures.least, c.value-2.ensures.least);
       room = c.value-2.ensures.room ∙ c.value.ensures.room;
       kept = c.value-2.ensures.kept;
       stays = later_kept _ _ _ c.value.ensures.stays c.value-2.ensures.stays;
-      adds = two_add (tree_of c.args.left.now) (tree_of c.args.right.now) _ _ _ c.value.ensures.adds c.value-2.ensures.adds;
-      left = λ some. absurd (not_some _ c.from_residual-in_err-right.ensures some);
+      adds = two_add (tree_of c.args.first.now) (tree_of c.args.second.now) _ _ _ c.value.ensures.adds c.value-2.ensures.adds;
+      left = λ some. absurd (not_some _ c.from_residual-in_err-second.ensures some);
     }
+
+pub parts-returns : goal.parts-returns
+parts-returns g t c =
+    record {
+      value = (c.in_ok-first.ensures.value, c.in_ok-second.ensures.value);
+      cost = two_beside c.args.self.now _ _ (tree_of c.args.first.now) (tree_of c.args.second.now) _ _ _ c.value.ensures.stays c.value.ensures.cost c.value-2.ensures.cost;
+      least = omega (arith, c.value.ensures.least, c.value-2.ensures.least);
+      room = c.value-2.ensures.room ∙ c.value.ensures.room;
+      kept = c.value-2.ensures.kept;
+      stays = later_kept _ _ _ c.value.ensures.stays c.value-2.ensures.stays;
+      adds = two_add (tree_of c.args.first.now) (tree_of c.args.second.now) _ _ _ c.value.ensures.adds c.value-2.ensures.adds;
+      left = λ some. two_left c.args.self.now (Read c.args.self.now (tree_of c.args.first.now)) (Read c.args.self.now (tree_of c.args.second.now)) _ _ c.value-2.ensures.stays (c.in_ok-first.ensures.left refl) (c.in_ok-second.ensures.left refl);
+    }
+
+pub binary-returns-in_err-left-clause-value : goal.binary-returns-in_err-left-clause-value
+binary-returns-in_err-left-clause-value g t c = none_there c.args.self.now (Binary c.args.op (tree_of c.args.left.now) (tree_of c.args.right.now)) c.from_residual.result c.from_residual.ensures (λ v (x, y, h, k, u). c.in_err-left.ensures.value x y h k)
 
 pub binary-binary-requires : goal.binary-binary-requires
-binary-binary-requires g t c = record { kind = binary_known c.args.self.now c.args.op (tree_of c.args.left.now) (tree_of c.args.right.now) c.in_ok-left.left c.in_ok-right.right c.requires.ready c.in_ok-left.ensures.value c.in_ok-right.ensures.value }
+binary-binary-requires g t c = record { kind = binary_known c.args.self.now c.args.op (tree_of c.args.left.now) (tree_of c.args.right.now) c.in_ok-left.left c.in_ok-left.right c.requires.ready c.in_ok-left.ensures.value.0 c.in_ok-left.ensures.value.1 }
 
-pub binary-returns : goal.binary-returns
-binary-returns g t c =
-    record {
-      value = binary_there c.args.self.now c.args.op (tree_of c.args.left.now) (tree_of c.args.right.now) c.in_ok-left.left c.in_ok-right.right c.binary.result c.in_ok-left.ensures.value c.in_ok-right.ensures.value c.binary.ensures;
-      cost = two_beside c.args.self.now _ _ (tree_of c.args.left.now) (tree_of c.args.right.now) _ _ _ c.value.ensures.stays c.value.ensures.cost c.value-2.ensures.cost;
-      least = omega (arith, c.value.ensures.least, c.value-2.ensures.least);
-      room = c.value-2.ensures.room ∙ c.value.ensures.room;
-      kept = c.value-2.ensures.kept;
-      stays = later_kept _ _ _ c.value.ensures.stays c.value-2.ensures.stays;
-      adds = two_add (tree_of c.args.left.now) (tree_of c.args.right.now) _ _ _ c.value.ensures.adds c.value-2.ensures.adds;
-      left = λ some. two_left c.args.self.now (Read c.args.self.now (tree_of c.args.left.now)) (Read c.args.self.now (tree_of c.args.right.now)) _ _ c.value-2.ensures.stays (c.in_ok-left.ensures.left refl) (c.in_ok-right.ensures.left refl);
-    }
+pub binary-returns-clause-value : goal.binary-returns-clause-value
+binary-returns-clause-value g t c = binary_there c.args.self.now c.args.op (tree_of c.args.left.now) (tree_of c.args.right.now) c.in_ok-left.left c.in_ok-left.right c.binary.result c.in_ok-left.ensures.value.0 c.in_ok-left.ensures.value.1 c.binary.ensures
+
+pub quick-returns-in_err-left-clause-value : goal.quick-returns-in_err-left-clause-value
+quick-returns-in_err-left-clause-value g t c = none_there c.args.self.now (Binary c.args.op (tree_of c.args.left.now) (tree_of c.args.right.now)) c.from_residual.result c.from_residual.ensures (λ v (x, y, h, k, u). c.in_err-left.ensures.value x y h k)
+
+pub quick-most_met-requires-clause-kind : goal.quick-most_met-requires-clause-kind
+quick-most_met-requires-clause-kind g t c = binary_known c.args.self.now c.args.op (tree_of c.args.left.now) (tree_of c.args.right.now) c.in_ok-left.left c.in_ok-left.right c.requires.ready c.in_ok-left.ensures.value.0 c.in_ok-left.ensures.value.1
+
+pub quick-returns-clause-value : goal.quick-returns-clause-value
+quick-returns-clause-value g t c = binary_there c.args.self.now c.args.op (tree_of c.args.left.now) (tree_of c.args.right.now) c.in_ok-left.left c.in_ok-left.right c.most_met.result c.in_ok-left.ensures.value.0 c.in_ok-left.ensures.value.1 c.most_met.ensures
 
 pub binary-of_mean-requires : goal.binary-of_mean-requires
 binary-of_mean-requires g t c =
@@ -286,8 +311,8 @@ numbers-returns g t c =
 pub value-bounds-self-at : goal.value-bounds-self-at
 value-bounds-self-at g t c = param_within c.args.self.now c.in-Param.at (subst (λ e. IsReady c.args.self.now (tree_of e)) c.in-Param.is c.requires.ready)
 
-pub value-returns-in-Bool : goal.value-returns-in-Bool
-value-returns-in-Bool g t c = record { value = value_as c.args.self.now c.args.expr.now _ _ (ap tree_of c.in-Bool.is) refl; cost = still_beside c.args.self.now _ (tree_of c.args.expr.now) _; least = omega arith; room = refl; kept = c.requires.kept; stays = same_kept _; adds = same_adds _ _; left = λ some. left_as c.args.self.now c.args.expr.now _ _ (ap tree_of c.in-Bool.is) (λ room x read. absurd read) }
+pub composed-returns-in-Bool : goal.composed-returns-in-Bool
+composed-returns-in-Bool g t c = record { value = value_as c.args.self.now c.args.expr.now _ _ (ap tree_of c.in-Bool.is) refl; cost = still_beside c.args.self.now _ (tree_of c.args.expr.now) _; least = omega arith; room = refl; kept = c.requires.kept; stays = same_kept _; adds = same_adds _ _; left = λ some. left_as c.args.self.now c.args.expr.now _ _ (ap tree_of c.in-Bool.is) (λ room x read. absurd read) }
 
 pub value-returns-in-Param : goal.value-returns-in-Param
 value-returns-in-Param g t c =
@@ -321,15 +346,15 @@ value-returns-in-Field g t c =
       left = λ some. left_as c.args.self.now c.args.expr.now _ _ same (λ room x read. absurd read);
     }
 
-pub value-same-requires : goal.value-same-requires
-value-same-requires g t c = record { ready = ready_as c.args.self.now c.args.expr.now _ (ap tree_of c.in-Same.is) c.requires.ready }
+pub composed-same-requires : goal.composed-same-requires
+composed-same-requires g t c = record { ready = ready_as c.args.self.now c.args.expr.now _ (ap tree_of c.in-Same.is) c.requires.ready }
 
-pub value-returns-in-Same : goal.value-returns-in-Same
-value-returns-in-Same g t c =
+pub composed-returns-in-Same : goal.composed-returns-in-Same
+composed-returns-in-Same g t c =
     let kept = c.same.ensures in
     let same = ap tree_of c.in-Same.is in
     record {
-      value = value_as c.args.self.now c.args.expr.now _ c.same.result same kept.value;
+      value = value_as c.args.self.now c.args.expr.now _ (Truth c.same.result) same kept.value;
       cost = beside_as c.args.self.now c.args.expr.now _ _ _ _ same kept.cost;
       least = kept.least;
       room = refl;
@@ -339,11 +364,11 @@ value-returns-in-Same g t c =
       left = λ some. left_as c.args.self.now c.args.expr.now _ _ same (λ room x read. absurd read);
     }
 
-pub value-collected-requires : goal.value-collected-requires
-value-collected-requires g t c = record { ready = ready_as c.args.self.now c.args.expr.now _ (ap tree_of c.in-Count.is) c.requires.ready; fits = c.requires.fits; kept = c.requires.kept }
+pub composed-collected-requires : goal.composed-collected-requires
+composed-collected-requires g t c = record { ready = ready_as c.args.self.now c.args.expr.now _ (ap tree_of c.in-Count.is) c.requires.ready; fits = c.requires.fits; kept = c.requires.kept }
 
-pub value-returns-in-Count : goal.value-returns-in-Count
-value-returns-in-Count g t c =
+pub composed-returns-in-Count : goal.composed-returns-in-Count
+composed-returns-in-Count g t c =
     let kept = c.collected.ensures in
     let same = ap tree_of c.in-Count.is in
     record {
@@ -357,11 +382,11 @@ value-returns-in-Count g t c =
       left = λ some. left_as c.args.self.now c.args.expr.now _ _ same kept.left;
     }
 
-pub value-collected-requires-in-Sum : goal.value-collected-requires-in-Sum
-value-collected-requires-in-Sum g t c = record { ready = ready_as c.args.self.now c.args.expr.now _ (ap tree_of c.in-Sum.is) c.requires.ready; fits = c.requires.fits; kept = c.requires.kept }
+pub composed-collected-requires-in-Sum : goal.composed-collected-requires-in-Sum
+composed-collected-requires-in-Sum g t c = record { ready = ready_as c.args.self.now c.args.expr.now _ (ap tree_of c.in-Sum.is) c.requires.ready; fits = c.requires.fits; kept = c.requires.kept }
 
-pub value-returns-in-Sum : goal.value-returns-in-Sum
-value-returns-in-Sum g t c =
+pub composed-returns-in-Sum : goal.composed-returns-in-Sum
+composed-returns-in-Sum g t c =
     let kept = c.collected-in-Sum.ensures in
     let same = ap tree_of c.in-Sum.is in
     record {
@@ -375,11 +400,11 @@ value-returns-in-Sum g t c =
       left = λ some. left_as c.args.self.now c.args.expr.now _ _ same kept.left;
     }
 
-pub value-collected-requires-in-Least : goal.value-collected-requires-in-Least
-value-collected-requires-in-Least g t c = record { ready = ready_as c.args.self.now c.args.expr.now _ (ap tree_of c.in-Least.is) c.requires.ready; fits = c.requires.fits; kept = c.requires.kept }
+pub composed-collected-requires-in-Least : goal.composed-collected-requires-in-Least
+composed-collected-requires-in-Least g t c = record { ready = ready_as c.args.self.now c.args.expr.now _ (ap tree_of c.in-Least.is) c.requires.ready; fits = c.requires.fits; kept = c.requires.kept }
 
-pub value-returns-in-Least : goal.value-returns-in-Least
-value-returns-in-Least g t c =
+pub composed-returns-in-Least : goal.composed-returns-in-Least
+composed-returns-in-Least g t c =
     let kept = c.collected-in-Least.ensures in
     let same = ap tree_of c.in-Least.is in
     record {
@@ -393,11 +418,11 @@ value-returns-in-Least g t c =
       left = λ some. left_as c.args.self.now c.args.expr.now _ _ same kept.left;
     }
 
-pub value-collected-requires-in-Greatest : goal.value-collected-requires-in-Greatest
-value-collected-requires-in-Greatest g t c = record { ready = ready_as c.args.self.now c.args.expr.now _ (ap tree_of c.in-Greatest.is) c.requires.ready; fits = c.requires.fits; kept = c.requires.kept }
+pub composed-collected-requires-in-Greatest : goal.composed-collected-requires-in-Greatest
+composed-collected-requires-in-Greatest g t c = record { ready = ready_as c.args.self.now c.args.expr.now _ (ap tree_of c.in-Greatest.is) c.requires.ready; fits = c.requires.fits; kept = c.requires.kept }
 
-pub value-returns-in-Greatest : goal.value-returns-in-Greatest
-value-returns-in-Greatest g t c =
+pub composed-returns-in-Greatest : goal.composed-returns-in-Greatest
+composed-returns-in-Greatest g t c =
     let kept = c.collected-in-Greatest.ensures in
     let same = ap tree_of c.in-Greatest.is in
     record {
@@ -411,14 +436,14 @@ value-returns-in-Greatest g t c =
       left = λ some. left_as c.args.self.now c.args.expr.now _ _ same kept.left;
     }
 
-pub value-unary-requires : goal.value-unary-requires
-value-unary-requires g t c =
+pub composed-unary-requires : goal.composed-unary-requires
+composed-unary-requires g t c =
     let same = ap tree_of c.in-Unary.is ∙ ap (λ (e : Expr). Unary c.in-Unary.op (tree_of e)) (sym c.deref.ensures) in
     let ready = ready_as c.args.self.now c.args.expr.now _ same c.requires.ready in
     λ κs lives. (omega (arith, c.decreases, ap the_size c.in-Unary.is, sized-Unary c.in-Unary.op c.in-Unary.part, ap the_size c.deref.ensures), (lives, (ready, (c.requires.fits, c.requires.kept))))
 
-pub value-returns-in-Unary : goal.value-returns-in-Unary
-value-returns-in-Unary g t c =
+pub composed-returns-in-Unary : goal.composed-returns-in-Unary
+composed-returns-in-Unary g t c =
     let kept = c.unary.ensures in
     let same = ap tree_of c.in-Unary.is ∙ ap (λ (e : Expr). Unary c.in-Unary.op (tree_of e)) (sym c.deref.ensures) in
     record {
@@ -432,16 +457,37 @@ value-returns-in-Unary g t c =
       left = λ some. left_as c.args.self.now c.args.expr.now _ _ same (kept.left some);
     }
 
-pub value-binary-requires : goal.value-binary-requires
-value-binary-requires g t c =
+pub composed-quick-requires : goal.composed-quick-requires
+composed-quick-requires g t c =
     let same = ap tree_of c.in-Binary.is ∙ ap₂ (λ (e : Expr) (f : Expr). Binary c.in-Binary.op (tree_of e) (tree_of f)) (sym c.deref-in-Binary.ensures) (sym c.deref-in-Binary-2.ensures) in
     let ready = ready_as c.args.self.now c.args.expr.now _ same c.requires.ready in
-    λ κs lives. (omega (arith, c.decreases, ap the_size c.in-Binary.is, sized-Binary c.in-Binary.op c.in-Binary.left c.in-Binary.right, ap the_size c.deref-in-Binary.ensures, ap the_size c.deref-in-Binary-2.ensures), (lives, (ready, (c.requires.fits, c.requires.kept))))
+    λ κs lives. (omega (arith, c.decreases, ap the_size c.in-Binary.is, sized-Binary c.in-Binary.op c.in-Binary.left c.in-Binary.right, ap the_size c.deref-in-Binary.ensures, ap the_size c.deref-in-Binary-2.ensures), (lives, (ready, (c.is_quick.ensures c.if-is_quick.true, (c.requires.fits, c.requires.kept)))))
 
-pub value-returns-in-Binary : goal.value-returns-in-Binary
-value-returns-in-Binary g t c =
-    let kept = c.binary.ensures in
+pub composed-returns-in-Binary : goal.composed-returns-in-Binary
+composed-returns-in-Binary g t c =
+    let kept = c.quick.ensures in
     let same = ap tree_of c.in-Binary.is ∙ ap₂ (λ (e : Expr) (f : Expr). Binary c.in-Binary.op (tree_of e) (tree_of f)) (sym c.deref-in-Binary.ensures) (sym c.deref-in-Binary-2.ensures) in
+    record {
+      value = there_as c.args.self.now c.args.expr.now _ c.quick.result same kept.value;
+      cost = beside_as c.args.self.now c.args.expr.now _ _ _ _ same kept.cost;
+      least = kept.least;
+      room = kept.room;
+      kept = kept.kept;
+      stays = kept.stays;
+      adds = adds_as c.args.expr.now _ _ _ same kept.adds;
+      left = λ some. left_as c.args.self.now c.args.expr.now _ _ same (kept.left some);
+    }
+
+pub composed-binary-requires : goal.composed-binary-requires
+composed-binary-requires g t c =
+    let same = ap tree_of c.in-Binary-2.is ∙ ap₂ (λ (e : Expr) (f : Expr). Binary c.in-Binary-2.op (tree_of e) (tree_of f)) (sym c.deref-in-Binary-2-2.ensures) (sym c.deref-in-Binary-2-3.ensures) in
+    let ready = ready_as c.args.self.now c.args.expr.now _ same c.requires.ready in
+    λ κs lives. (omega (arith, c.decreases, ap the_size c.in-Binary-2.is, sized-Binary c.in-Binary-2.op c.in-Binary-2.left c.in-Binary-2.right, ap the_size c.deref-in-Binary-2-2.ensures, ap the_size c.deref-in-Binary-2-3.ensures), (lives, (ready, (c.requires.fits, c.requires.kept))))
+
+pub composed-returns-in-Binary-2 : goal.composed-returns-in-Binary-2
+composed-returns-in-Binary-2 g t c =
+    let kept = c.binary.ensures in
+    let same = ap tree_of c.in-Binary-2.is ∙ ap₂ (λ (e : Expr) (f : Expr). Binary c.in-Binary-2.op (tree_of e) (tree_of f)) (sym c.deref-in-Binary-2-2.ensures) (sym c.deref-in-Binary-2-3.ensures) in
     record {
       value = there_as c.args.self.now c.args.expr.now _ c.binary.result same kept.value;
       cost = beside_as c.args.self.now c.args.expr.now _ _ _ _ same kept.cost;
@@ -453,14 +499,14 @@ value-returns-in-Binary g t c =
       left = λ some. left_as c.args.self.now c.args.expr.now _ _ same (kept.left some);
     }
 
-pub value-pair-requires : goal.value-pair-requires
-value-pair-requires g t c =
+pub composed-pair-requires : goal.composed-pair-requires
+composed-pair-requires g t c =
     let same = ap tree_of c.in-MakeVec2.is ∙ ap₂ (λ (e : Expr) (f : Expr). MakeVec2 (tree_of e) (tree_of f)) (sym c.deref-in-MakeVec2.ensures) (sym c.deref-in-MakeVec2-2.ensures) in
     let ready = ready_as c.args.self.now c.args.expr.now _ same c.requires.ready in
     λ κs lives. (omega (arith, c.decreases, ap the_size c.in-MakeVec2.is, sized-MakeVec2 c.in-MakeVec2.x c.in-MakeVec2.y, ap the_size c.deref-in-MakeVec2.ensures, ap the_size c.deref-in-MakeVec2-2.ensures), (lives, (ready, (c.requires.fits, c.requires.kept))))
 
-pub value-returns-in-MakeVec2 : goal.value-returns-in-MakeVec2
-value-returns-in-MakeVec2 g t c =
+pub composed-returns-in-MakeVec2 : goal.composed-returns-in-MakeVec2
+composed-returns-in-MakeVec2 g t c =
     let kept = c.pair.ensures in
     let same = ap tree_of c.in-MakeVec2.is ∙ ap₂ (λ (e : Expr) (f : Expr). MakeVec2 (tree_of e) (tree_of f)) (sym c.deref-in-MakeVec2.ensures) (sym c.deref-in-MakeVec2-2.ensures) in
     record {
@@ -474,14 +520,14 @@ value-returns-in-MakeVec2 g t c =
       left = λ some. left_as c.args.self.now c.args.expr.now _ _ same (kept.left some);
     }
 
-pub value-choice-requires : goal.value-choice-requires
-value-choice-requires g t c =
+pub composed-choice-requires : goal.composed-choice-requires
+composed-choice-requires g t c =
     let same = ap tree_of c.in-If.is ∙ three_trees If _ _ _ _ _ _ (sym c.deref-in-If.ensures) (sym c.deref-in-If-2.ensures) (sym c.deref-in-If-3.ensures) in
     let ready = ready_as c.args.self.now c.args.expr.now _ same c.requires.ready in
     λ κs lives. (omega (arith, c.decreases, ap the_size c.in-If.is, sized-If c.in-If.condition c.in-If.chosen c.in-If.other, ap the_size c.deref-in-If.ensures, ap the_size c.deref-in-If-2.ensures, ap the_size c.deref-in-If-3.ensures), (lives, (ready, (c.requires.fits, c.requires.kept))))
 
-pub value-returns-in-If : goal.value-returns-in-If
-value-returns-in-If g t c =
+pub composed-returns-in-If : goal.composed-returns-in-If
+composed-returns-in-If g t c =
     let kept = c.choice.ensures in
     let same = ap tree_of c.in-If.is ∙ three_trees If _ _ _ _ _ _ (sym c.deref-in-If.ensures) (sym c.deref-in-If-2.ensures) (sym c.deref-in-If-3.ensures) in
     record {
@@ -495,15 +541,15 @@ value-returns-in-If g t c =
       left = λ some. left_as c.args.self.now c.args.expr.now _ _ same (kept.left some);
     }
 
-pub value-numbers-requires : goal.value-numbers-requires
-value-numbers-requires g t c =
+pub composed-numbers-requires : goal.composed-numbers-requires
+composed-numbers-requires g t c =
     let same = ap tree_of c.in-MakeVec3.is ∙ three_trees MakeVec3 _ _ _ _ _ _ (sym c.deref-in-MakeVec3.ensures) (sym c.deref-in-MakeVec3-2.ensures) (sym c.deref-in-MakeVec3-3.ensures) in
     let ready = ready_as c.args.self.now c.args.expr.now _ same c.requires.ready in
     let parts = triple_ready c.args.self.now _ _ _ ready in
     λ κs lives. (omega (arith, c.decreases, ap the_size c.in-MakeVec3.is, sized-MakeVec3 c.in-MakeVec3.x c.in-MakeVec3.y c.in-MakeVec3.z, ap the_size c.deref-in-MakeVec3.ensures, ap the_size c.deref-in-MakeVec3-2.ensures, ap the_size c.deref-in-MakeVec3-3.ensures), (lives, (parts.0, (parts.1, (parts.2, (c.requires.fits, c.requires.kept))))))
 
-pub value-returns-in-MakeVec3 : goal.value-returns-in-MakeVec3
-value-returns-in-MakeVec3 g t c =
+pub composed-returns-in-MakeVec3 : goal.composed-returns-in-MakeVec3
+composed-returns-in-MakeVec3 g t c =
     let kept = c.numbers.ensures in
     let same = ap tree_of c.in-MakeVec3.is ∙ three_trees MakeVec3 _ _ _ _ _ _ (sym c.deref-in-MakeVec3.ensures) (sym c.deref-in-MakeVec3-2.ensures) (sym c.deref-in-MakeVec3-3.ensures) in
     record {
@@ -517,15 +563,15 @@ value-returns-in-MakeVec3 g t c =
       left = λ some. left_as c.args.self.now c.args.expr.now _ _ same (kept.left (some_numbers _ _ _ c.triple.ensures some));
     }
 
-pub value-numbers-requires-in-MakeRgb : goal.value-numbers-requires-in-MakeRgb
-value-numbers-requires-in-MakeRgb g t c =
+pub composed-numbers-requires-in-MakeRgb : goal.composed-numbers-requires-in-MakeRgb
+composed-numbers-requires-in-MakeRgb g t c =
     let same = ap tree_of c.in-MakeRgb.is ∙ three_trees MakeRgb _ _ _ _ _ _ (sym c.deref-in-MakeRgb.ensures) (sym c.deref-in-MakeRgb-2.ensures) (sym c.deref-in-MakeRgb-3.ensures) in
     let ready = ready_as c.args.self.now c.args.expr.now _ same c.requires.ready in
     let parts = colour_ready c.args.self.now _ _ _ ready in
     λ κs lives. (omega (arith, c.decreases, ap the_size c.in-MakeRgb.is, sized-MakeRgb c.in-MakeRgb.red c.in-MakeRgb.green c.in-MakeRgb.blue, ap the_size c.deref-in-MakeRgb.ensures, ap the_size c.deref-in-MakeRgb-2.ensures, ap the_size c.deref-in-MakeRgb-3.ensures), (lives, (parts.0, (parts.1, (parts.2, (c.requires.fits, c.requires.kept))))))
 
-pub value-returns-in-MakeRgb : goal.value-returns-in-MakeRgb
-value-returns-in-MakeRgb g t c =
+pub composed-returns-in-MakeRgb : goal.composed-returns-in-MakeRgb
+composed-returns-in-MakeRgb g t c =
     let kept = c.numbers-in-MakeRgb.ensures in
     let same = ap tree_of c.in-MakeRgb.is ∙ three_trees MakeRgb _ _ _ _ _ _ (sym c.deref-in-MakeRgb.ensures) (sym c.deref-in-MakeRgb-2.ensures) (sym c.deref-in-MakeRgb-3.ensures) in
     record {
