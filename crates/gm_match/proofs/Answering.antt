@@ -1,6 +1,6 @@
 -- What is answered, from what the parts of matching have found.
-use Rattle.std.proofs.Common.{◌≡◌, ℕ, ◌+◌, ◌*◌, ◌<◌, ◌≤◌, ◌⊎◌, inl, inr, Bool, true, false, IsTrue, List, [], ◌∷◌, length, get_or, take, None, Some, refl, sym, ap, subst, ◌∙◌, arith}
-use Rattle.std.proofs.lemmas.Bool.{eqb-true}
+use Rattle.std.proofs.Common.{not, ◌≡◌, ◌≢◌, ℕ, ◌+◌, ◌*◌, ◌<◌, ◌≤◌, ◌⊎◌, inl, inr, Bool, true, false, IsTrue, List, [], ◌∷◌, length, get_or, take, None, Some, refl, sym, ap, subst, ◌∙◌, arith}
+use Rattle.std.proofs.lemmas.Bool.{eqb-true, false≢true}
 use Rattle.std.proofs.lemmas.List.{length-map, length-take, get_or-take}
 use Rattle.std.proofs.lemmas.Option.{slice_get-get_or, slice_get_within, get_or_from_slice_get}
 use Rattle.std.specs.FinMap.{get}
@@ -55,6 +55,10 @@ no_items (x ∷ xs) e = absurd (omega arith)
 -- the first hook that a table has is that of its rule
 pub first_same : (table other : RuleTable) (hooks : List ℕ) → hooks ≡ other.hooks → other ≡ table → slice_index hooks 0 ≡ slice_index (rule_of table).hooks 0
 first_same table other hooks are same = ap (λ hs. slice_index hs 0) are ∙ ap (λ (t : RuleTable). slice_index t.hooks 0) same
+
+-- what isn't one by a comparison isn't one
+pub several_letters : (len long : ℕ) → len ≡ long → IsTrue (not (len == 1)) → long ≢ 1
+several_letters len long same is one = false≢true (subst (λ n. IsTrue (not (n == 1))) (same ∙ one) is)
 
 pub none_within : (items : List ℕ) (n : ℕ) → items ≡ [] → All (λ q. q < n) items
 none_within items n none k d h = absurd (omega (arith, ap length none))

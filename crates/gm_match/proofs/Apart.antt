@@ -1,8 +1,9 @@
 -- How it is seen that no slot comes twice, where the slots of one node are taken already.
-use Rattle.std.proofs.Common.{◌≡◌, ℕ, ◌+◌, ◌<◌, ◌⊎◌, inl, inr, List, [], ◌∷◌, ◌++◌, Some, refl, sym, ap, subst, ◌∙◌, arith}
-use Rattle.std.proofs.lemmas.Bool.{cases_lt}
+use Rattle.std.proofs.Common.{Bool, false, get_or, ◌==◌, ◌≡◌, ◌≢◌, ℕ, ◌+◌, ◌*◌, ◌/◌, ◌%◌, ◌<◌, length, ◌⊎◌, inl, inr, List, [], ◌∷◌, ◌++◌, Some, refl, sym, ap, subst, ◌∙◌, arith}
+use Rattle.std.proofs.lemmas.Bool.{cases_lt, cases_order, eq-eqb, false≢true}
 use Rattle.std.proofs.lemmas.List.Elements.{Contains-append_left, Contains-push}
-use Rattle.std.proofs.lemmas.Option.{slice_get_within, get_or_from_slice_get}
+use Rattle.std.proofs.lemmas.Nat.{mul-add-lt, div-mul-add, mod-mul-add}
+use Rattle.std.proofs.lemmas.Option.{slice_get-get_or, slice_get_within, get_or_from_slice_get}
 use Rattle.std.specs.List.{slice_get, Contains}
 use Rattle.gm_model.specs.Orbits.{IsPairBefore}
 use Rattle.gm_arena.specs.declared.slot.Slot.{Slot}
@@ -101,3 +102,35 @@ module _ (found : Placed) (h : ℕ) where
       below (inl less) (inl l) = omega (arith, less, l)
       below (inr (e, less)) (inl l) = omega (arith, e, l)
       below b (inr (e, less)) = absurd (omega arith)
+
+-- ---- slots that are compared with one another
+
+module _ (found : Placed) (each : (place earlier : ℕ) → place < length found.slots → earlier < place → slice_get found.slots earlier ≢ slice_get found.slots place) (long : found.positions * found.nodes ≡ length found.slots) where
+  place_of_pair : (y q : ℕ) → y < found.nodes → q < found.positions → q * found.nodes + y < length found.slots
+  place_of_pair y q left within = omega (arith, mul-add-lt q found.nodes y found.positions within left, long)
+
+  both_left : (y q z r : ℕ) → IsPairBefore y q z r → IsPairBefore z r found.nodes 0 → (y < found.nodes) × (z < found.nodes)
+  both_left y q z r before (inl left) = elim before [ inl less ↦ (omega (arith, less, left), left) | inr same ↦ (omega (arith, same.0, left), left) ]
+  both_left y q z r before (inr (_, less)) = absurd (omega arith)
+
+  one_place : (y q z r : ℕ) → y < found.nodes → z < found.nodes → IsPairBefore y q z r → q * found.nodes + y ≡ r * found.nodes + z → ⊥
+  one_place y q z r left left2 before same =
+      let row : q ≡ r = sym (div-mul-add q found.nodes y left) ∙ ap (λ n. n / found.nodes) same ∙ div-mul-add r found.nodes z left2 in
+      let node : y ≡ z = sym (mod-mul-add q found.nodes y left) ∙ ap (λ n. n % found.nodes) same ∙ mod-mul-add r found.nodes z left2 in
+      elim before [ inl less ↦ omega (arith, less, node) | inr later ↦ omega (arith, later.1, row) ]
+
+  pub each_once : TakeEachOnce found
+  each_once y q z r before last within within2 equal =
+      let left = both_left y q z r before last in
+      elim (cases_order (q * found.nodes + y) (r * found.nodes + z)) [
+        | inl same ↦ one_place y q z r left.0 left.1 before same
+        | inr (inl less) ↦ each (r * found.nodes + z) (q * found.nodes + y) (place_of_pair z r left.1 within2) less equal
+        | inr (inr less) ↦ each (q * found.nodes + y) (r * found.nodes + z) (place_of_pair y q left.0 within) less (sym equal)
+      ]
+
+-- two slots that are compared are different
+pub other_slot : (slots : List Slot) (k place : ℕ) (answer : Bool) → k < length slots → place < length slots → answer ≡ ((get_or slots k (record { at = 0 })).at == (get_or slots place (record { at = 0 })).at) → answer ≡ false → slice_get slots k ≢ slice_get slots place
+other_slot slots k place answer low within is differs same =
+    let here = slice_get-get_or slots k (record { at = 0 }) low in
+    let there = slice_get-get_or slots place (record { at = 0 }) within in
+    false≢true (sym differs ∙ is ∙ eq-eqb _ _ (ap (λ (s : Slot). s.at) (some_same _ _ (sym here ∙ same ∙ there))))

@@ -1,5 +1,7 @@
 -- The walk along one label: a dart and its neighbour, or the dart alone.
-use Rattle.std.proofs.Common.{◌≡◌, ◌≢◌, ℕ, zero, suc, ◌+◌, ◌*◌, ◌<◌, ◌≤◌, List, [], ◌∷◌, ◌++◌, length, Some, refl, sym, ap, subst, ◌∙◌, inl, inr, arith}
+use Rattle.std.proofs.Common.{◌≡◌, ◌≢◌, ℕ, zero, suc, ◌+◌, ◌*◌, ◌<◌, ◌≤◌, List, [], ◌∷◌, length, take, Some, refl, sym, ap, subst, ◌∙◌, inl, inr, arith}
+use Rattle.std.proofs.lemmas.List.{length-take, length-take-le}
+use Rattle.std.proofs.lemmas.Option.{slice_get_within, get_or_from_slice_get}
 use Rattle.std.specs.List.{Contains, slice_get}
 use Rattle.std.specs.Prelude.{slice_index}
 use Rattle.gm_model.specs.declared.word.Letter.{Letter}
@@ -11,13 +13,11 @@ use Rattle.gm_arena.specs.ArenaAsMap.{as_map}
 use Rattle.gm_arena.specs.ArenaMap.{ArenaMap, IsAt, IsLiveSlot, alpha, name_at}
 use Rattle.gm_arena.specs.Lawful.{IsLawful}
 use Rattle.gm_arena.proofs.MapLemmas.{IsLiveName-name_at}
-use Rattle.gm_walk.specs.Room.{Room, TakesIn}
-use Rattle.gm_walk.specs.Room.TakesIn.{Known, Added}
 use Rattle.gm_walk.proofs.NameLemmas.{at_name, live_at}
 use Rattle.gm_match.proofs.Stepping.{one_slot}
 use Rattle.gm_walk.specs.Cells.{AreCells}
 use Rattle.gm_walk.specs.Turns.{IsTurn}
-use Rattle.gm_walk.specs.Walks.{along, names_of}
+use Rattle.gm_walk.specs.Walks.{IsLabelUpTo, IsWord, along, names_of}
 
 none_before : (q l : ℕ) → IsPairBefore q l 0 0 → ⊥
 none_before q l (inl less) = omega (arith, less)
@@ -85,20 +85,30 @@ module _ (m : ArenaMap) (word : List Letter) (i : ℕ) (one : length word ≡ 1)
     pub turns_two : AreCells (IsTurn m word (d ∷ e ∷ [])) 2 (length word) (1 ∷ 0 ∷ [])
     turns_two = record { long = omega (arith, one); each = each_two }
 
--- ---- the slots that are taken in
+-- ---- the slots
 
-first_taken : (old new : Room) (slot : Slot) → old.walked ≡ [] → TakesIn old slot new → new.walked ≡ slot ∷ []
-first_taken old new slot none (Known (p, h, same) e) = absurd (omega (arith, h, ap length none))
-first_taken old new slot none (Added lacks e) = ap (λ (r : Room). r.walked) e ∙ ap (λ xs. xs ++ slot ∷ []) none
+-- those of the walk, so many as there are turns
+abbrev pub ends : Slot → Slot → List ℕ → List Slot
+ends from to turns = take (length turns) (from ∷ to ∷ [])
 
-not_alone : (from to : Slot) → (to ≡ from → ⊥) → Contains (from ∷ []) to → ⊥
-not_alone from to differs (zero, h, same) = differs (sym same)
-not_alone from to differs (suc p, h, same) = omega (arith, h)
+pub ends_long : (from to : Slot) (turns : List ℕ) → length turns ≤ 2 → length (ends from to turns) ≡ length turns
+ends_long from to turns few = length-take-le (length turns) (from ∷ to ∷ []) few
 
-pub both_taken : (old before new : Room) (from to : Slot) → old.walked ≡ [] → TakesIn old from before → (to ≡ from → ⊥) → TakesIn before to new → new.walked ≡ from ∷ to ∷ []
-both_taken old before new from to none takes differs (Known c e) = absurd (not_alone from to differs (subst (λ xs. Contains xs to) (first_taken old before from none takes) c))
-both_taken old before new from to none takes differs (Added lacks e) = ap (λ (r : Room). r.walked) e ∙ ap (λ xs. xs ++ to ∷ []) (first_taken old before from none takes)
+pub few_ends : (from to : Slot) (turns : List ℕ) → length (ends from to turns) ≤ 2
+few_ends from to turns = omega (arith, length-take (length turns) (from ∷ to ∷ []))
 
+-- the dart is its own neighbour
+module _ (m : ArenaMap) (word : List Letter) (i : ℕ) (one : length word ≡ 1) (letter : slice_get word 0 ≡ Some (At i)) (from to : Slot) (leads : IsAt m to.at (alpha m i (name_at m from.at))) (same : to ≡ from) where
+  stays_there : alpha m i (name_at m from.at) ≡ name_at m from.at
+  stays_there = sym (at_name m to.at _ leads) ∙ ap (λ (s : Slot). name_at m s.at) same
+
+  pub alone_walk : (turns : List ℕ) → turns ≡ 0 ∷ [] → IsWalk (along m word) (length word) (name_at m from.at) (names_of m (ends from to turns))
+  alone_walk turns are = rw are (walk_one m word i one letter (name_at m from.at) stays_there)
+
+  pub alone_turns : (turns : List ℕ) → turns ≡ 0 ∷ [] → AreCells (IsTurn m word (names_of m (ends from to turns))) (length turns) (length word) turns
+  alone_turns turns are = rw are (turns_one m word i one letter (name_at m from.at) stays_there)
+
+-- it has another
 module _ (m : ArenaMap) (lawful : IsLawful m) (generalised : IsGeneralised (as_map m)) (word : List Letter) (i : ℕ) (one : length word ≡ 1) (letter : slice_get word 0 ≡ Some (At i)) (low : i ≤ m.schema.dim) (from to : Slot) (live : IsLiveSlot m from.at) (leads : IsAt m to.at (alpha m i (name_at m from.at))) (differs : to ≡ from → ⊥) where
   to_is : name_at m to.at ≡ alpha m i (name_at m from.at)
   to_is = at_name m to.at _ leads
@@ -109,8 +119,16 @@ module _ (m : ArenaMap) (lawful : IsLawful m) (generalised : IsGeneralised (as_m
   apart : name_at m from.at ≢ name_at m to.at
   apart same = differs (sym (one_slot m lawful from to live (live_at m to.at _ leads) same))
 
-  pub edge_walk : (walked : List Slot) → walked ≡ from ∷ to ∷ [] → IsWalk (along m word) (length word) (name_at m from.at) (names_of m walked)
-  edge_walk walked is = rw is (walk_two m word i one letter (name_at m from.at) (name_at m to.at) apart to_is back_is)
+  pub edge_walk : (turns : List ℕ) → turns ≡ 1 ∷ 0 ∷ [] → IsWalk (along m word) (length word) (name_at m from.at) (names_of m (ends from to turns))
+  edge_walk turns are = rw are (walk_two m word i one letter (name_at m from.at) (name_at m to.at) apart to_is back_is)
 
-  pub edge_turns : (walked : List Slot) (turns : List ℕ) → walked ≡ from ∷ to ∷ [] → turns ≡ 1 ∷ 0 ∷ [] → AreCells (IsTurn m word (names_of m walked)) (length walked) (length word) turns
-  edge_turns walked turns is are = rw (is, are) (turns_two m word i one letter (name_at m from.at) (name_at m to.at) apart to_is back_is)
+  pub edge_turns : (turns : List ℕ) → turns ≡ 1 ∷ 0 ∷ [] → AreCells (IsTurn m word (names_of m (ends from to turns))) (length turns) (length word) turns
+  edge_turns turns are = rw are (turns_two m word i one letter (name_at m from.at) (name_at m to.at) apart to_is back_is)
+
+-- the label is one of the map's
+pub only_label : (dim : ℕ) (word : List Letter) (i : ℕ) → IsWord dim word → slice_get word 0 ≡ Some (At i) → i ≤ dim
+only_label dim word i is_word letter = subst (IsLabelUpTo dim) (get_or_from_slice_get word 0 (At i) (At i) letter) (is_word 0 (At i) (slice_get_within word 0 (At i) letter))
+
+-- its steps are no more than those of the walk
+pub edge_steps : (m : ArenaMap) (word : List Letter) (d : ℕ) (walk : List ℕ) → length word ≡ 1 → IsWalk (along m word) (length word) d walk → (start after : ℕ) → after ≤ start + 1 → after ≤ start + length walk * length word
+edge_steps m word d walk one is start after cost = let some : 0 < length walk = slice_get_within walk 0 d is.starts in rw one (omega (arith, cost, some))

@@ -6,6 +6,7 @@ pub mod Column
 pub mod Costs
 pub mod Paths
 pub mod EdgeWalks
+pub mod EdgeRows
 pub mod FirstBroken
 pub mod FirstTurns
 pub mod ForcedMet

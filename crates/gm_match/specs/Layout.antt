@@ -89,6 +89,12 @@ pub record AreAlongWalk (m : ArenaMap) (rule : Rule) (nodes : ℕ) (walk : List 
   pub hooked : (h p : ℕ) → first_hook rule ≡ Some h → p < rows → dart_at m nodes slots h p ≡ slice_index walk p
   pub forced : AreForcedRows m rule nodes rows slots
 
+-- Of hooks of one label each, the first, so many of them, lie in their rows: the first hook along the walk, each other one at its dart, and at the second position, where there is one, at the neighbour of that along its own label.
+pub record AreHooksLaid (m : ArenaMap) (rule : Rule) (hooks walk : List ℕ) (rows nodes count : ℕ) (slots : List Slot) : Type 0 where
+  pub first : (h p : ℕ) → first_hook rule ≡ Some h → p < rows → dart_at m nodes slots h p ≡ slice_index walk p
+  pub at_darts : (t h : ℕ) → 0 < t → t < count → slice_get rule.hooks t ≡ Some h → dart_at m nodes slots h 0 ≡ slice_index hooks t
+  pub in_step : (t h : ℕ) → 0 < t → t < count → slice_get rule.hooks t ≡ Some h → 1 < rows → dart_at m nodes slots h 1 ≡ alpha m (label_at (letters rule Left h) 0) (slice_index hooks t)
+
 -- The first rows, so many of them, are those of the candidate at these hook darts, by its walk and its turns.
 pub record AreRows (m : ArenaMap) (rule : Rule) (hooks walk turns : List ℕ) (nodes rows : ℕ) (slots : List Slot) : Type 0 where
   pub along : AreAlongWalk m rule nodes walk rows slots

@@ -1,4 +1,4 @@
-ghost use Rattle.std.specs.Prelude.{◌≡◌, ℕ, List, ◌++◌, ◌+◌, ◌*◌, ◌<◌, ◌≤◌, [], length, slice_index, Some, IfOk, OnOk, vec_capacity};
+ghost use Rattle.std.specs.Prelude.{◌≡◌, ◌≢◌, ℕ, List, ◌++◌, ◌+◌, ◌*◌, ◌<◌, ◌≤◌, [], length, slice_index, Some, IfOk, OnOk, vec_capacity};
 ghost use Rattle.gm_arena.specs.ArenaAsMap.{as_map};
 ghost use Rattle.gm_model.specs.Matches.{along_hook};
 ghost use Rattle.gm_model.specs.Orbits.{IsWalk};
@@ -12,54 +12,59 @@ ghost use Rattle.gm_match.specs.Layout.{AreMatchable, AreRows, HaveFirstTurns, I
 ghost use Rattle.gm_match.specs.Taken.{AreSlotsOf};
 
 use crate::columns::fill_columns;
-use crate::hook_walk::walk_hook;
+use crate::edges::fill_edge;
+use crate::hook_walk::walk_edge;
 use crate::rows::{first_row, later_row};
 use gm_arena::{Arena, Slot, Steps};
 use gm_model::{MOST_NODES, OutOfMemory, Word};
 use gm_plan::{Instances, Plan};
-use gm_walk::Scratch;
+use gm_walk::{Scratch, walk_turns};
 use std::alloc::Global;
 use std::sync::ledger::Ledger;
 
-/// The candidate from the darts of the hooks. The scratch has walked the slots of the first hook.
+/// The candidate from the darts of the hooks. Unless its word has one letter, the scratch has walked
+/// the slots of the first hook.
 pub(crate) fn candidate<L: Ledger>(
     alloc: Global,
     plan: &Plan<'_>,
     arena: &Arena,
     darts: &[Slot],
+    word: &Word,
     scratch: &mut Scratch,
     steps: &mut Steps<L>,
 ) -> Result<Instances, OutOfMemory>
     requires matchable { AreMatchable arena.now plan.now }
+    requires word { word.now ≡ hook_word (rule_of plan.now.table) }
     requires some { 0 < length darts.now }
     requires count { length darts.now ≡ length (rule_of plan.now.table).hooks }
     requires live { AreLive arena.now darts.now }
     requires fits { Fits scratch.old arena.now }
     ensures candidate { IfOk result (IsCandidateAt arena.now (rule_of plan.now.table) (names_of arena.now darts.now)) }
-    ensures walked { IfOk result (λ found. (h : ℕ) → first_hook (rule_of plan.now.table) ≡ Some h → AreSlotsOf found h scratch.new.walked) }
+    ensures walked { length word.now ≢ 1 → IfOk result (λ found. (h : ℕ) → first_hook (rule_of plan.now.table) ≡ Some h → AreSlotsOf found h scratch.new.walked) }
     ensures cost { let rule = rule_of plan.now.table in (walk : List ℕ)
         → IsWalk (along_hook (as_map arena.now) rule) (width rule) (slice_index (names_of arena.now darts.now) 0) walk
         → steps.new ≤ steps.old + 5 * (arena.now.schema.dim + 1) * (length rule.nodes * length walk) }
     ensures least { steps.old ≤ steps.new }
     ensures room { scratch.new.bound ≡ scratch.old.bound }
 {
-    let word = plan.rule().hook_word().unwrap();
     let (slots, mut turns) = scratch.lend_rows(alloc);
-    walk_hook(arena, darts[0], &word, scratch, &mut turns, steps)?;
-    along_walk(
-        plan,
-        arena,
-        darts,
-        scratch.walked(),
-        &word,
-        slots,
-        turns,
-        steps,
-    )
+    let from = darts[0];
+    if word.len() != 1 {
+        walk_turns(arena, from, word, scratch, &mut turns, steps)?;
+        let walk = scratch.walked();
+        return along_walk(plan, arena, darts, walk, word, slots, turns, steps);
+    }
+    let to = walk_edge(arena, from, word, &mut turns, steps)?;
+    let ends = [from, to];
+    let walk = &ends[..turns.as_slice().len()];
+    along_walk(plan, arena, darts, walk, word, slots, turns, steps)
 }
 
 /// The candidate along the walk of the first hook, which has these turns, from the darts of the
 /// hooks, in the room of an empty vector.
+// It is called from two places. Each copy knows whether there is one place, and neither makes instances
+// in memory to copy them from there.
+#[inline(always)]
 fn along_walk<L: Ledger>(
     plan: &Plan<'_>,
     arena: &Arena,
@@ -78,6 +83,7 @@ fn along_walk<L: Ledger>(
     requires walk { IsWalk (along arena.now word.now) (length word.now) (slice_index (names_of arena.now darts.now) 0) (names_of arena.now walk.now) }
     requires walked { AreLive arena.now walk.now }
     requires few { length walk.now ≤ 4294967295 }
+    requires short { length word.now ≡ 1 → length walk.now ≤ 2 }
     requires no_slots { slots.items ≡ [] }
     requires turns { AreCells (IsTurn arena.now word.now (names_of arena.now walk.now)) (length walk.now) (length word.now) turns.items }
     ensures candidate { IfOk result (IsCandidateAt arena.now (rule_of plan.now.table) (names_of arena.now darts.now)) }
@@ -85,7 +91,16 @@ fn along_walk<L: Ledger>(
     ensures cost { steps.new ≤ steps.old + length walk.now * length (rule_of plan.now.table).nodes }
     ensures least { steps.old ≤ steps.new }
 {
-    fill_slots(plan, arena, darts, walk, &turns, &mut slots, steps)?;
+    fill_slots(
+        plan,
+        arena,
+        darts,
+        walk,
+        word.len(),
+        &turns,
+        &mut slots,
+        steps,
+    )?;
     let positions = walk.len() as u32;
     Ok(Instances::with_nodes(
         slots,
@@ -97,12 +112,14 @@ fn along_walk<L: Ledger>(
 }
 
 /// Puts the slots of the left nodes, by position and node, into the empty vector. The turns are those
-/// of the walk.
+/// of the walk, so many at each position.
+#[inline(always)]
 fn fill_slots<L: Ledger>(
     plan: &Plan<'_>,
     arena: &Arena,
     darts: &[Slot],
     walk: &[Slot],
+    places: u8,
     turns: &[u32],
     slots: &mut Vec<Slot>,
     steps: &mut Steps<L>,
@@ -111,6 +128,8 @@ fn fill_slots<L: Ledger>(
     requires some { 0 < length darts.now }
     requires count { length darts.now ≡ length (rule_of plan.now.table).hooks }
     requires darts { AreLive arena.now darts.now }
+    requires places { places ≡ width (rule_of plan.now.table) }
+    requires short { places ≡ 1 → length walk.now ≤ 2 }
     requires some_position { 0 < length walk.now }
     requires few { length walk.now ≤ 4294967295 }
     requires walk { AreLive arena.now walk.now }
@@ -126,6 +145,9 @@ fn fill_slots<L: Ledger>(
     if nodes == 1 {
         return fill_along(walk, slots);
     }
+    if places == 1 {
+        return fill_edge(plan, arena, darts, walk, slots, steps);
+    }
     if plan.hooks() == 1 {
         return fill_columns(plan, arena, walk, slots, steps);
     }
@@ -134,6 +156,7 @@ fn fill_slots<L: Ledger>(
 
 /// Puts the slots of the left nodes into the empty vector as `fill_slots` does, whatever hooks there are:
 /// one position after another.
+#[inline(always)]
 fn fill_rows<L: Ledger>(
     plan: &Plan<'_>,
     arena: &Arena,

@@ -13,6 +13,7 @@ use std::sync::ledger::Ledger;
 /// Puts the slots of the left nodes of a rule with one hook, by position and node, into the empty
 /// vector. The hook lies along the walk, and each link leads to its end at all positions before the
 /// next one does.
+#[inline(always)]
 pub(crate) fn fill_columns<L: Ledger>(
     plan: &Plan<'_>,
     arena: &Arena,
@@ -80,7 +81,7 @@ fn lay_walk(arena: &Arena, walk: &[Slot], node: u8, nodes: usize, slots: &mut [S
 }
 
 /// Leads the nodes of all rows along their least paths from the hooks, which keep their slots.
-fn follow_links<L: Ledger>(
+pub(crate) fn follow_links<L: Ledger>(
     plan: &Plan<'_>,
     arena: &Arena,
     rows: usize,

@@ -11,6 +11,7 @@ mod arcs;
 mod candidates;
 mod columns;
 mod darts;
+mod edges;
 mod fault;
 mod hook_walk;
 mod matching;

@@ -59,8 +59,10 @@ pub fn find<L: Ledger>(
     prove!((darts[0].at as usize) < arena.bound());
     let darts = &darts[..hooks.len()];
     let first = plan.rule().hooks.as_slice()[0];
-    let found = candidate(alloc, plan, arena, darts, scratch, steps)?;
+    let word = plan.rule().hook_word().unwrap();
+    let found = candidate(alloc, plan, arena, darts, &word, scratch, steps)?;
     meet_steps(plan, arena, &found, steps)?;
-    take_once(&found, plan.left_nodes(), first, scratch)?;
+    let is_walked = word.len() != 1;
+    take_once(&found, plan.left_nodes(), first, is_walked, scratch)?;
     Ok(found)
 }

@@ -1,4 +1,4 @@
-use Rattle.std.proofs.Common.{◌<◌, length, sym, subst, ◌∙◌, arith}
+use Rattle.std.proofs.Common.{◌<◌, length, sym, ap, subst, ◌∙◌, arith}
 use Rattle.std.proofs.lemmas.List.{length-map}
 use Rattle.std.proofs.lemmas.List.Elements.{All-get_or}
 use Rattle.std.proofs.lemmas.Option.{get_or_from_slice_get}
@@ -43,7 +43,7 @@ returns-clause-candidate g c =
     let found = c.with_nodes.result in
     let begin = names_begin m c.args.darts.now c.requires.some in
     let live = subst (IsLiveName m) (sym start) (IsLiveName-name_at m _ c.requires.matchable.lawful (All-get_or (λ (s : Slot). IsLiveSlot m s.at) c.args.darts.now 0 (record { at = 0 }) c.requires.some c.requires.live)) in
-    let made : IsTurned m rule _ walk found word = record { walk = c.requires.walk; turns = rw c.with_nodes.ensures.turns c.requires.turns; places = c.with_nodes.ensures.places ∙ c.len.ensures.value } in
+    let made : IsTurned m rule _ walk found word = record { walk = c.requires.walk; turns = rw c.with_nodes.ensures.turns c.requires.turns; places = c.with_nodes.ensures.places ∙ c.len-2.ensures.value } in
     let laid = c.in_ok-fill_slots.ensures.slots in
     is_candidate m rule _ walk found (names_of m c.args.darts.now) begin.0 begin.1 (length-map c.args.darts.now (λ (s : Slot). name_at m s.at) ∙ c.requires.count) laid.0 laid.1 (rw (c.with_nodes.ensures.turns, ← c.deref.ensures.value, c.with_nodes.ensures.slots) laid.2)
     c.with_nodes.ensures.positions (rw (c.with_nodes.ensures.slots, c.with_nodes.ensures.positions, c.with_nodes.ensures.nodes, same_count rule _ _ c.left_nodes.ensures.left laid.1) laid.2.along.long) live (subst (IsTurned m rule _ walk found) c.requires.word made)
@@ -86,7 +86,7 @@ with_nodes-requires-clause-slots g c = let laid = c.in_ok-fill_slots.ensures.slo
     rw (same_count (rule_of c.args.plan.now.table) _ _ c.left_nodes.ensures.left laid.1) laid.2.along.long
 
 pub with_nodes-requires-clause-turns : goal.with_nodes-requires-clause-turns
-with_nodes-requires-clause-turns g c = rw c.len.ensures.value c.requires.turns.long
+with_nodes-requires-clause-turns g c = rw c.len-2.ensures.value c.requires.turns.long
 
 pub returns-clause-cost : goal.returns-clause-cost
 returns-clause-cost g c = omega (arith, c.fill_slots.ensures.cost)
@@ -104,7 +104,7 @@ returns-clause-walked g c =
     let found = c.with_nodes.result in
     let begin = names_begin m c.args.darts.now c.requires.some in
     let live = subst (IsLiveName m) (sym start) (IsLiveName-name_at m _ c.requires.matchable.lawful (All-get_or (λ (s : Slot). IsLiveSlot m s.at) c.args.darts.now 0 (record { at = 0 }) c.requires.some c.requires.live)) in
-    let made : IsTurned m rule _ walk found word = record { walk = c.requires.walk; turns = rw c.with_nodes.ensures.turns c.requires.turns; places = c.with_nodes.ensures.places ∙ c.len.ensures.value } in
+    let made : IsTurned m rule _ walk found word = record { walk = c.requires.walk; turns = rw c.with_nodes.ensures.turns c.requires.turns; places = c.with_nodes.ensures.places ∙ c.len-2.ensures.value } in
     let laid = c.in_ok-fill_slots.ensures.slots in
     let planned = c.requires.matchable.planned in
     λ h first. walk_slots m rule _ walk found (names_of m c.args.darts.now) begin.0 begin.1 (length-map c.args.darts.now (λ (s : Slot). name_at m s.at) ∙ c.requires.count) laid.0 laid.1 (rw (c.with_nodes.ensures.turns, ← c.deref.ensures.value, c.with_nodes.ensures.slots) laid.2)
@@ -113,3 +113,9 @@ returns-clause-walked g c =
 
 pub returns-in_err-fill_slots-clause-walked : goal.returns-in_err-fill_slots-clause-walked
 returns-in_err-fill_slots-clause-walked g c = IfOk-from_err c.from_residual.result _ c.from_residual.ensures.0
+
+pub fill_slots-requires-clause-places : goal.fill_slots-requires-clause-places
+fill_slots-requires-clause-places g c = c.len.ensures.value ∙ ap length c.requires.word
+
+pub fill_slots-requires-clause-short : goal.fill_slots-requires-clause-short
+fill_slots-requires-clause-short g c = λ one. c.requires.short (sym c.len.ensures.value ∙ one)

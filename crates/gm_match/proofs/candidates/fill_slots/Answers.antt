@@ -35,3 +35,12 @@ returns-then-hooks-eq1-clause-slots g c =
     let m = c.args.arena.now in
     let rule = rule_of c.args.plan.now.table in
     on_ok_weaker c.fill_columns.result (λ made. (made.0, made.1, column_rows m rule (names_of m c.args.darts.now) (names_of m c.args.walk.now) c.args.turns.now made.0 _ _ (sym c.hooks.ensures ∙ c.if-hooks-eq1.true) c.requires.starts made.2)) c.fill_columns.ensures.columns
+
+pub returns-then-places-eq1-clause-slots : goal.returns-then-places-eq1-clause-slots
+returns-then-places-eq1-clause-slots g c = on_ok_weaker c.fill_edge.result (λ made. made c.args.turns.now) c.fill_edge.ensures.slots
+
+pub fill_edge-requires-clause-one : goal.fill_edge-requires-clause-one
+fill_edge-requires-clause-one g c = sym c.requires.places ∙ c.if-places-eq1.true
+
+pub fill_edge-requires-clause-short : goal.fill_edge-requires-clause-short
+fill_edge-requires-clause-short g c = c.requires.short c.if-places-eq1.true

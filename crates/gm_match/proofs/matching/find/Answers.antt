@@ -6,8 +6,9 @@ use Rattle.gm_model.specs.declared.rule.RuleTable.{RuleTable}
 use Rattle.gm_model.specs.Rules.{rule_of, first_hook}
 use Rattle.gm_plan.proofs.Hooks.{few_hooks}
 use Rattle.gm_match.specs.Taken.{TakesEachOnce}
-use Rattle.gm_match.proofs.Answering.{sound_of, is_nil, not_nil, no_items, none_within, as_many, within_taken, first_same, slots_below, first_below, dart_cause, dart_missed, missed_cost, created, begun_with, made_with, named_cost, named_tested_cost, step_cause, step_missed, twice_cause, twice_missed, hook_once, answer}
+use Rattle.gm_match.proofs.Answering.{sound_of, is_nil, not_nil, no_items, none_within, as_many, within_taken, first_same, several_letters, slots_below, first_below, dart_cause, dart_missed, missed_cost, created, begun_with, made_with, named_cost, named_tested_cost, step_cause, step_missed, twice_cause, twice_missed, hook_once, answer}
 use Rattle.gm_match.proofs.Costs.{no_cost}
+use Rattle.gm_match.proofs.Placing.{hook_has_word, word_is}
 use Rattle.gm_match.proofs.Stepping.{same_count}
 use Rattle.gm_match.proofs.matching.find.Goals as goal
 
@@ -70,10 +71,10 @@ take_once-requires-clause-room g c =
     slots_below c.args.arena.now c.in_ok-found.found.slots _ c.bound.ensures.lawful c.in_ok-found.ensures.candidate.laid.slots (omega (arith, c.requires.fits, c.candidate.ensures.room))
 
 pub take_once-requires-clause-walked : goal.take_once-requires-clause-walked
-take_once-requires-clause-walked g c =
+take_once-requires-clause-walked g c = λ is.
     let rule = rule_of c.args.plan.now.table in
     let same = first_same c.args.plan.now.table _ _ c.as_slice-2.ensures c.rule-2.ensures.rule in
-    c.in_ok-found.ensures.walked _ (subst (λ h. first_hook rule ≡ Some h) (sym same) (slice_get-get_or rule.hooks 0 0 (subst (λ n. 0 < n) c.requires.hooks (not_nil c.args.hooks.now c.is_empty.result c.is_empty.ensures c.if-is_empty.false))))
+    c.in_ok-found.ensures.walked (several_letters _ _ c.len-is_walked.ensures.value is) _ (subst (λ h. first_hook rule ≡ Some h) (sym same) (slice_get-get_or rule.hooks 0 0 (subst (λ n. 0 < n) c.requires.hooks (not_nil c.args.hooks.now c.is_empty.result c.is_empty.ensures c.if-is_empty.false))))
 
 pub take_once-requires-clause-distinct : goal.take_once-requires-clause-distinct
 take_once-requires-clause-distinct g c =
@@ -209,3 +210,9 @@ pub prove-unreachable-requires-2 : goal.prove-unreachable-requires-2
 prove-unreachable-requires-2 g c =
     let some = not_nil c.args.hooks.now c.is_empty.result c.is_empty.ensures c.if-is_empty.false in
     omega (arith, c.if-prove-2.true, c.bound.ensures.bound, first_below c.args.arena.now c.args.hooks.now c.hook_darts.new.slots c.bound.ensures.lawful c.in_ok-hook_darts.ensures.darts some)
+
+pub unwrap-word-requires : goal.unwrap-word-requires
+unwrap-word-requires g c = hook_has_word c.args.plan.now.schema c.args.plan.now.table c.rule-3.result.now c.hook_word.result c.rule.ensures.planned (subst (λ n. 0 < n) c.requires.hooks (not_nil c.args.hooks.now c.is_empty.result c.is_empty.ensures c.if-is_empty.false)) c.rule-3.ensures.rule c.hook_word.ensures
+
+pub candidate-requires-clause-word : goal.candidate-requires-clause-word
+candidate-requires-clause-word g c = word_is c.args.plan.now.table c.rule-3.result.now c.hook_word.result c.unwrap-word.result c.rule-3.ensures.rule c.hook_word.ensures c.unwrap-word.ensures
