@@ -11,7 +11,7 @@ use Rattle.gm_model.specs.Maps.{IsEmbedAt, type_of}
 use Rattle.gm_model.specs.Orbits.{IsInOrbit}
 use Rattle.gm_model.specs.Unfolding.{IsArcAfter}
 use Rattle.gm_model.specs.Labels.{has}
-use Rattle.gm_theory.proofs.Lists.{some_same, get_contained}
+use Rattle.gm_theory.proofs.Lists.{some_same, contained_at, get_contained}
 use Rattle.gm_theory.specs.Theorem.{Unfolded, IsDartOf}
 use Rattle.gm_walk.specs.declared.at.At.{At}
 use Rattle.gm_walk.specs.declared.mark.Mark.{Mark}
@@ -20,8 +20,8 @@ use Rattle.gm_walk.specs.Keys.{key_of}
 use Rattle.gm_pending.specs.Pairs.{IsPair}
 use Rattle.gm_pending.specs.Reached.{AreResultDarts, HasMark, IsAdded, IsClosed, IsSpreadTo, IsFollowedBut}
 use Rattle.gm_pending.specs.Results.{PendingOf, IsPrepared, IsResultDart, IsUnfoldedIn, name_of, scene_in}
-use Rattle.gm_pending.proofs.Reached.{last_at, last_among}
-use Rattle.gm_pending.proofs.Spread.{mark_kept, marked_kept, marked_or_last, after_map, dart_after, label_within, orbit_step, nothing_grown, grown_more, marked_now}
+use Rattle.gm_pending.proofs.Reached.{get_within, last_at, last_among}
+use Rattle.gm_pending.proofs.Spread.{same_key, same_name, mark_kept, marked_kept, marked_or_last, after_map, dart_after, label_within, orbit_step, nothing_grown, grown_more, marked_now}
 
 pub pair_turned : (labels : Mask) (one other : ℕ) → IsPair labels one other → IsPair labels other one
 pair_turned labels one other pair = record {
@@ -84,6 +84,11 @@ pair_cost dim old new start end some more cost =
     let left : (dim + 1) * old ≡ dim * old + old = grind arith in
     let right : (dim + 1) * new ≡ dim * new + new = grind arith in
     omega (arith, wide, one, left, right, some, cost)
+
+-- darts of the result with one name have one key
+pub by_keys : (app : PendingOf) (prepared : IsPrepared app) (next first last : At) → IsResultDart app next → IsResultDart app first → (key_of next ≡ key_of last) ⊎ (name_of app next ≡ name_of app first) → (key_of next ≡ key_of last) ⊎ (key_of next ≡ key_of first)
+by_keys app prepared next first last dart first_dart (inl same) = inl same
+by_keys app prepared next first last dart first_dart (inr name) = inr (same_key app prepared next first dart first_dart name)
 
 module _ (app : PendingOf) (prepared : IsPrepared app) (e : ℕ) (embed : Embed) (at_embed : IsEmbedAt app.map.schema e embed) where
   module _ (result : Unfolded) (unfolded : IsUnfoldedIn app result) where
@@ -189,6 +194,43 @@ module _ (app : PendingOf) (prepared : IsPrepared app) (e : ℕ) (embed : Embed)
           go : (j i : ℕ) (entry : Mark) → length before ≤ j → IsTrue (type_of embed i) → (slice_get marks j ≡ Some entry) ⊎ ((j ≡ length marks) × (reached_by to k None ≡ entry)) → HasMark app after (result.alpha i (name_of app entry.at)) k ⊎ ((name_of app entry.at ≡ name_of app to) × (i ≡ other)) ⊎ ((name_of app entry.at ≡ d) × (i ≡ m))
           go j i entry h t (inl f) = earlier i entry (so_far.followed j i entry h f t)
           go j i entry h t (inr f) = last i entry t (ap (λ (r : Mark). name_of app r.at) (sym f.1))
+
+      -- From such a dart the other arc leads to a marked dart only where it leads back, or to the first dart: each arc of the others was followed, and none of these led here.
+      pub only_ends : (HasKey marks (key_of to) → ⊥) → IsResultDart app to → (next : At) → IsResultDart app next → IsArcAfter (scene_in app) (name_of app to) other (name_of app next) → HasKey after (key_of next) → (key_of next ≡ key_of to) ⊎ (name_of app next ≡ d)
+      only_ends absent to_dart next next_dart on (entry, among, key) = go (marked_or_last app prepared marks after to k None more among.0 entry (contained_at after entry among))
+        where
+          onward : result.alpha other (name_of app to) ≡ name_of app next
+          onward = ((unfolded.arcs (name_of app to) other (name_of app next) (label_within app prepared e embed at_embed result unfolded other pair.has_other)).1 on).1
+
+          back : result.alpha other (name_of app next) ≡ name_of app to
+          back =
+              let live : IsDartOf result (name_of app to) = dart_after app prepared e embed at_embed result unfolded to to_dart in
+              ap (result.alpha other) (sym onward) ∙ (after_map app prepared e embed at_embed result unfolded).back (name_of app to) other live (label_within app prepared e embed at_embed result unfolded other pair.has_other)
+
+          unmarked : (j : ℕ) → HasMark app marks (name_of app to) j → ⊥
+          unmarked j (mark, there, name, is) = absent (mark, there, same_key app prepared mark.at to (darts mark there) to_dart name)
+
+          before_walk : slice_get marks among.0 ≡ Some entry → among.0 < length before → name_of app entry.at ≡ name_of app next → ⊥
+          before_walk f h name =
+              let old = get_within before among.0 h in
+              let same : old.0 ≡ entry = some_same old.0 entry (sym (so_far.grown.kept among.0 old.0 old.1) ∙ f) in
+              let mark : HasMark app before (name_of app next) entry.instance = (entry, get_contained before among.0 entry (subst (λ r. slice_get before among.0 ≡ Some r) same old.1), name, refl) in
+              let led : HasMark app before (name_of app to) entry.instance = subst (λ b. HasMark app before b entry.instance) back (so_far.closed (name_of app next) entry.instance other mark pair.has_other) in
+              unmarked entry.instance (mark_kept app prepared before marks (name_of app to) entry.instance so_far.grown.kept led)
+
+          by_followed : name_of app entry.at ≡ name_of app next → HasMark app marks (result.alpha other (name_of app entry.at)) k ⊎ ((name_of app entry.at ≡ name_of app at) × (other ≡ one)) ⊎ ((name_of app entry.at ≡ d) × (other ≡ m)) → name_of app next ≡ d
+          by_followed name (inl mark) = absurd (unmarked k (subst (λ b. HasMark app marks b k) (ap (result.alpha other) name ∙ back) mark))
+          by_followed name (inr (inl (same, label))) = absurd (pair.apart (sym label))
+          by_followed name (inr (inr (same, label))) = sym name ∙ same
+
+          go : (slice_get marks among.0 ≡ Some entry) ⊎ ((among.0 ≡ length marks) × (reached_by to k None ≡ entry)) → (key_of next ≡ key_of to) ⊎ (name_of app next ≡ d)
+          go (inr f) = inl (sym key ∙ ap (λ (r : Mark). key_of r.at) (sym f.1))
+          go (inl f) =
+              let name : name_of app entry.at ≡ name_of app next = same_name app prepared entry.at next (darts entry (get_contained marks among.0 entry f)) next_dart key in
+              elim (cases_lt among.0 (length before)) [
+                | inl h ↦ absurd (before_walk f h name)
+                | inr late ↦ inr (by_followed name (so_far.followed among.0 other entry late f pair.has_other))
+              ]
 
     -- nothing is left but the other arc of the first dart, of which the walk is told by another label
     pub follow_other : (before after : List Mark) (k d m l : ℕ) → IsFollowedBut app embed result before after k d d m m → IsFollowedBut app embed result before after k d d m l

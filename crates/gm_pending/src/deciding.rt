@@ -1,5 +1,5 @@
 //! Which instances decide the values of a result, and which of its darts they reach.
-ghost use Rattle.std.specs.Prelude.{◌≡◌, ℕ, ◌+◌, ◌*◌, ◌<◌, ◌≤◌, ◌⊎◌, [], ◌∷◌, ◌++◌, length, false, Some, None, IfOk, IfSome, MatchOption, IsTrue, OnOk, OnErr};
+ghost use Rattle.std.specs.Prelude.{◌≡◌, ℕ, ◌+◌, ◌*◌, ◌<◌, ◌≤◌, ◌⊎◌, List, [], ◌∷◌, ◌++◌, length, false, Some, None, IfOk, IfSome, MatchOption, IsTrue, OnOk, OnErr};
 ghost use Rattle.std.specs.List.{Contains};
 ghost use Rattle.gm_model.specs.declared.schema.Embed.{Embed};
 ghost use Rattle.gm_model.specs.declared.rule.Side.TheVariants.{Right};
@@ -13,7 +13,7 @@ ghost use Rattle.gm_walk.specs.declared.mark.Mark.{Mark};
 ghost use Rattle.gm_pending.specs.Marks.{HasKey};
 ghost use Rattle.gm_walk.specs.Keys.{key_of};
 ghost use Rattle.gm_pending.specs.Pairs.{IsPair};
-ghost use Rattle.gm_pending.specs.Reached.{AreReached, AreResultDarts, AreSomeReached, IsClosed, IsGrown, IsSpreadTo, IsFollowedTo, IsFollowed, IsFollowedAlong, IsGrownAlong, IsDecidedUpTo, IsAlwaysOneOrbit, IsUnmarked, AreMarkedTo, ungiven};
+ghost use Rattle.gm_pending.specs.Reached.{AreReached, AreResultDarts, AreSomeReached, IsClosed, IsGrown, IsSpreadTo, IsFollowedTo, IsFollowed, IsFollowedAlong, IsFollowedBut, IsGrownAlong, IsDecidedUpTo, IsAlwaysOneOrbit, IsUnmarked, AreMarkedTo, ungiven};
 ghost use Rattle.gm_pending.specs.Results.{IsPrepared, AreDecidingInstances, IsAsked, IsResultDart, IsUnfoldedIn, IsWithinReach, instances_of, with_instances, name_of, rule_in};
 
 use crate::decided_orbits::{DecidedOrbits, DecidingInstances};
@@ -251,6 +251,7 @@ impl Pending<'_, '_> {
         requires dart { IsResultDart self.now at }
         requires darts { AreResultDarts self.now marks.old }
         requires absent { HasKey marks.old (key_of at) → ⊥ }
+        requires closed { (unfolded : Unfolded) → IsUnfoldedIn self.now unfolded → IsClosed self.now declared.now unfolded marks.old }
         ensures darts { AreResultDarts self.now marks.new }
         ensures spread { OnOk result ((unfolded : Unfolded) → IsUnfoldedIn self.now unfolded → IsClosed self.now declared.now unfolded marks.old → IsSpreadTo self.now declared.now unfolded marks.old marks.new index (name_of self.now at) (length marks.new) 0) }
         ensures grown { (unfolded : Unfolded) → IsUnfoldedIn self.now unfolded → IsClosed self.now declared.now unfolded marks.old → IsGrown self.now declared.now unfolded marks.old marks.new index (name_of self.now at) }
@@ -294,6 +295,7 @@ impl Pending<'_, '_> {
         requires from { IsResultDart self.now from }
         requires darts { AreResultDarts self.now marks.old }
         requires here { HasKey marks.old (key_of from) }
+        requires begun { (unfolded : Unfolded) → IsUnfoldedIn self.now unfolded → (before : List Mark) × (m : ℕ) × IsFollowedBut self.now declared.now unfolded before marks.old index (name_of self.now from) (name_of self.now from) first m }
         ensures darts { AreResultDarts self.now marks.new }
         ensures here { OnOk result (HasKey marks.new (key_of from)) }
         ensures followed { OnOk result (IsFollowedAlong self.now declared.now index (name_of self.now from) first marks.old marks.new) }
@@ -306,18 +308,23 @@ impl Pending<'_, '_> {
         prove!(self.labels() <= 8);
         let made = self.made_labels();
         let (makes_first, makes_second) = (made.has(first), made.has(second));
-        let mut at = from;
-        // Where one label led to, only the other leads on.
+        let mut at = self.neighbour(from, first, makes_first, steps);
+        if !marks.mark_beside(from, at, index, None)? {
+            return Ok(());
+        }
+        // The marks tell here, and below, that they have an end.
+        prove!(marks.len() <= usize::MAX);
+        // Where one label led to, only the other leads on. It leads to a marked dart only where it leads
+        // nowhere or where the walk began, since each other marked dart has both of its neighbours.
         loop {
-            let to = self.neighbour(at, first, makes_first, steps);
-            let is_new = marks.mark_beside(at, to, index, None)?;
-            // The marks tell here, and below, that they have an end.
+            let to = self.neighbour(at, second, makes_second, steps);
+            let is_new = marks.mark_on(from, at, to, index)?;
             prove!(marks.len() <= usize::MAX);
             if !is_new {
                 return Ok(());
             }
-            at = self.neighbour(to, second, makes_second, steps);
-            let is_next_new = marks.mark_beside(to, at, index, None)?;
+            at = self.neighbour(to, first, makes_first, steps);
+            let is_next_new = marks.mark_on(from, to, at, index)?;
             prove!(marks.len() <= usize::MAX);
             if !is_next_new {
                 return Ok(());

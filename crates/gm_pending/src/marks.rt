@@ -1,5 +1,5 @@
 //! The darts of a result that are reached from deciding instances.
-ghost use Rattle.std.specs.Prelude.{◌≡◌, ℕ, ◌*◌, List, ◌∷◌, ◌++◌, ◌<◌, ◌≤◌, [], length, slice_get, slice_index_or, None, Some, MatchOption, ◌↔◌, IsTrue, IfOk, IfSome, OnOk, OnErr};
+ghost use Rattle.std.specs.Prelude.{◌≡◌, ℕ, ◌*◌, List, ◌∷◌, ◌++◌, ◌<◌, ◌≤◌, ◌⊎◌, [], length, slice_get, slice_index_or, None, Some, MatchOption, ◌↔◌, IsTrue, IfOk, IfSome, OnOk, OnErr};
 ghost use Rattle.std.specs.Int.{bit_at};
 ghost use Rattle.std.specs.Vec.{vec_capacity};
 ghost use Rattle.gm_walk.specs.declared.mark.Mark.{Mark};
@@ -212,6 +212,41 @@ impl Marks {
             return Ok(false);
         }
         self.mark(at, instance, over)
+    }
+
+    /// Marks a neighbour of a marked dart, as `mark` does, where it is marked only if it is that dart or the
+    /// one with which the walk began. Nothing is searched for.
+    #[inline(always)]
+    pub(crate) fn mark_on(
+        &mut self,
+        start: PackedAt,
+        from: PackedAt,
+        at: PackedAt,
+        instance: u32,
+    ) -> Result<bool, OutOfMemory>
+        requires start { HasKey self.old (key_of start) }
+        requires from { HasKey self.old (key_of from) }
+        requires ends { HasKey self.old (key_of at) → (key_of at ≡ key_of from) ⊎ (key_of at ≡ key_of start) }
+        ensures ok { OnOk result (IsMarkedMore self.old self.new at instance None) }
+        ensures new { IfOk result (λ new. IsTrue new ↔ (HasKey self.old (key_of at) → ⊥)) }
+        ensures err { OnErr result (self.new ≡ self.old) }
+        ensures distinct { HasDistinctKeys self.old }
+    {
+        // The marks tell here that no dart comes twice.
+        prove!(self.len() <= usize::MAX);
+        if at.key() == from.key() || at.key() == start.key() {
+            return Ok(false);
+        }
+        if self.reached.len() >= self.quick {
+            return self.mark_slowly(at, instance, None);
+        }
+        self.bits |= 1 << bit(at.key());
+        self.reached.push_reserved(Mark {
+            at,
+            instance,
+            over: None,
+        });
+        Ok(true)
     }
 
     /// Marks a dart that isn't marked. Where memory was wanting, nothing is marked. It makes no index,

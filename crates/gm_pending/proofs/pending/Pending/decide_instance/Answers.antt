@@ -82,3 +82,6 @@ returns-clause-least g c = c.reach.ensures.least
 
 pub returns-in_err-index-clause-decided : goal.returns-in_err-index-clause-decided
 returns-in_err-index-clause-decided g c = never_ok _ c.from_residual.result c.from_residual.ensures.0
+
+pub reach-requires-clause-closed : goal.reach-requires-clause-closed
+reach-requires-clause-closed g c = λ unfolded is. (c.requires.earlier.walked unfolded is).closed

@@ -153,3 +153,15 @@ follow-requires-clause-here g c = key_marked c.args.marks.now c.mark_first.new.s
 
 pub follow-requires-in-Some-clause-pair : goal.follow-requires-in-Some-clause-pair
 follow-requires-in-Some-clause-pair g c = pair_turned c.args.declared.now.mask c.in-Some.one c.in-Some.other c.in-Some.ensures
+
+pub follow-requires-clause-begun : goal.follow-requires-clause-begun
+follow-requires-clause-begun g c = λ unfolded is. (c.args.marks.now, c.in-Some.other, follow_starts c.args.self.now c.labels.ensures.prepared c.args.embed c.args.declared.now c.requires.embed unfolded is c.args.marks.now c.mark_first.new.self c.args.at c.args.index c.in-Some.one c.in-Some.other c.in-Some.ensures (c.requires.closed unfolded is) c.requires.absent c.in_ok-mark_first.ensures.ok)
+
+pub follow-requires-in-Some-clause-begun : goal.follow-requires-in-Some-clause-begun
+follow-requires-in-Some-clause-begun g c = λ unfolded is.
+    let app = c.args.self.now in
+    let prepared = c.labels.ensures.prepared in
+    let dim = app.map.schema.dim in
+    let other = c.in-Some.other in
+    let first = c.in_ok-follow.ensures.followed unfolded c.args.marks.now other is (follow_starts app prepared c.args.embed c.args.declared.now c.requires.embed unfolded is c.args.marks.now c.mark_first.new.self c.args.at c.args.index c.in-Some.one other c.in-Some.ensures (c.requires.closed unfolded is) c.requires.absent c.in_ok-mark_first.ensures.ok) in
+    (c.args.marks.now, dim + 1, follow_other app prepared c.args.embed c.args.declared.now c.requires.embed unfolded is c.args.marks.now c.follow.new.marks c.args.index (name_of app c.args.at) other (dim + 1) first)
