@@ -8,7 +8,7 @@ ghost use Rattle.gm_text.specs.ValueText.{is_channel};
 ghost use Rattle.gm_mapfile.specs.Words.{IsSignedNext, IsNoSignedNext};
 ghost use Rattle.gm_mapfile.specs.MapReading.{Takes, Misses, TheSign, Component, value_wants, values_wants, ReadsValues};
 
-use crate::words::{Numeral, numeral_behind, read_number, read_sign};
+use crate::words::{Numeral, numeral_behind, read_number, read_sign, small_numeral};
 use gm_model::{Embed, Kind, LimitKind, TokenKind, Value};
 use gm_text::{Guess, Lexer, SchemaFault, next_token, signed_value};
 
@@ -31,7 +31,7 @@ struct Signed {
     place: usize,
 }
 
-/// A number with a minus before it or without. Most that come here have one.
+/// A number with a minus before it or without, behind any blank. Most that come here have one.
 fn read_signed(lexer: &mut Lexer<'_>) -> Result<Signed, SchemaFault>
     ensures next { IfOk result (λ found. IsSignedNext lexer.old found.minus found.size found.place lexer.new) }
     ensures none { IfErr result (IsNoSignedNext lexer.old) }
@@ -40,6 +40,13 @@ fn read_signed(lexer: &mut Lexer<'_>) -> Result<Signed, SchemaFault>
         let Numeral { value, place } = read_number(lexer)?;
         return Ok(Signed {
             minus: true,
+            size: value,
+            place,
+        });
+    }
+    if let Some(Numeral { value, place }) = small_numeral(lexer) {
+        return Ok(Signed {
+            minus: false,
             size: value,
             place,
         });

@@ -44,20 +44,36 @@ pub(crate) fn read_sign(
     if lexer.sign_behind(blank, sign) {
         return Ok(());
     }
-    read_sign_token(lexer, &[sign])
+    read_sign_apart(lexer, sign)
 }
 
-/// The same by its token.
+/// The same, whatever stands before it.
 // By a copy of the lexer, so that only the copy goes by memory.
 #[inline(always)]
-fn read_sign_token(lexer: &mut Lexer<'_>, sign: &[u8]) -> Result<(), SchemaFault>
-    ensures next { IfOk result (λ _. StandsNext (Sign sign.now) lexer.old lexer.new) }
-    ensures other { IfErr result (IsOtherNext (Sign sign.now) lexer.old) }
+fn read_sign_apart(lexer: &mut Lexer<'_>, sign: u8) -> Result<(), SchemaFault>
+    requires sign { IsTrue (tokens.is_sign sign) }
+    requires alone { (c : ℕ) → tokens.is_two_byte_sign sign c ≡ false }
+    ensures next { IfOk result (λ _. StandsNext (Sign (sign ∷ [])) lexer.old lexer.new) }
+    ensures other { IfErr result (IsOtherNext (Sign (sign ∷ [])) lexer.old) }
 {
     let mut copy = lexer.fork();
-    let read = read_longest_sign(&mut copy, sign);
+    let read = read_any_sign(&mut copy, sign);
     *lexer = copy;
     read
+}
+
+/// A sign of one byte behind any blank, or else by its token.
+#[cold]
+fn read_any_sign(lexer: &mut Lexer<'_>, sign: u8) -> Result<(), SchemaFault>
+    requires sign { IsTrue (tokens.is_sign sign) }
+    requires alone { (c : ℕ) → tokens.is_two_byte_sign sign c ≡ false }
+    ensures next { IfOk result (λ _. StandsNext (Sign (sign ∷ [])) lexer.old lexer.new) }
+    ensures other { IfErr result (IsOtherNext (Sign (sign ∷ [])) lexer.old) }
+{
+    if lexer.small_sign(sign) {
+        return Ok(());
+    }
+    read_longest_sign(lexer, &[sign])
 }
 
 /// A sign of the format, where no longer one stands.
@@ -122,7 +138,7 @@ pub(crate) fn numeral_behind(
 }
 
 /// A number by its token.
-// By a copy, as `read_sign_token` is.
+// By a copy, as `read_sign_apart` is.
 #[inline(always)]
 fn read_numeral(lexer: &mut Lexer<'_>) -> Result<Numeral, SchemaFault>
     ensures next { IfOk result (λ found. IsNumberNext lexer.old found.value found.place lexer.new) }

@@ -1,5 +1,8 @@
+use Rattle.std.proofs.Common.{false, subst}
 use Rattle.std.proofs.lemmas.Result.{err_from_is_err_and}
-use Rattle.gm_mapfile.proofs.WordTokens.{sign_next, minus_lacks}
+use Rattle.gm_text.specs.Cursor.{Cursor}
+use Rattle.gm_mapfile.specs.Words.{IsSignedNext}
+use Rattle.gm_mapfile.proofs.WordTokens.{plain_next, sign_next, minus_lacks}
 use Rattle.gm_mapfile.proofs.values.read_signed.Goals as goal
 
 pub returns-in_err-value-clause-none : goal.returns-in_err-value-clause-none
@@ -7,3 +10,11 @@ returns-in_err-value-clause-none c =
     let p = err_from_is_err_and c.from_residual.result c.from_residual.ensures.1 in
     let minus = c.small_sign.ensures.read c.if-small_sign.true in
     rw (p.1, p.2) (minus_lacks c.args.lexer.now c.small_sign.new.self minus.place c.in_err-value.field-0.0 (sign_next 45 c.args.lexer.now c.small_sign.new.self minus) c.in_err-value.ensures.none)
+
+pub returns-in-Some-clause-next : goal.returns-in-Some-clause-next
+returns-in-Some-clause-next c =
+    let found = c.in-Some.field-0 in
+    let between = c.small_sign.new.self in
+    let new = c.small_numeral.new.lexer in
+    subst (λ (old : Cursor). IsSignedNext old false found.value found.place new) (c.small_sign.ensures.none c.if-small_sign.false)
+    (plain_next between new found.value found.place c.in-Some.ensures.next)
