@@ -12,6 +12,7 @@ mod Indices
 mod Leads
 mod Limits
 mod Loop
+mod NameLeads
 mod OneForm
 pub mod OneScript
 mod Params

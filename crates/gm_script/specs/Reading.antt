@@ -19,6 +19,7 @@ use Rattle.gm_text.specs.SchemaText.{Passed, LimitOf, Again, no_labels, with_lab
 use Rattle.gm_text.specs.ValueText.{greatest}
 use Rattle.gm_text.specs.Cursor.{Cursor}
 use Rattle.gm_text.specs.Lexing.{rest_of}
+use Rattle.gm_script.specs.declared.near.NameLead.{NameLead}
 use Rattle.gm_script.specs.declared.sight.Head.{Head}
 use Rattle.gm_script.specs.declared.sight.Head.TheVariants as heads
 use Rattle.gm_script.specs.declared.sight.Sight.{Sight}
@@ -507,6 +508,12 @@ pub record IsLead (lead : List ℕ) (sight : Sight) : Type 0 where
   pub some : 3 ≤ length lead
   pub items : (place : ℕ) (rest : List ℕ) → items_from place 0 (lead ++ rest) ≡ Lexed (record { kind = tokens.Name; start = place + 1; end = place + length lead - 1 }) ∷ items_from (place + length lead - 1) 0 (drop (length lead - 1) lead ++ rest)
   pub seen : sight ≡ sight_of_word (take (length lead - 2) (drop 1 lead))
+
+-- the bytes are a name between two blanks, and nothing else is seen in it
+pub record IsNameLead (lead : NameLead) : Type 0 where
+  pub some : 1 ≤ lead.size
+  pub few : lead.size ≤ 16
+  pub is : IsLead (take lead.size lead.bytes) sights.Name
 
 abbrev pub IsStray : Cursor → TextFault → Type 0
 IsStray cursor (faults.Text place) = rest_of cursor ≡ StrayAt place ∷ []

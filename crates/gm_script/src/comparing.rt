@@ -18,6 +18,8 @@ use std::marker::Model;
 const LEAST_LINE_BYTES: usize = 8;
 
 /// Whether the statement is one of the rule, whose parameters' kinds then have taken its values.
+// Inlined, as `add` is.
+#[inline(always)]
 fn fit_rule(draft: &mut Draft, rule: &RuleTable) -> Result<(), ScriptFault>
     ensures { (k : ℕ) → Compares (λ _. comparing.stat_of draft.new.head draft.new k draft.new.values) result (comparing.stat_of_rule draft.old k (Some (rule_of rule.now))) }
 {
@@ -32,6 +34,8 @@ fn fit_rule(draft: &mut Draft, rule: &RuleTable) -> Result<(), ScriptFault>
 }
 
 /// The index of the rule that the statement names, and is one of.
+// Inlined, as `add` is.
+#[inline(always)]
 fn index_of_rule(
     bytes: &[u8],
     draft: &mut Draft,
@@ -49,6 +53,8 @@ fn index_of_rule(
 }
 
 /// The index of the rule that the statement names, or 0 where it is one that names none.
+// Inlined, as `add` is.
+#[inline(always)]
 fn index_for(bytes: &[u8], draft: &mut Draft, rules: &RulesByName<'_>) -> Result<u16, ScriptFault>
     requires in_text { IsInText bytes.now draft.old.name }
     ensures { Compares (λ k. comparing.stat_of draft.new.head draft.new k draft.new.values) result (stat_for bytes.now (map rule_of rules.now) draft.old) }
@@ -93,6 +99,8 @@ impl Compared {
 
     /// Compares a further statement, whose values are then put as its rule takes them. Behind one that
     /// disagrees none is kept.
+    // Inlined up to who reads a line, but for what looks a name up: that takes some 30 instructions less.
+    #[inline(always)]
     pub(crate) fn add(
         &mut self,
         bytes: &[u8],

@@ -1,7 +1,8 @@
-//! Words that stand between two blanks, compared with the bytes of a text at once.
+//! Words between two blanks, compared with the bytes of a text at once.
 ghost use Rattle.std.specs.Prelude.{◌≡◌, ◌+◌, ◌≤◌, length, take, drop, IsTrue, IfSome, IfNone};
-ghost use Rattle.std.specs.List.{prefix_len};
-ghost use Rattle.gm_script.specs.Reading.{IsLead, IsSeenNext};
+ghost use Rattle.gm_model.specs.Tokens.{bytes_of, IsLexeme};
+ghost use Rattle.gm_model.specs.declared.token.TokenKind.TheVariants.{Name};
+ghost use Rattle.gm_script.specs.Reading.{sight_of_word, IsInText, IsLead, IsNameLead, IsSeenNext};
 ghost use Rattle.gm_script.specs.declared.sight.Sight.{Sight};
 
 use gm_text::{Lexer, Token, TokenKind};
@@ -49,5 +50,34 @@ pub(crate) fn word_of_lead<'a>(
         kind: TokenKind::Name,
         start: place + 1,
         end,
+    })
+}
+
+/// A name between two blanks, as it is compared.
+#[derive(Clone, Copy)]
+pub(crate) struct NameLead {
+    pub bytes: u8x16,
+    pub size: usize,
+}
+
+/// The name at the token between its blanks, where these are spaces and it is short.
+// By itself, since it is called once for a text.
+#[inline(never)]
+pub(crate) fn lead_of_name(bytes: &[u8], token: Token) -> Option<NameLead>
+    requires inside { IsInText bytes.now token }
+    requires lexeme { IsLexeme Name (bytes_of bytes.now token) }
+    requires sees { sight_of_word (bytes_of bytes.now token) ≡ Sight.Name }
+    ensures { IfSome result IsNameLead }
+{
+    let Token { start, end, .. } = token;
+    if start == 0 || end - start > LANES - 2 || bytes.len() - start < LANES {
+        return None;
+    }
+    if bytes[start - 1] != b' ' || bytes[end] != b' ' {
+        return None;
+    }
+    Some(NameLead {
+        bytes: u8x16::from_slice(&bytes[start - 1..]),
+        size: end - start + 2,
     })
 }

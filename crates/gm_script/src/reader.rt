@@ -195,6 +195,8 @@ impl Reader {
 
     /// Compares the statement that ends where this is seen next, if one does. It is held no longer,
     /// and what is read next is the same.
+    // Inlined, as `add` is.
+    #[inline(always)]
     pub(crate) fn end_stat(
         &mut self,
         bytes: &[u8],

@@ -2,22 +2,23 @@
 //!
 //! The reader knows the grammar and its limits alone. Each statement is compared with the book as
 //! soon as it is whole, and where one disagrees, the text is read on: a fault of the text comes first.
-ghost use Rattle.std.specs.Prelude.{◌≡◌, ◌<◌, ◌∷◌, ℕ, [], length, map, IsTrue, IsFalse, OnOk, IfOk, IfErr};
+ghost use Rattle.std.specs.Prelude.{◌≡◌, ◌<◌, ◌∷◌, ℕ, [], length, map, IsTrue, IsFalse, OnOk, IfOk, IfErr, IfSome};
 ghost use Rattle.gm_model.specs.Rules.{rule_of};
 ghost use Rattle.gm_model.specs.Tokens.{EndAt};
 ghost use Rattle.gm_text.specs.Lexing.{rest_of};
 ghost use Rattle.gm_script.specs.ScriptText.{ScriptText};
 ghost use Rattle.gm_script.specs.Faults.{IsFaultOf};
 ghost use Rattle.gm_script.specs.FirstRules.{first_rules};
-ghost use Rattle.gm_script.specs.Reading.{nothing, read_from, Fails, ReadsOn, IsInText};
+ghost use Rattle.gm_script.specs.Reading.{nothing, read_from, Fails, ReadsOn, IsInText, IsNameLead};
 ghost use Rattle.gm_script.specs.SoFar.{IsSoFar};
 ghost use Rattle.gm_script.specs.declared.spot.Spot.{Spot};
 
 use crate::comparing::Compared;
 use crate::fault::ScriptFault;
+use crate::near::NameLead;
 use crate::reader::{Reader, TextFault};
 use crate::rules::RulesByName;
-use crate::seen::{Seen, near_apply, near_name, next_seen};
+use crate::seen::{Seen, near_apply, next_name, next_seen};
 use crate::sight::{Head, Sight};
 use gm_model::{Book, Dim, Script};
 use gm_text::{Lexer, Token, TokenKind};
@@ -53,35 +54,59 @@ fn read_hooks_there(lexer: &mut Lexer<'_>, reader: &mut Reader) -> Result<(), Te
 
 /// Reads the rule's name that stands next, if it has one blank before it and is no word that scripts
 /// have for something else.
-fn read_name(lexer: &mut Lexer<'_>, reader: &mut Reader) -> Result<(), TextFault>
+fn read_name<'a>(
+    bytes: &'a [u8],
+    lexer: &mut Lexer<'a>,
+    reader: &mut Reader,
+    known: &mut Option<NameLead>,
+) -> Result<(), TextFault>
+    requires text { lexer.old.text ≡ bytes.now }
+    requires known { IfSome known.old IsNameLead }
     requires spot { reader.old.spot ≡ Spot.Apply }
+    ensures known { IfSome known.new IsNameLead }
     ensures ok { OnOk result (ReadsOn reader.old reader.new lexer.old lexer.new) }
     ensures err { IfErr result (λ fault. (n : ℕ) → Fails fault (read_from n lexer.old.text reader.old (rest_of lexer.old))) }
 {
-    if let Some(token) = near_name(lexer) {
+    if let Some(token) = next_name(bytes, lexer, known) {
         reader.take_name(token)?;
     }
     Ok(())
 }
 
 /// The same where an application's name stands next, and elsewhere nothing.
-fn read_name_there(lexer: &mut Lexer<'_>, reader: &mut Reader) -> Result<(), TextFault>
+fn read_name_there<'a>(
+    bytes: &'a [u8],
+    lexer: &mut Lexer<'a>,
+    reader: &mut Reader,
+    known: &mut Option<NameLead>,
+) -> Result<(), TextFault>
+    requires text { lexer.old.text ≡ bytes.now }
+    requires known { IfSome known.old IsNameLead }
+    ensures known { IfSome known.new IsNameLead }
     ensures ok { OnOk result (ReadsOn reader.old reader.new lexer.old lexer.new) }
     ensures err { IfErr result (λ fault. (n : ℕ) → Fails fault (read_from n lexer.old.text reader.old (rest_of lexer.old))) }
 {
     if reader.takes_name() {
-        return read_name(lexer, reader);
+        return read_name(bytes, lexer, reader, known);
     }
     Ok(())
 }
 
 /// Reads on behind a token: a rule's name, where one stands next, and the hooks behind it.
 // A name or a hook that is read as a token by itself takes some 100 instructions more.
-fn read_on(lexer: &mut Lexer<'_>, reader: &mut Reader) -> Result<(), TextFault>
+fn read_on<'a>(
+    bytes: &'a [u8],
+    lexer: &mut Lexer<'a>,
+    reader: &mut Reader,
+    known: &mut Option<NameLead>,
+) -> Result<(), TextFault>
+    requires text { lexer.old.text ≡ bytes.now }
+    requires known { IfSome known.old IsNameLead }
+    ensures known { IfSome known.new IsNameLead }
     ensures ok { OnOk result (ReadsOn reader.old reader.new lexer.old lexer.new) }
     ensures err { IfErr result (λ fault. (n : ℕ) → Fails fault (read_from n lexer.old.text reader.old (rest_of lexer.old))) }
 {
-    read_name_there(lexer, reader)?;
+    read_name_there(bytes, lexer, reader, known)?;
     read_hooks_there(lexer, reader)
 }
 
@@ -186,8 +211,9 @@ fn read_tokens(
 {
     let top = dim.top();
     let mut lexer = Lexer::new(bytes);
+    let mut known = None;
     while read_next(bytes, top, &mut lexer, rules, reader, compared)? {
-        read_on(&mut lexer, reader)?;
+        read_on(bytes, &mut lexer, reader, &mut known)?;
     }
     Ok(())
 }

@@ -64,6 +64,8 @@ impl<'a> RulesByName<'a> {
     }
 
     /// The index of the rule with the name, of rules with one name that of the first.
+    // By itself, since hashing would take registers of all that it is inlined into.
+    #[inline(never)]
     pub(crate) fn index_of(&self, name: &[u8]) -> Option<u16>
         ensures index { result ≡ index_of (map rule_of self.now) name.now }
         ensures within { IfSome result (λ k. k < length self.now) }

@@ -1,16 +1,17 @@
 //! What stands next in a text, and what a script sees in it.
 ghost use Rattle.std.specs.Prelude.{◌≡◌, ◌∷◌, ℕ, [], length, false, IsTrue, IfOk, IfErr, IfSome, IfNone, MatchOption};
 ghost use Rattle.gm_model.specs.Tokens as tokens;
-ghost use Rattle.gm_model.specs.Tokens.{EndAt};
+ghost use Rattle.gm_model.specs.Tokens.{bytes_of, EndAt, IsLexeme};
+ghost use Rattle.gm_model.specs.declared.token.TokenKind.TheVariants.{Name};
 ghost use Rattle.gm_text.specs.Lexing.{rest_of};
 ghost use Rattle.gm_script.specs.Reading as reading;
-ghost use Rattle.gm_script.specs.Reading.{IsNext, IsSeenNext, IsStray};
+ghost use Rattle.gm_script.specs.Reading.{IsNameLead, IsNext, IsSeenNext, IsStray};
 ghost use Rattle.gm_script.specs.declared.sight.Head.{Head};
 ghost use Rattle.gm_script.specs.declared.sight.Sight.{Sight};
 
-use crate::near::word_of_lead;
+use crate::near::{NameLead, lead_of_name, word_of_lead};
 use crate::reader::TextFault;
-use crate::sight::{Head, Sight, sight_of, sight_of_word};
+use crate::sight::{Head, Sight, begins_as_known_word, sight_of, sight_of_known_word};
 use crate::spot::Spot;
 use gm_text::{Lexer, Token, TokenKind};
 use std::simd::prelude::*;
@@ -45,15 +46,44 @@ pub(crate) fn next_seen<'a>(
     next_token_seen(lexer)
 }
 
+/// The name that stands next, with one blank before it at most, in which nothing else is seen. The first
+/// such name of a text is remembered, and then looked for before others.
+// Most texts name one rule again and again, and to find where a name ends takes 80 instructions more.
+pub(crate) fn next_name<'a>(
+    bytes: &'a [u8],
+    lexer: &mut Lexer<'a>,
+    known: &mut Option<NameLead>,
+) -> Option<Token>
+    requires text { lexer.old.text ≡ bytes.now }
+    requires known { IfSome known.old IsNameLead }
+    ensures known { IfSome known.new IsNameLead }
+    ensures seen { IfSome result (λ token. IsSeenNext lexer.old Sight.Name token lexer.new) }
+    ensures none { IfNone result (lexer.new ≡ lexer.old) }
+{
+    if let Some(lead) = *known {
+        return match word_of_lead(bytes, lexer, lead.bytes, lead.size) {
+            Some(token) => Some(token),
+            None => near_name(lexer),
+        };
+    }
+    let token = near_name(lexer)?;
+    *known = lead_of_name(bytes, token);
+    Some(token)
+}
+
 /// The name that stands next, with one blank before it at most, in which nothing else is seen. `None`
 /// says nothing of what stands next, and the lexer is then as before.
-pub(crate) fn near_name(lexer: &mut Lexer<'_>) -> Option<Token>
+fn near_name(lexer: &mut Lexer<'_>) -> Option<Token>
     ensures seen { IfSome result (λ token. IsSeenNext lexer.old Sight.Name token lexer.new) }
+    ensures lexeme { IfSome result (λ token. IsLexeme Name (bytes_of lexer.old.text token)) }
+    ensures sees { IfSome result (λ token. reading.sight_of_word (bytes_of lexer.old.text token) ≡ Sight.Name) }
     ensures none { IfNone result (lexer.new ≡ lexer.old) }
 {
     let mut ahead = lexer.fork();
     let token = ahead.small_name()?;
-    if !matches!(sight_of_word(ahead.text(&token)), Sight::Name) {
+    let word = ahead.text(&token);
+    // Two bytes tell of most names that they are nothing else.
+    if begins_as_known_word(word) && !matches!(sight_of_known_word(word), Sight::Name) {
         return None;
     }
     *lexer = ahead;

@@ -54,7 +54,7 @@ pub(crate) fn sight_of(lexer: &Lexer<'_>, token: &Token) -> Sight
 /// What is seen in a word.
 // Most words are names of rules, and two bytes tell of most names that they are nothing else: that
 // takes some 120 instructions less.
-pub(crate) fn sight_of_word(bytes: &[u8]) -> Sight
+fn sight_of_word(bytes: &[u8]) -> Sight
     ensures { result ≡ reading.sight_of_word bytes.now }
 {
     if begins_as_known_word(bytes) {
@@ -65,7 +65,7 @@ pub(crate) fn sight_of_word(bytes: &[u8]) -> Sight
 }
 
 /// Whether a word in which more is seen than a name begins with the same two bytes.
-fn begins_as_known_word(bytes: &[u8]) -> bool
+pub(crate) fn begins_as_known_word(bytes: &[u8]) -> bool
     ensures { result ≡ false → reading.sight_of_word bytes.now ≡ Sight.Name }
 {
     bytes.len() >= 2 && is_known_beginning(bytes[0], bytes[1])
@@ -94,7 +94,7 @@ fn is_known_beginning(first: u8, second: u8) -> bool
 /// The same, word by word.
 // Inlined, it would have `sight_of_word` save what it needs of registers before the two bytes are seen.
 #[inline(never)]
-fn sight_of_known_word(bytes: &[u8]) -> Sight
+pub(crate) fn sight_of_known_word(bytes: &[u8]) -> Sight
     ensures { result ≡ reading.sight_of_word bytes.now }
 {
     if bytes == b"apply".as_slice() {

@@ -1,0 +1,8 @@
+use Rattle.gm_script.specs.Reading.{IsNameLead}
+use Rattle.gm_script.specs.declared.sight.Sight.TheVariants as sights
+use Rattle.gm_script.proofs.seen.next_name.Goals as goal
+
+pub returns-in-Some-word_of_lead-clause-seen : goal.returns-in-Some-word_of_lead-clause-seen
+returns-in-Some-word_of_lead-clause-seen c =
+    let lead_is : IsNameLead c.in-Some.lead = rw c.in-Some.is at c.requires.known in
+    c.in-Some-word_of_lead.ensures.seen sights.Name lead_is.is
