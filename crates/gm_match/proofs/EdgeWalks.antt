@@ -1,6 +1,7 @@
 -- The walk along one label: a dart and its neighbour, or the dart alone.
 use Rattle.std.proofs.Common.{◌≡◌, ◌≢◌, ℕ, zero, suc, ◌+◌, ◌*◌, ◌<◌, ◌≤◌, List, [], ◌∷◌, length, take, Some, refl, sym, ap, subst, ◌∙◌, inl, inr, arith}
 use Rattle.std.proofs.lemmas.List.{length-take, length-take-le}
+use Rattle.std.proofs.lemmas.List.Elements.{All-take}
 use Rattle.std.proofs.lemmas.Option.{slice_get_within, get_or_from_slice_get}
 use Rattle.std.specs.List.{Contains, slice_get}
 use Rattle.std.specs.Prelude.{slice_index}
@@ -17,7 +18,8 @@ use Rattle.gm_walk.proofs.NameLemmas.{at_name, live_at}
 use Rattle.gm_match.proofs.Stepping.{one_slot}
 use Rattle.gm_walk.specs.Cells.{AreCells}
 use Rattle.gm_walk.specs.Turns.{IsTurn}
-use Rattle.gm_walk.specs.Walks.{IsLabelUpTo, IsWord, along, names_of}
+use Rattle.gm_walk.specs.Walks.{AreLive, IsLabelUpTo, IsWord, along, names_of}
+use Rattle.gm_match.specs.Layout.{ends, walk_of}
 
 none_before : (q l : ℕ) → IsPairBefore q l 0 0 → ⊥
 none_before q l (inl less) = omega (arith, less)
@@ -87,9 +89,24 @@ module _ (m : ArenaMap) (word : List Letter) (i : ℕ) (one : length word ≡ 1)
 
 -- ---- the slots
 
--- those of the walk, so many as there are turns
-abbrev pub ends : Slot → Slot → List ℕ → List Slot
-ends from to turns = take (length turns) (from ∷ to ∷ [])
+pub one_walk : (places : ℕ) → places ≡ 1 → (one walked : List Slot) → one ≡ walk_of places one walked
+one_walk places e one walked = rw e refl
+
+pub walk_made : (walk walked both : List Slot) (turns same : List ℕ) (places long : ℕ) → walk ≡ walk_of places (take (length same) both) walked → places ≡ long → same ≡ turns → walk ≡ walk_of long (take (length turns) both) walked
+walk_made walk walked both turns same places long is has equal = is ∙ ap (λ n. walk_of n (take (length same) both) walked) has ∙ ap (λ xs. walk_of long (take (length xs) both) walked) equal
+
+pub other_walk : (places : ℕ) → places ≢ 1 → (one walked : List Slot) → walked ≡ walk_of places one walked
+other_walk zero e one walked = refl
+other_walk (suc zero) e one walked = absurd (e refl)
+other_walk (suc (suc places)) e one walked = refl
+
+both_live : (m : ArenaMap) (from to : Slot) → IsLiveSlot m from.at → IsLiveSlot m to.at → AreLive m (from ∷ to ∷ [])
+both_live m from to live live2 zero d h = live
+both_live m from to live live2 (suc zero) d h = live2
+both_live m from to live live2 (suc (suc k)) d h = absurd (omega (arith, h))
+
+pub ends_live : (m : ArenaMap) (from to : Slot) (turns : List ℕ) → IsLiveSlot m from.at → IsLiveSlot m to.at → AreLive m (ends from to turns)
+ends_live m from to turns live live2 = All-take (λ (s : Slot). IsLiveSlot m s.at) (length turns) (from ∷ to ∷ []) (both_live m from to live live2)
 
 pub ends_long : (from to : Slot) (turns : List ℕ) → length turns ≤ 2 → length (ends from to turns) ≡ length turns
 ends_long from to turns few = length-take-le (length turns) (from ∷ to ∷ []) few

@@ -1,5 +1,5 @@
 -- What the parts of matching have made: the hook darts, and the slots and turns of the candidate.
-use Rattle.std.specs.Prelude.{◌≡◌, ℕ, ◌+◌, ◌*◌, ◌/◌, ◌%◌, ◌<◌, List, length, None, Some, slice_get, slice_index}
+use Rattle.std.specs.Prelude.{◌≡◌, ℕ, zero, suc, ◌+◌, ◌*◌, ◌/◌, ◌%◌, ◌<◌, List, [], ◌∷◌, length, take, None, Some, slice_get, slice_index}
 use Rattle.std.specs.FinMap.{get}
 use Rattle.gm_model.specs.declared.rule.Side.TheVariants.{Left}
 use Rattle.gm_model.specs.Maps.{IsGeneralised}
@@ -53,6 +53,16 @@ pub record IsFirstTo (turns : List ℕ) (p k : ℕ) : Type 0 where
 -- each later position is first turned to from an earlier one
 abbrev pub HaveFirstTurns : List ℕ → ℕ → ℕ → Type 0
 HaveFirstTurns turns positions places = (p : ℕ) → 0 < p → p < positions → (k : ℕ) × (k < p * places) × IsFirstTo turns p k
+
+-- the slots of a walk along one label, so many as there are turns
+abbrev pub ends : Slot → Slot → List ℕ → List Slot
+ends from to turns = take (length turns) (from ∷ to ∷ [])
+
+-- the slots of a walk along so many labels: those of the walk along one label, or those that were walked
+abbrev pub walk_of : ℕ → List Slot → List Slot → List Slot
+walk_of (suc zero) one walked = one
+walk_of zero one walked = walked
+walk_of (suc (suc places)) one walked = walked
 
 -- ---- slots
 

@@ -13,12 +13,12 @@ ghost use Rattle.gm_match.specs.Taken.{AreSlotsOf};
 
 use crate::columns::fill_columns;
 use crate::edges::fill_edge;
-use crate::hook_walk::walk_edge;
+use crate::hook_walk::{walk_hook, walk_in};
 use crate::rows::{first_row, later_row};
 use gm_arena::{Arena, Slot, Steps};
 use gm_model::{MOST_NODES, OutOfMemory, Word};
 use gm_plan::{Instances, Plan};
-use gm_walk::{Scratch, walk_turns};
+use gm_walk::Scratch;
 use std::alloc::Global;
 use std::sync::ledger::Ledger;
 
@@ -49,22 +49,14 @@ pub(crate) fn candidate<L: Ledger>(
 {
     let (slots, mut turns) = scratch.lend_rows(alloc);
     let from = darts[0];
-    if word.len() != 1 {
-        walk_turns(arena, from, word, scratch, &mut turns, steps)?;
-        let walk = scratch.walked();
-        return along_walk(plan, arena, darts, walk, word, slots, turns, steps);
-    }
-    let to = walk_edge(arena, from, word, &mut turns, steps)?;
+    let to = walk_hook(arena, from, word, scratch, &mut turns, steps)?;
     let ends = [from, to];
-    let walk = &ends[..turns.as_slice().len()];
+    let walk = walk_in(word.len(), &ends, turns.as_slice(), scratch);
     along_walk(plan, arena, darts, walk, word, slots, turns, steps)
 }
 
 /// The candidate along the walk of the first hook, which has these turns, from the darts of the
 /// hooks, in the room of an empty vector.
-// It is called from two places. Each copy knows whether there is one place, and neither makes instances
-// in memory to copy them from there.
-#[inline(always)]
 fn along_walk<L: Ledger>(
     plan: &Plan<'_>,
     arena: &Arena,
@@ -113,7 +105,6 @@ fn along_walk<L: Ledger>(
 
 /// Puts the slots of the left nodes, by position and node, into the empty vector. The turns are those
 /// of the walk, so many at each position.
-#[inline(always)]
 fn fill_slots<L: Ledger>(
     plan: &Plan<'_>,
     arena: &Arena,
@@ -156,7 +147,6 @@ fn fill_slots<L: Ledger>(
 
 /// Puts the slots of the left nodes into the empty vector as `fill_slots` does, whatever hooks there are:
 /// one position after another.
-#[inline(always)]
 fn fill_rows<L: Ledger>(
     plan: &Plan<'_>,
     arena: &Arena,

@@ -13,7 +13,6 @@ use std::sync::ledger::Ledger;
 /// Puts the slots of the left nodes of a rule with one hook, by position and node, into the empty
 /// vector. The hook lies along the walk, and each link leads to its end at all positions before the
 /// next one does.
-#[inline(always)]
 pub(crate) fn fill_columns<L: Ledger>(
     plan: &Plan<'_>,
     arena: &Arena,

@@ -17,7 +17,6 @@ use std::sync::ledger::Ledger;
 
 /// Puts the slots of the left nodes, by position and node, into the empty vector. Each hook has its own
 /// dart, and at the second position, where there is one, this dart's neighbour along its own label.
-#[inline(always)]
 pub(crate) fn fill_edge<L: Ledger>(
     plan: &Plan<'_>,
     arena: &Arena,
@@ -48,7 +47,6 @@ pub(crate) fn fill_edge<L: Ledger>(
 }
 
 /// Writes the slots of the left nodes over others, by position and node.
-#[inline(always)]
 fn write_edge<L: Ledger>(
     plan: &Plan<'_>,
     arena: &Arena,
