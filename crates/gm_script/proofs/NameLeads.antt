@@ -1,6 +1,6 @@
 -- A name between two spaces: wherever the bytes stand, the name is a token.
 use Rattle.std.proofs.Common.{◌≡◌, ℕ, suc, ◌+◌, ◌-◌, ◌<◌, ◌≤◌, Bool, true, false, ◌&&◌, cond, List, [], ◌∷◌, ◌++◌, length, take, drop, get_or, refl, sym, ap, subst, ◌∙◌, arith}
-use Rattle.std.proofs.lemmas.List.{length-append, length-take, length-drop, append_assoc, drop_more, drop_all, take_all, take_more, take-append-le, drop-append-le, get_or-drop}
+use Rattle.std.proofs.lemmas.List.{length-append, length-take, length-drop, append_assoc, drop_more, drop_all, take_all, take_more, take-append-le, drop-append-le, get_or-drop, drop-drop, take-take}
 use Rattle.std.proofs.lemmas.List.Sums.{take_while-cons}
 use Rattle.std.specs.List.{take_while, list_all}
 use Rattle.gm_model.specs.declared.token.TokenKind.TheVariants as kinds
@@ -90,3 +90,14 @@ name_lead text start end inside first before behind lexeme sees =
       where
         get_at : start < end → get_or (drop start text) (end - start) 0 ≡ get_or text end 0
         get_at some = let there : start + (end - start) ≡ end = omega (arith, some) in get_or-drop start text (end - start) 0 ∙ ap (λ (i : ℕ). get_or text i 0) there
+
+-- the name of a lead that stands before the place
+pub name_of : (text : List ℕ) (start end : ℕ) → 0 < start → take (end - start + 2 - 2) (drop 1 (take (end - start + 2) (drop (start - 1) text))) ≡ take (end - start) (drop start text)
+name_of text start end first =
+    let less : end - start + 2 - 2 ≡ end - start = omega arith in
+    let one : start - 1 + 1 ≡ start = omega (arith, first) in
+    rw less (inner (end - start) (drop (start - 1) text)) ∙ ap (take (end - start)) (drop-drop 1 (start - 1) text ∙ ap (λ (n : ℕ). drop n text) one)
+  where
+    inner : (n : ℕ) (l : List ℕ) → take n (drop 1 (take (n + 2) l)) ≡ take n (drop 1 l)
+    inner n [] = let two : n + 2 ≡ suc (suc n) = omega arith in rw two refl
+    inner n (x ∷ l) = let two : n + 2 ≡ suc (suc n) = omega arith in rw two (take-take n (suc n) l (omega arith))

@@ -1,11 +1,13 @@
 -- What was read of a text so far, and the statements that were compared.
-use Rattle.std.specs.Prelude.{◌≡◌, ◌≤◌, ℕ, List, [], ◌++◌, Option, Result, Ok, Err}
+use Rattle.std.specs.Prelude.{◌≡◌, ◌-◌, ◌≤◌, ℕ, List, [], ◌++◌, take, drop, Option, Some, Result, Ok, Err}
 use Rattle.gm_model.specs.Statements.{Stat}
 use Rattle.gm_model.specs.Rules.{Rule}
 use Rattle.gm_model.specs.Tokens.{Item}
 use Rattle.gm_script.specs.Comparing.{stats_for}
 use Rattle.gm_script.specs.Faults.{Compares}
-use Rattle.gm_script.specs.Reading.{HeldStat, Held, Stop, put_first, read_from, stats_of, IsInText}
+use Rattle.gm_script.specs.Reading.{HeldStat, Held, Stop, put_first, read_from, stats_of, IsInText, IsNameLead}
+use Rattle.gm_script.specs.ScriptText.{index_of}
+use Rattle.gm_script.specs.declared.near.NameLead.{NameLead}
 use Rattle.gm_script.specs.declared.fault.ScriptFault.{ScriptFault}
 
 -- what all come to, where these have ended before
@@ -29,3 +31,8 @@ pub record IsSoFar (n : ℕ) (text : List ℕ) (rules : List Rule) (held : Held)
   pub read : behind before (read_from n text held items) ≡ stats_of n text
   pub holds : Holds text rules compared before
   pub named : IsInText text held.stat.name
+
+-- a name between two blanks that is one of the rules' names, with that rule's index
+pub record IsKnown (rules : List Rule) (lead : NameLead) : Type 0 where
+  pub lead_is : IsNameLead lead
+  pub index_is : index_of rules (take (lead.size - 2) (drop 1 (take lead.size lead.bytes))) ≡ Some lead.index

@@ -1,12 +1,14 @@
 //! The statements of a text, compared with a book one after another.
-ghost use Rattle.std.specs.Prelude.{◌≡◌, ◌++◌, ◌∷◌, ℕ, List, [], Some, map, OnOk, IfOk, IfErr};
+ghost use Rattle.std.specs.Prelude.{◌≡◌, ◌++◌, ◌∷◌, ℕ, List, [], Some, map, OnOk, IfOk, IfErr, IfSome};
 ghost use Rattle.gm_model.specs.Rules.{rule_of};
 ghost use Rattle.gm_script.specs.Comparing as comparing;
 ghost use Rattle.gm_script.specs.Comparing.{stat_for, stats_for};
 ghost use Rattle.gm_script.specs.Faults.{Compares};
 ghost use Rattle.gm_script.specs.Reading.{HeldStat, IsInText};
+ghost use Rattle.gm_script.specs.SoFar.{IsKnown};
 
 use crate::fault::ScriptFault;
+use crate::near::{NameLead, index_of_name};
 use crate::reader::{Draft, MOST_LINES};
 use crate::rules::RulesByName;
 use crate::sight::Head;
@@ -40,12 +42,14 @@ fn index_of_rule(
     bytes: &[u8],
     draft: &mut Draft,
     rules: &RulesByName<'_>,
+    known: &Option<NameLead>,
 ) -> Result<u16, ScriptFault>
+    requires known { IfSome known.now (IsKnown (map rule_of rules.now)) }
     requires in_text { IsInText bytes.now draft.old.name }
     ensures { Compares (λ k. comparing.stat_of draft.new.head draft.new k draft.new.values) result (comparing.named_stat bytes.now (map rule_of rules.now) draft.old) }
 {
     let name = draft.name;
-    let Some(index) = rules.index_of(&bytes[name.start..name.end]) else {
+    let Some(index) = index_of_name(bytes, name, rules, known) else {
         return Err(ScriptFault::UnknownRule { place: name.start });
     };
     fit_rule(draft, &rules.as_slice()[index as usize])?;
@@ -55,12 +59,18 @@ fn index_of_rule(
 /// The index of the rule that the statement names, or 0 where it is one that names none.
 // Inlined, as `add` is.
 #[inline(always)]
-fn index_for(bytes: &[u8], draft: &mut Draft, rules: &RulesByName<'_>) -> Result<u16, ScriptFault>
+fn index_for(
+    bytes: &[u8],
+    draft: &mut Draft,
+    rules: &RulesByName<'_>,
+    known: &Option<NameLead>,
+) -> Result<u16, ScriptFault>
+    requires known { IfSome known.now (IsKnown (map rule_of rules.now)) }
     requires in_text { IsInText bytes.now draft.old.name }
     ensures { Compares (λ k. comparing.stat_of draft.new.head draft.new k draft.new.values) result (stat_for bytes.now (map rule_of rules.now) draft.old) }
 {
     match draft.head {
-        Head::Apply | Head::Each => index_of_rule(bytes, draft, rules),
+        Head::Apply | Head::Each => index_of_rule(bytes, draft, rules, known),
         Head::Undo | Head::Redo | Head::Group | Head::End => Ok(0),
     }
 }
@@ -106,7 +116,9 @@ impl Compared {
         bytes: &[u8],
         draft: &mut Draft,
         rules: &RulesByName<'_>,
+        known: &Option<NameLead>,
     ) -> Result<(), ScriptFault>
+        requires known { IfSome known.now (IsKnown (map rule_of rules.now)) }
         requires in_text { IsInText bytes.now draft.old.name }
         ensures ok { (before : List HeldStat) → Compares (λ stats. stats) self.old (stats_for bytes.now (map rule_of rules.now) before)
             → OnOk result (Compares (λ stats. stats) self.new (stats_for bytes.now (map rule_of rules.now) (before ++ draft.old ∷ []))) }
@@ -115,7 +127,7 @@ impl Compared {
         if self.fault.is_some() {
             return Ok(());
         }
-        match index_for(bytes, draft, rules) {
+        match index_for(bytes, draft, rules, known) {
             Ok(index) => self.stats.push(draft.as_stat(index))?,
             Err(fault) => self.fault = Some(fault),
         }

@@ -1,5 +1,5 @@
 //! What a script says so far, as its tokens are read one after another.
-ghost use Rattle.std.specs.Prelude.{◌≡◌, ◌-◌, ◌<◌, ◌≤◌, ℕ, Some, None, IsTrue, IsFalse, map, OnOk, IfErr, if◌then◌else◌};
+ghost use Rattle.std.specs.Prelude.{◌≡◌, ◌-◌, ◌<◌, ◌≤◌, ℕ, Some, None, IsTrue, IsFalse, map, OnOk, IfErr, IfSome, if◌then◌else◌};
 ghost use Rattle.gm_model.specs.declared.token.Token.{Token};
 ghost use Rattle.gm_model.specs.Rules.{rule_of};
 ghost use Rattle.gm_model.specs.Statements.{stat_of};
@@ -8,10 +8,11 @@ ghost use Rattle.gm_text.specs.ValueText as numbers;
 ghost use Rattle.gm_script.specs.Comparing as comparing;
 ghost use Rattle.gm_script.specs.Reading as reading;
 ghost use Rattle.gm_script.specs.Reading.{Gives, IsInText, passed_of};
-ghost use Rattle.gm_script.specs.SoFar.{Adds};
+ghost use Rattle.gm_script.specs.SoFar.{Adds, IsKnown};
 
 use crate::comparing::Compared;
 use crate::fault::ScriptFault;
+use crate::near::NameLead;
 use crate::rules::RulesByName;
 use crate::sight::{Head, Sight};
 use crate::spot::Spot;
@@ -203,7 +204,9 @@ impl Reader {
         sight: Sight,
         rules: &RulesByName<'_>,
         compared: &mut Compared,
+        known: &Option<NameLead>,
     ) -> Result<(), ScriptFault>
+        requires known { IfSome known.now (IsKnown (map rule_of rules.now)) }
         requires in_text { IsInText bytes.now self.old.stat.name }
         ensures added { OnOk result (Adds bytes.now (map rule_of rules.now) (reading.ended_by self.old.spot sight self.old.stat) compared.old compared.new) }
         ensures spot { self.new.spot ≡ self.old.spot }
@@ -212,7 +215,7 @@ impl Reader {
     {
         match (sight, self.spot) {
             (Sight::Begins(_), Spot::Start | Spot::Apply | Spot::Over) => Ok(()),
-            (Sight::Begins(_), _) => compared.add(bytes, &mut self.stat, rules),
+            (Sight::Begins(_), _) => compared.add(bytes, &mut self.stat, rules, known),
             _ => Ok(()),
         }
     }

@@ -9,8 +9,8 @@ ghost use Rattle.gm_text.specs.Lexing.{rest_of};
 ghost use Rattle.gm_script.specs.ScriptText.{ScriptText};
 ghost use Rattle.gm_script.specs.Faults.{IsFaultOf};
 ghost use Rattle.gm_script.specs.FirstRules.{first_rules};
-ghost use Rattle.gm_script.specs.Reading.{nothing, read_from, Fails, ReadsOn, IsInText, IsNameLead};
-ghost use Rattle.gm_script.specs.SoFar.{IsSoFar};
+ghost use Rattle.gm_script.specs.Reading.{nothing, read_from, Fails, ReadsOn, IsInText};
+ghost use Rattle.gm_script.specs.SoFar.{IsKnown, IsSoFar};
 ghost use Rattle.gm_script.specs.declared.spot.Spot.{Spot};
 
 use crate::comparing::Compared;
@@ -57,17 +57,18 @@ fn read_hooks_there(lexer: &mut Lexer<'_>, reader: &mut Reader) -> Result<(), Te
 fn read_name<'a>(
     bytes: &'a [u8],
     lexer: &mut Lexer<'a>,
+    rules: &RulesByName<'_>,
     reader: &mut Reader,
     known: &mut Option<NameLead>,
 ) -> Result<(), TextFault>
     requires text { lexer.old.text ≡ bytes.now }
-    requires known { IfSome known.old IsNameLead }
+    requires known { IfSome known.old (IsKnown (map rule_of rules.now)) }
     requires spot { reader.old.spot ≡ Spot.Apply }
-    ensures known { IfSome known.new IsNameLead }
+    ensures known { IfSome known.new (IsKnown (map rule_of rules.now)) }
     ensures ok { OnOk result (ReadsOn reader.old reader.new lexer.old lexer.new) }
     ensures err { IfErr result (λ fault. (n : ℕ) → Fails fault (read_from n lexer.old.text reader.old (rest_of lexer.old))) }
 {
-    if let Some(token) = next_name(bytes, lexer, known) {
+    if let Some(token) = next_name(bytes, lexer, rules, known) {
         reader.take_name(token)?;
     }
     Ok(())
@@ -77,17 +78,18 @@ fn read_name<'a>(
 fn read_name_there<'a>(
     bytes: &'a [u8],
     lexer: &mut Lexer<'a>,
+    rules: &RulesByName<'_>,
     reader: &mut Reader,
     known: &mut Option<NameLead>,
 ) -> Result<(), TextFault>
     requires text { lexer.old.text ≡ bytes.now }
-    requires known { IfSome known.old IsNameLead }
-    ensures known { IfSome known.new IsNameLead }
+    requires known { IfSome known.old (IsKnown (map rule_of rules.now)) }
+    ensures known { IfSome known.new (IsKnown (map rule_of rules.now)) }
     ensures ok { OnOk result (ReadsOn reader.old reader.new lexer.old lexer.new) }
     ensures err { IfErr result (λ fault. (n : ℕ) → Fails fault (read_from n lexer.old.text reader.old (rest_of lexer.old))) }
 {
     if reader.takes_name() {
-        return read_name(bytes, lexer, reader, known);
+        return read_name(bytes, lexer, rules, reader, known);
     }
     Ok(())
 }
@@ -97,16 +99,17 @@ fn read_name_there<'a>(
 fn read_on<'a>(
     bytes: &'a [u8],
     lexer: &mut Lexer<'a>,
+    rules: &RulesByName<'_>,
     reader: &mut Reader,
     known: &mut Option<NameLead>,
 ) -> Result<(), TextFault>
     requires text { lexer.old.text ≡ bytes.now }
-    requires known { IfSome known.old IsNameLead }
-    ensures known { IfSome known.new IsNameLead }
+    requires known { IfSome known.old (IsKnown (map rule_of rules.now)) }
+    ensures known { IfSome known.new (IsKnown (map rule_of rules.now)) }
     ensures ok { OnOk result (ReadsOn reader.old reader.new lexer.old lexer.new) }
     ensures err { IfErr result (λ fault. (n : ℕ) → Fails fault (read_from n lexer.old.text reader.old (rest_of lexer.old))) }
 {
-    read_name_there(bytes, lexer, reader, known)?;
+    read_name_there(bytes, lexer, rules, reader, known)?;
     read_hooks_there(lexer, reader)
 }
 
@@ -119,8 +122,10 @@ fn begin_line<'a>(
     rules: &RulesByName<'_>,
     reader: &mut Reader,
     compared: &mut Compared,
+    known: &Option<NameLead>,
 ) -> Result<bool, ScriptFault>
     requires text { lexer.old.text ≡ bytes.now }
+    requires known { IfSome known.now (IsKnown (map rule_of rules.now)) }
     requires named { IsInText bytes.now reader.old.stat.name }
     ensures text { lexer.new.text ≡ lexer.old.text }
     ensures inside { IfOk result (λ began. IsTrue began → lexer.old.place < length lexer.old.text) }
@@ -137,7 +142,7 @@ fn begin_line<'a>(
     let Some(token) = near_apply(bytes, lexer) else {
         return Ok(false);
     };
-    reader.end_stat(bytes, Sight::Begins(Head::Apply), rules, compared)?;
+    reader.end_stat(bytes, Sight::Begins(Head::Apply), rules, compared, known)?;
     reader.take_apply(token)?;
     Ok(true)
 }
@@ -151,8 +156,10 @@ fn read_token<'a>(
     rules: &RulesByName<'_>,
     reader: &mut Reader,
     compared: &mut Compared,
+    known: &Option<NameLead>,
 ) -> Result<bool, ScriptFault>
     requires text { lexer.old.text ≡ bytes.now }
+    requires known { IfSome known.now (IsKnown (map rule_of rules.now)) }
     requires so_far { IsSoFar top bytes.now (map rule_of rules.now) reader.old (rest_of lexer.old) compared.old }
     ensures text { lexer.new.text ≡ lexer.old.text }
     ensures inside { IfOk result (λ more. IsTrue more → lexer.old.place < length lexer.old.text) }
@@ -165,7 +172,7 @@ fn read_token<'a>(
         return Ok(false);
     };
     let Seen { sight, token } = seen;
-    reader.end_stat(bytes, sight, rules, compared)?;
+    reader.end_stat(bytes, sight, rules, compared, known)?;
     reader.take(top, sight, token)?;
     Ok(true)
 }
@@ -178,8 +185,10 @@ fn read_next<'a>(
     rules: &RulesByName<'_>,
     reader: &mut Reader,
     compared: &mut Compared,
+    known: &Option<NameLead>,
 ) -> Result<bool, ScriptFault>
     requires text { lexer.old.text ≡ bytes.now }
+    requires known { IfSome known.now (IsKnown (map rule_of rules.now)) }
     requires so_far { IsSoFar top bytes.now (map rule_of rules.now) reader.old (rest_of lexer.old) compared.old }
     ensures text { lexer.new.text ≡ lexer.old.text }
     ensures inside { IfOk result (λ more. IsTrue more → lexer.old.place < length lexer.old.text) }
@@ -188,10 +197,10 @@ fn read_next<'a>(
     ensures all { IfOk result (λ more. IsFalse more → IsSoFar top bytes.now (map rule_of rules.now) reader.new (EndAt (length bytes.now) ∷ []) compared.new) }
     ensures fault { IfErr result (IsFaultOf bytes.now top (map rule_of rules.now)) }
 {
-    if begin_line(bytes, lexer, rules, reader, compared)? {
+    if begin_line(bytes, lexer, rules, reader, compared, known)? {
         return Ok(true);
     }
-    read_token(bytes, top, lexer, rules, reader, compared)
+    read_token(bytes, top, lexer, rules, reader, compared, known)
 }
 
 /// Reads the text to its end, and compares each statement but the last.
@@ -212,8 +221,8 @@ fn read_tokens(
     let top = dim.top();
     let mut lexer = Lexer::new(bytes);
     let mut known = None;
-    while read_next(bytes, top, &mut lexer, rules, reader, compared)? {
-        read_on(bytes, &mut lexer, reader, &mut known)?;
+    while read_next(bytes, top, &mut lexer, rules, reader, compared, &known)? {
+        read_on(bytes, &mut lexer, rules, reader, &mut known)?;
     }
     Ok(())
 }
@@ -231,7 +240,7 @@ fn finish(
     ensures fault { IfErr result (IsFaultOf bytes.now dim (map rule_of rules.now)) }
 {
     if let Some(mut last) = reader.finish(bytes.len())? {
-        compared.add(bytes, &mut last, rules)?;
+        compared.add(bytes, &mut last, rules, &None)?;
     }
     compared.finish()
 }

@@ -1,16 +1,19 @@
 //! What stands next in a text, and what a script sees in it.
-ghost use Rattle.std.specs.Prelude.{◌≡◌, ◌∷◌, ℕ, [], length, false, IsTrue, IfOk, IfErr, IfSome, IfNone, MatchOption};
+ghost use Rattle.std.specs.Prelude.{◌≡◌, ◌∷◌, ℕ, [], length, map, false, IsTrue, IfOk, IfErr, IfSome, IfNone, MatchOption};
 ghost use Rattle.gm_model.specs.Tokens as tokens;
 ghost use Rattle.gm_model.specs.Tokens.{bytes_of, EndAt, IsLexeme};
 ghost use Rattle.gm_model.specs.declared.token.TokenKind.TheVariants.{Name};
+ghost use Rattle.gm_model.specs.Rules.{rule_of};
 ghost use Rattle.gm_text.specs.Lexing.{rest_of};
 ghost use Rattle.gm_script.specs.Reading as reading;
-ghost use Rattle.gm_script.specs.Reading.{IsNameLead, IsNext, IsSeenNext, IsStray};
+ghost use Rattle.gm_script.specs.Reading.{IsNext, IsSeenNext, IsStray};
+ghost use Rattle.gm_script.specs.SoFar.{IsKnown};
 ghost use Rattle.gm_script.specs.declared.sight.Head.{Head};
 ghost use Rattle.gm_script.specs.declared.sight.Sight.{Sight};
 
 use crate::near::{NameLead, lead_of_name, word_of_lead};
 use crate::reader::TextFault;
+use crate::rules::RulesByName;
 use crate::sight::{Head, Sight, begins_as_known_word, sight_of, sight_of_known_word};
 use crate::spot::Spot;
 use gm_text::{Lexer, Token, TokenKind};
@@ -52,11 +55,12 @@ pub(crate) fn next_seen<'a>(
 pub(crate) fn next_name<'a>(
     bytes: &'a [u8],
     lexer: &mut Lexer<'a>,
+    rules: &RulesByName<'_>,
     known: &mut Option<NameLead>,
 ) -> Option<Token>
     requires text { lexer.old.text ≡ bytes.now }
-    requires known { IfSome known.old IsNameLead }
-    ensures known { IfSome known.new IsNameLead }
+    requires known { IfSome known.old (IsKnown (map rule_of rules.now)) }
+    ensures known { IfSome known.new (IsKnown (map rule_of rules.now)) }
     ensures seen { IfSome result (λ token. IsSeenNext lexer.old Sight.Name token lexer.new) }
     ensures none { IfNone result (lexer.new ≡ lexer.old) }
 {
@@ -67,7 +71,7 @@ pub(crate) fn next_name<'a>(
         };
     }
     let token = near_name(lexer)?;
-    *known = lead_of_name(bytes, token);
+    *known = lead_of_name(bytes, token, rules);
     Some(token)
 }
 
