@@ -255,13 +255,6 @@ impl Reader {
         Ok(())
     }
 
-    /// Whether the rule's name of an application stands next.
-    pub(crate) fn takes_name(&self) -> bool
-        ensures { IsTrue result → self.now.spot ≡ Spot.Apply }
-    {
-        self.spot == Spot::Apply
-    }
-
     /// Reads a token in which nothing but a name is seen, as the rule's name of an application.
     pub(crate) fn take_name(&mut self, token: Token) -> Result<(), TextFault>
         requires order { token.start ≤ token.end }
@@ -278,13 +271,6 @@ impl Reader {
         self.stat.name = token;
         self.spot = Spot::Rule;
         Ok(())
-    }
-
-    /// Whether a hook can stand next.
-    pub(crate) fn takes_hooks(&self) -> bool
-        ensures { IsTrue result → self.now.spot ≡ Spot.Rule }
-    {
-        self.spot == Spot::Rule
     }
 
     /// Reads a token that is a number, where a hook can stand.

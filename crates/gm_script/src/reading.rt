@@ -20,6 +20,7 @@ use crate::reader::{Reader, TextFault};
 use crate::rules::RulesByName;
 use crate::seen::{Seen, near_apply, next_name, next_seen};
 use crate::sight::{Head, Sight};
+use crate::spot::Spot;
 use gm_model::{Book, Dim, Script};
 use gm_text::{Lexer, Token, TokenKind};
 use std::alloc::Global;
@@ -46,7 +47,7 @@ fn read_hooks_there(lexer: &mut Lexer<'_>, reader: &mut Reader) -> Result<(), Te
     ensures ok { OnOk result (ReadsOn reader.old reader.new lexer.old lexer.new) }
     ensures err { IfErr result (λ fault. (n : ℕ) → Fails fault (read_from n lexer.old.text reader.old (rest_of lexer.old))) }
 {
-    if reader.takes_hooks() {
+    if reader.spot() == Spot::Rule {
         return read_hooks(lexer, reader);
     }
     Ok(())
@@ -88,7 +89,7 @@ fn read_name_there<'a>(
     ensures ok { OnOk result (ReadsOn reader.old reader.new lexer.old lexer.new) }
     ensures err { IfErr result (λ fault. (n : ℕ) → Fails fault (read_from n lexer.old.text reader.old (rest_of lexer.old))) }
 {
-    if reader.takes_name() {
+    if reader.spot() == Spot::Apply {
         return read_name(bytes, lexer, rules, reader, known);
     }
     Ok(())
