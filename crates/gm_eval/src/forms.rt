@@ -142,10 +142,71 @@ impl Reader<'_> {
         unary(op, part)
     }
 
-    /// The value of an operator that rules have most.
+    /// The value of an operator that rules have most. Both parts are read.
     #[cycle(value)]
     #[inline(never)]
     fn quick<L: Ledger>(
+        &self,
+        op: BinOp,
+        left: &Expr,
+        right: &Expr,
+        kept: &mut Entries,
+        scratch: &mut Scratch,
+        steps: &mut Steps<L>,
+    ) -> Option<Value>
+        requires ready { IsReady self.now (Binary op (tree_of left.now) (tree_of right.now)) }
+        requires op { (op ≡ Add) ⊎ (op ≡ Sub) ⊎ (op ≡ Div) }
+        requires fits { Fits scratch.old self.now.arena.now }
+        requires kept { AreKept self.now.arena.now self.now.found.now self.now.params.now kept.old }
+        ensures value { IsValueThere self.now (Binary op (tree_of left.now) (tree_of right.now)) result }
+        ensures cost { IsWithin self.now (UnitsBeside self.now kept.old (Binary op (tree_of left.now) (tree_of right.now))) steps.old steps.new }
+        ensures least { steps.old ≤ steps.new }
+        ensures room { scratch.new.bound ≡ scratch.old.bound }
+        ensures kept { AreKept self.now.arena.now self.now.found.now self.now.params.now kept.new }
+        ensures stays { StillKept kept.old kept.new }
+        ensures adds { AddsOnly (collectors_of (Binary op (tree_of left.now) (tree_of right.now))) kept.old kept.new }
+        ensures left { IsSome result → AreLeft self.now (Read self.now (Binary op (tree_of left.now) (tree_of right.now))) kept.new }
+    {
+        let left = self.first_part(left, kept, scratch, steps)?;
+        let right = self.value(right, kept, scratch, steps)?;
+        most_met(op, left, right)
+    }
+
+    /// The value of the first part of an operator that rules have most.
+    // Where it has such an operator too, that is inlined: so `(a.pos + b.pos) / 2` is read in one call.
+    #[cycle(value)]
+    #[inline(always)]
+    fn first_part<L: Ledger>(
+        &self,
+        expr: &Expr,
+        kept: &mut Entries,
+        scratch: &mut Scratch,
+        steps: &mut Steps<L>,
+    ) -> Option<Value>
+        requires ready { IsReady self.now (tree_of expr.now) }
+        requires fits { Fits scratch.old self.now.arena.now }
+        requires kept { AreKept self.now.arena.now self.now.found.now self.now.params.now kept.old }
+        ensures value { IsValueThere self.now (tree_of expr.now) result }
+        ensures cost { IsWithin self.now (UnitsBeside self.now kept.old (tree_of expr.now)) steps.old steps.new }
+        ensures least { steps.old ≤ steps.new }
+        ensures room { scratch.new.bound ≡ scratch.old.bound }
+        ensures kept { AreKept self.now.arena.now self.now.found.now self.now.params.now kept.new }
+        ensures stays { StillKept kept.old kept.new }
+        ensures adds { AddsOnly (collectors_of (tree_of expr.now)) kept.old kept.new }
+        ensures left { IsSome result → AreLeft self.now (Read self.now (tree_of expr.now)) kept.new }
+    {
+        match expr {
+            Expr::Binary(op, left, right) if is_quick(*op, left) => {
+                self.nested(*op, left, right, kept, scratch, steps)
+            }
+            _ => self.value(expr, kept, scratch, steps),
+        }
+    }
+
+    /// The value of an operator that rules have most, as the first part of another.
+    #[cycle(value)]
+    #[inline(always)]
+    fn nested<L: Ledger>(
         &self,
         op: BinOp,
         left: &Expr,

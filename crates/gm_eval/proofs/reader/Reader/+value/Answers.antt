@@ -30,8 +30,8 @@ binary-parts-requires g t c =
     let ready = binary_ready c.args.self.now c.args.op (tree_of c.args.left.now) (tree_of c.args.right.now) c.requires.ready in
     λ κs lives. (omega arith, (lives, (ready.0, (ready.1, (c.requires.fits, c.requires.kept)))))
 
-pub quick-parts-requires : goal.quick-parts-requires
-quick-parts-requires g t c =
+pub nested-parts-requires : goal.nested-parts-requires
+nested-parts-requires g t c =
     let ready = binary_ready c.args.self.now c.args.op (tree_of c.args.left.now) (tree_of c.args.right.now) c.requires.ready in
     λ κs lives. (omega arith, (lives, (ready.0, (ready.1, (c.requires.fits, c.requires.kept)))))
 
@@ -138,14 +138,62 @@ binary-binary-requires g t c = record { kind = binary_known c.args.self.now c.ar
 pub binary-returns-clause-value : goal.binary-returns-clause-value
 binary-returns-clause-value g t c = binary_there c.args.self.now c.args.op (tree_of c.args.left.now) (tree_of c.args.right.now) c.in_ok-left.left c.in_ok-left.right c.binary.result c.in_ok-left.ensures.value.0 c.in_ok-left.ensures.value.1 c.binary.ensures
 
-pub quick-returns-in_err-left-clause-value : goal.quick-returns-in_err-left-clause-value
-quick-returns-in_err-left-clause-value g t c = none_there c.args.self.now (Binary c.args.op (tree_of c.args.left.now) (tree_of c.args.right.now)) c.from_residual.result c.from_residual.ensures (λ v (x, y, h, k, u). c.in_err-left.ensures.value x y h k)
+pub quick-first_part-requires : goal.quick-first_part-requires
+quick-first_part-requires g t c = λ κs lives. (omega arith, (lives, ((binary_ready c.args.self.now c.args.op (tree_of c.args.left.now) (tree_of c.args.right.now) c.requires.ready).0, (c.requires.fits, c.requires.kept))))
+
+pub quick-value-requires : goal.quick-value-requires
+quick-value-requires g t c = λ κs lives. (omega arith, (lives, ((binary_ready c.args.self.now c.args.op (tree_of c.args.left.now) (tree_of c.args.right.now) c.requires.ready).1, (omega (arith, c.requires.fits, c.first_part.ensures.room), c.first_part.ensures.kept))))
+
+pub quick-returns-in_err-left : goal.quick-returns-in_err-left
+quick-returns-in_err-left g t c =
+    record {
+      value = none_there c.args.self.now (Binary c.args.op (tree_of c.args.left.now) (tree_of c.args.right.now)) c.from_residual.result c.from_residual.ensures (λ v (x, y, h, k, u). c.in_err-left.ensures.value x h);
+      cost = first_beside c.args.self.now _ (tree_of c.args.left.now) (tree_of c.args.right.now) _ _ c.first_part.ensures.cost;
+      least = c.first_part.ensures.least;
+      room = c.first_part.ensures.room;
+      kept = c.first_part.ensures.kept;
+      stays = c.first_part.ensures.stays;
+      adds = first_adds (tree_of c.args.left.now) (tree_of c.args.right.now) _ _ c.first_part.ensures.adds;
+      left = λ some. absurd (not_some _ c.from_residual.ensures some);
+    }
+
+pub quick-returns-in_err-right : goal.quick-returns-in_err-right
+quick-returns-in_err-right g t c =
+    record {
+      value = none_there c.args.self.now (Binary c.args.op (tree_of c.args.left.now) (tree_of c.args.right.now)) c.from_residual-in_err-right.result c.from_residual-in_err-right.ensures (λ v (x, y, h, k, u). c.in_err-right.ensures.value y k);
+      cost = two_beside c.args.self.now _ _ (tree_of c.args.left.now) (tree_of c.args.right.now) _ _ _ c.first_part.ensures.stays c.first_part.ensures.cost c.value.ensures.cost;
+      least = omega (arith, c.first_part.ensures.least, c.value.ensures.least);
+      room = c.value.ensures.room ∙ c.first_part.ensures.room;
+      kept = c.value.ensures.kept;
+      stays = later_kept _ _ _ c.first_part.ensures.stays c.value.ensures.stays;
+      adds = two_add (tree_of c.args.left.now) (tree_of c.args.right.now) _ _ _ c.first_part.ensures.adds c.value.ensures.adds;
+      left = λ some. absurd (not_some _ c.from_residual-in_err-right.ensures some);
+    }
 
 pub quick-most_met-requires-clause-kind : goal.quick-most_met-requires-clause-kind
-quick-most_met-requires-clause-kind g t c = binary_known c.args.self.now c.args.op (tree_of c.args.left.now) (tree_of c.args.right.now) c.in_ok-left.left c.in_ok-left.right c.requires.ready c.in_ok-left.ensures.value.0 c.in_ok-left.ensures.value.1
+quick-most_met-requires-clause-kind g t c = binary_known c.args.self.now c.args.op (tree_of c.args.left.now) (tree_of c.args.right.now) c.in_ok-left.left c.in_ok-right.right c.requires.ready c.in_ok-left.ensures.value c.in_ok-right.ensures.value
 
-pub quick-returns-clause-value : goal.quick-returns-clause-value
-quick-returns-clause-value g t c = binary_there c.args.self.now c.args.op (tree_of c.args.left.now) (tree_of c.args.right.now) c.in_ok-left.left c.in_ok-left.right c.most_met.result c.in_ok-left.ensures.value.0 c.in_ok-left.ensures.value.1 c.most_met.ensures
+pub quick-returns : goal.quick-returns
+quick-returns g t c =
+    record {
+      value = binary_there c.args.self.now c.args.op (tree_of c.args.left.now) (tree_of c.args.right.now) c.in_ok-left.left c.in_ok-right.right c.most_met.result c.in_ok-left.ensures.value c.in_ok-right.ensures.value c.most_met.ensures;
+      cost = two_beside c.args.self.now _ _ (tree_of c.args.left.now) (tree_of c.args.right.now) _ _ _ c.first_part.ensures.stays c.first_part.ensures.cost c.value.ensures.cost;
+      least = omega (arith, c.first_part.ensures.least, c.value.ensures.least);
+      room = c.value.ensures.room ∙ c.first_part.ensures.room;
+      kept = c.value.ensures.kept;
+      stays = later_kept _ _ _ c.first_part.ensures.stays c.value.ensures.stays;
+      adds = two_add (tree_of c.args.left.now) (tree_of c.args.right.now) _ _ _ c.first_part.ensures.adds c.value.ensures.adds;
+      left = λ some. two_left c.args.self.now (Read c.args.self.now (tree_of c.args.left.now)) (Read c.args.self.now (tree_of c.args.right.now)) _ _ c.value.ensures.stays (c.in_ok-left.ensures.left refl) (c.in_ok-right.ensures.left refl);
+    }
+
+pub nested-returns-in_err-left-clause-value : goal.nested-returns-in_err-left-clause-value
+nested-returns-in_err-left-clause-value g t c = none_there c.args.self.now (Binary c.args.op (tree_of c.args.left.now) (tree_of c.args.right.now)) c.from_residual.result c.from_residual.ensures (λ v (x, y, h, k, u). c.in_err-left.ensures.value x y h k)
+
+pub nested-most_met-requires-clause-kind : goal.nested-most_met-requires-clause-kind
+nested-most_met-requires-clause-kind g t c = binary_known c.args.self.now c.args.op (tree_of c.args.left.now) (tree_of c.args.right.now) c.in_ok-left.left c.in_ok-left.right c.requires.ready c.in_ok-left.ensures.value.0 c.in_ok-left.ensures.value.1
+
+pub nested-returns-clause-value : goal.nested-returns-clause-value
+nested-returns-clause-value g t c = binary_there c.args.self.now c.args.op (tree_of c.args.left.now) (tree_of c.args.right.now) c.in_ok-left.left c.in_ok-left.right c.most_met.result c.in_ok-left.ensures.value.0 c.in_ok-left.ensures.value.1 c.most_met.ensures
 
 pub binary-of_mean-requires : goal.binary-of_mean-requires
 binary-of_mean-requires g t c =
@@ -448,6 +496,27 @@ composed-returns-in-Unary g t c =
     let same = ap tree_of c.in-Unary.is ∙ ap (λ (e : Expr). Unary c.in-Unary.op (tree_of e)) (sym c.deref.ensures) in
     record {
       value = there_as c.args.self.now c.args.expr.now _ c.unary.result same kept.value;
+      cost = beside_as c.args.self.now c.args.expr.now _ _ _ _ same kept.cost;
+      least = kept.least;
+      room = kept.room;
+      kept = kept.kept;
+      stays = kept.stays;
+      adds = adds_as c.args.expr.now _ _ _ same kept.adds;
+      left = λ some. left_as c.args.self.now c.args.expr.now _ _ same (kept.left some);
+    }
+
+pub first_part-nested-requires : goal.first_part-nested-requires
+first_part-nested-requires g t c =
+    let same = ap tree_of c.in-Binary.is ∙ ap₂ (λ (e : Expr) (f : Expr). Binary c.in-Binary.op (tree_of e) (tree_of f)) (sym c.deref-in-Binary.ensures) (sym c.deref-in-Binary-2.ensures) in
+    let ready = ready_as c.args.self.now c.args.expr.now _ same c.requires.ready in
+    λ κs lives. (omega (arith, c.decreases, ap the_size c.in-Binary.is, sized-Binary c.in-Binary.op c.in-Binary.left c.in-Binary.right, ap the_size c.deref-in-Binary.ensures, ap the_size c.deref-in-Binary-2.ensures), (lives, (ready, (c.is_quick.ensures c.if-is_quick.true, (c.requires.fits, c.requires.kept)))))
+
+pub first_part-returns-in-Binary : goal.first_part-returns-in-Binary
+first_part-returns-in-Binary g t c =
+    let kept = c.nested.ensures in
+    let same = ap tree_of c.in-Binary.is ∙ ap₂ (λ (e : Expr) (f : Expr). Binary c.in-Binary.op (tree_of e) (tree_of f)) (sym c.deref-in-Binary.ensures) (sym c.deref-in-Binary-2.ensures) in
+    record {
+      value = there_as c.args.self.now c.args.expr.now _ c.nested.result same kept.value;
       cost = beside_as c.args.self.now c.args.expr.now _ _ _ _ same kept.cost;
       least = kept.least;
       room = kept.room;

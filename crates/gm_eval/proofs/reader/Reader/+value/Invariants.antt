@@ -14,6 +14,12 @@ decreases-unary g l = 4 * the_size l.part.now + 2
 abbrev pub decreases-binary : goal.decreases-binary
 decreases-binary g l = 4 * max (the_size l.left.now) (the_size l.right.now) + 3
 
+abbrev pub decreases-first_part : goal.decreases-first_part
+decreases-first_part g l = 4 * the_size l.expr.now + 2
+
+abbrev pub decreases-nested : goal.decreases-nested
+decreases-nested g l = 4 * max (the_size l.left.now) (the_size l.right.now) + 3
+
 abbrev pub decreases-quick : goal.decreases-quick
 decreases-quick g l = 4 * max (the_size l.left.now) (the_size l.right.now) + 3
 
