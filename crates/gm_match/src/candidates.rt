@@ -29,30 +29,29 @@ pub(crate) fn candidate<L: Ledger>(
     plan: &Plan<'_>,
     arena: &Arena,
     darts: &[Slot],
-    word: &Word,
     scratch: &mut Scratch,
     steps: &mut Steps<L>,
 ) -> Result<Instances, OutOfMemory>
     requires matchable { AreMatchable arena.now plan.now }
-    requires word { word.now ≡ hook_word (rule_of plan.now.table) }
     requires some { 0 < length darts.now }
     requires count { length darts.now ≡ length (rule_of plan.now.table).hooks }
     requires live { AreLive arena.now darts.now }
     requires fits { Fits scratch.old arena.now }
     ensures candidate { IfOk result (IsCandidateAt arena.now (rule_of plan.now.table) (names_of arena.now darts.now)) }
-    ensures walked { length word.now ≢ 1 → IfOk result (λ found. (h : ℕ) → first_hook (rule_of plan.now.table) ≡ Some h → AreSlotsOf found h scratch.new.walked) }
+    ensures walked { width (rule_of plan.now.table) ≢ 1 → IfOk result (λ found. (h : ℕ) → first_hook (rule_of plan.now.table) ≡ Some h → AreSlotsOf found h scratch.new.walked) }
     ensures cost { let rule = rule_of plan.now.table in (walk : List ℕ)
         → IsWalk (along_hook (as_map arena.now) rule) (width rule) (slice_index (names_of arena.now darts.now) 0) walk
         → steps.new ≤ steps.old + 5 * (arena.now.schema.dim + 1) * (length rule.nodes * length walk) }
     ensures least { steps.old ≤ steps.new }
     ensures room { scratch.new.bound ≡ scratch.old.bound }
 {
+    let word = plan.rule().hook_word().unwrap();
     let (slots, mut turns) = scratch.lend_rows(alloc);
     let from = darts[0];
-    let to = walk_hook(arena, from, word, scratch, &mut turns, steps)?;
+    let to = walk_hook(arena, from, &word, scratch, &mut turns, steps)?;
     let ends = [from, to];
     let walk = walk_in(word.len(), &ends, turns.as_slice(), scratch);
-    along_walk(plan, arena, darts, walk, word, slots, turns, steps)
+    along_walk(plan, arena, darts, walk, &word, slots, turns, steps)
 }
 
 /// The candidate along the walk of the first hook, which has these turns, from the darts of the

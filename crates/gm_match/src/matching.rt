@@ -59,10 +59,9 @@ pub fn find<L: Ledger>(
     prove!((darts[0].at as usize) < arena.bound());
     let darts = &darts[..hooks.len()];
     let first = plan.rule().hooks.as_slice()[0];
-    let word = plan.rule().hook_word().unwrap();
-    let found = candidate(alloc, plan, arena, darts, &word, scratch, steps)?;
+    let is_walked = plan.rule().hook_word().unwrap().len() != 1;
+    let found = candidate(alloc, plan, arena, darts, scratch, steps)?;
     meet_steps(plan, arena, &found, steps)?;
-    let is_walked = word.len() != 1;
     take_once(&found, plan.left_nodes(), first, is_walked, scratch)?;
     Ok(found)
 }

@@ -12,14 +12,14 @@ use Rattle.gm_match.specs.Taken.{AreSlotsOf}
 use Rattle.gm_match.proofs.EdgeWalks.{other_walk, walk_made}
 use Rattle.gm_walk.specs.Walks.{AreLive, along, names_of}
 use Rattle.gm_walk.proofs.NameLemmas.{name_there}
-use Rattle.gm_match.proofs.Placing.{can_be_walked, walk_cost, along_cost}
+use Rattle.gm_match.proofs.Placing.{hook_has_word, word_is, can_be_walked, walk_cost, along_cost}
 use Rattle.gm_match.proofs.candidates.candidate.Goals as goal
 
 pub walk_hook-requires-clause-word : goal.walk_hook-requires-clause-word
 walk_hook-requires-clause-word g c =
     let has = subst (λ n. 0 < n) c.requires.count c.requires.some in
-    let word = c.args.word.now in
-    let is_word = c.requires.word in
+    let word = c.unwrap-word.result in
+    let is_word = (word_is c.args.plan.now.table c.rule.result.now c.hook_word.result c.unwrap-word.result c.rule.ensures.rule c.hook_word.ensures c.unwrap-word.ensures) in
     can_be_walked c.args.arena.now c.args.plan.now c.requires.matchable has word is_word
 
 pub walk_hook-requires-clause-live : goal.walk_hook-requires-clause-live
@@ -31,8 +31,8 @@ walk_hook-requires-clause-fits g c = subst (λ room. Fits room c.args.arena.now)
 pub returns-in_err-to-clause-cost : goal.returns-in_err-to-clause-cost
 returns-in_err-to-clause-cost g c = λ walk is_walk.
     let has = subst (λ n. 0 < n) c.requires.count c.requires.some in
-    let word = c.args.word.now in
-    let is_word = c.requires.word in
+    let word = c.unwrap-word.result in
+    let is_word = (word_is c.args.plan.now.table c.rule.result.now c.hook_word.result c.unwrap-word.result c.rule.ensures.rule c.hook_word.ensures c.unwrap-word.ensures) in
     let m = c.args.arena.now in
     let start = name_there m c.args.darts.now 0 (record { at = 0 }) c.requires.some in
     let walked = subst (λ d. (walk : List ℕ) → IsWalk (along m word) (length word) d walk → c.walk_hook.new.steps ≤ c.args.steps.now + length walk * length word) (sym start) c.walk_hook.ensures.cost in
@@ -51,20 +51,20 @@ pub along_walk-requires-clause-live : goal.along_walk-requires-clause-live
 along_walk-requires-clause-live g c = c.requires.live
 
 pub along_walk-requires-clause-word : goal.along_walk-requires-clause-word
-along_walk-requires-clause-word g c = c.requires.word
+along_walk-requires-clause-word g c = (word_is c.args.plan.now.table c.rule.result.now c.hook_word.result c.unwrap-word.result c.rule.ensures.rule c.hook_word.ensures c.unwrap-word.ensures)
 
 pub along_walk-requires-clause-walk : goal.along_walk-requires-clause-walk
 along_walk-requires-clause-walk g c =
     let m = c.args.arena.now in
-    let word = c.args.word.now in
+    let word = c.unwrap-word.result in
     let start = name_there m c.args.darts.now 0 (record { at = 0 }) c.requires.some in
     subst (λ slots. IsWalk (along m word) (length word) (slice_index (names_of m c.args.darts.now) 0) (names_of m slots)) (sym (walk_made _ _ _ _ _ _ _ c.walk_in-walk.ensures.walk c.len.ensures.value c.as_slice.ensures.value)) (subst (λ d. IsWalk (along m word) (length word) d (names_of m (walk_of (length word) (ends (get_or c.args.darts.now 0 (record { at = 0 })) c.in_ok-to.to c.walk_hook.new.turns.items) c.walk_hook.new.scratch.walked))) (sym start) c.in_ok-to.ensures.walk)
 
 pub returns-clause-cost : goal.returns-clause-cost
 returns-clause-cost g c = λ walk is_walk.
     let has = subst (λ n. 0 < n) c.requires.count c.requires.some in
-    let word = c.args.word.now in
-    let is_word = c.requires.word in
+    let word = c.unwrap-word.result in
+    let is_word = (word_is c.args.plan.now.table c.rule.result.now c.hook_word.result c.unwrap-word.result c.rule.ensures.rule c.hook_word.ensures c.unwrap-word.ensures) in
     let m = c.args.arena.now in
     let slots = walk_of (length word) (ends (get_or c.args.darts.now 0 (record { at = 0 })) c.in_ok-to.to c.walk_hook.new.turns.items) c.walk_hook.new.scratch.walked in
     let start = name_there m c.args.darts.now 0 (record { at = 0 }) c.requires.some in
@@ -103,14 +103,15 @@ along_walk-requires-clause-no_slots g c = c.lend_rows-slots.ensures.slots
 pub along_walk-requires-clause-turns : goal.along_walk-requires-clause-turns
 along_walk-requires-clause-turns g c =
     let m = c.args.arena.now in
-    let word = c.args.word.now in
+    let word = c.unwrap-word.result in
     subst (λ slots. AreCells (IsTurn m word (names_of m slots)) (length slots) (length word) c.walk_hook.new.turns.items) (sym (walk_made _ _ _ _ _ _ _ c.walk_in-walk.ensures.walk c.len.ensures.value c.as_slice.ensures.value)) c.in_ok-to.ensures.turns
 
 pub returns-clause-room : goal.returns-clause-room
 returns-clause-room g c = c.walk_hook.ensures.room ∙ ap (λ room. room.bound) c.lend_rows-slots.ensures.stays
 
 pub returns-clause-walked : goal.returns-clause-walked
-returns-clause-walked g c = λ several. subst (λ slots. IfOk c.along_walk.result (λ found. (h : ℕ) → first_hook (rule_of c.args.plan.now.table) ≡ Some h → AreSlotsOf found h slots)) (walk_made _ _ _ _ _ _ _ c.walk_in-walk.ensures.walk c.len.ensures.value c.as_slice.ensures.value ∙ sym (other_walk (length c.args.word.now) several _ c.walk_hook.new.scratch.walked)) c.along_walk.ensures.walked
+returns-clause-walked g c = λ several_places.
+    subst (λ slots. IfOk c.along_walk.result (λ found. (h : ℕ) → first_hook (rule_of c.args.plan.now.table) ≡ Some h → AreSlotsOf found h slots)) (walk_made _ _ _ _ _ _ _ c.walk_in-walk.ensures.walk c.len.ensures.value c.as_slice.ensures.value ∙ sym (other_walk (length c.unwrap-word.result) (λ e. several_places (sym (ap length (word_is c.args.plan.now.table c.rule.result.now c.hook_word.result c.unwrap-word.result c.rule.ensures.rule c.hook_word.ensures c.unwrap-word.ensures)) ∙ e)) _ c.walk_hook.new.scratch.walked)) c.along_walk.ensures.walked
 
 pub returns-in_err-to-clause-walked : goal.returns-in_err-to-clause-walked
 returns-in_err-to-clause-walked g c = λ several. unless_ok _ c.from_residual.result c.from_residual.ensures.0
@@ -120,3 +121,6 @@ along_walk-requires-clause-short g c = λ one. c.walk_in-walk.ensures.short (c.l
 
 pub walk_in-walk-requires : goal.walk_in-walk-requires
 walk_in-walk-requires g c = λ one. subst (λ turns. length turns ≤ 2) (sym c.as_slice.ensures.value) (c.in_ok-to.ensures.few (sym c.len.ensures.value ∙ one))
+
+pub unwrap-word-requires : goal.unwrap-word-requires
+unwrap-word-requires g c = hook_has_word c.args.plan.now.schema c.args.plan.now.table c.rule.result.now c.hook_word.result c.requires.matchable.planned (subst (λ n. 0 < n) c.requires.count c.requires.some) c.rule.ensures.rule c.hook_word.ensures

@@ -74,7 +74,7 @@ pub take_once-requires-clause-walked : goal.take_once-requires-clause-walked
 take_once-requires-clause-walked g c = λ is.
     let rule = rule_of c.args.plan.now.table in
     let same = first_same c.args.plan.now.table _ _ c.as_slice-2.ensures c.rule-2.ensures.rule in
-    c.in_ok-found.ensures.walked (several_letters _ _ c.len-is_walked.ensures.value is) _ (subst (λ h. first_hook rule ≡ Some h) (sym same) (slice_get-get_or rule.hooks 0 0 (subst (λ n. 0 < n) c.requires.hooks (not_nil c.args.hooks.now c.is_empty.result c.is_empty.ensures c.if-is_empty.false))))
+    c.in_ok-found.ensures.walked (several_letters _ _ (c.len-is_walked.ensures.value ∙ ap length (word_is c.args.plan.now.table c.rule-3.result.now c.hook_word.result c.unwrap.result c.rule-3.ensures.rule c.hook_word.ensures c.unwrap.ensures)) is) _ (subst (λ h. first_hook rule ≡ Some h) (sym same) (slice_get-get_or rule.hooks 0 0 (subst (λ n. 0 < n) c.requires.hooks (not_nil c.args.hooks.now c.is_empty.result c.is_empty.ensures c.if-is_empty.false))))
 
 pub take_once-requires-clause-distinct : goal.take_once-requires-clause-distinct
 take_once-requires-clause-distinct g c =
@@ -211,8 +211,5 @@ prove-unreachable-requires-2 g c =
     let some = not_nil c.args.hooks.now c.is_empty.result c.is_empty.ensures c.if-is_empty.false in
     omega (arith, c.if-prove-2.true, c.bound.ensures.bound, first_below c.args.arena.now c.args.hooks.now c.hook_darts.new.slots c.bound.ensures.lawful c.in_ok-hook_darts.ensures.darts some)
 
-pub unwrap-word-requires : goal.unwrap-word-requires
-unwrap-word-requires g c = hook_has_word c.args.plan.now.schema c.args.plan.now.table c.rule-3.result.now c.hook_word.result c.rule.ensures.planned (subst (λ n. 0 < n) c.requires.hooks (not_nil c.args.hooks.now c.is_empty.result c.is_empty.ensures c.if-is_empty.false)) c.rule-3.ensures.rule c.hook_word.ensures
-
-pub candidate-requires-clause-word : goal.candidate-requires-clause-word
-candidate-requires-clause-word g c = word_is c.args.plan.now.table c.rule-3.result.now c.hook_word.result c.unwrap-word.result c.rule-3.ensures.rule c.hook_word.ensures c.unwrap-word.ensures
+pub unwrap-requires : goal.unwrap-requires
+unwrap-requires g c = hook_has_word c.args.plan.now.schema c.args.plan.now.table c.rule-3.result.now c.hook_word.result c.rule.ensures.planned (subst (λ n. 0 < n) c.requires.hooks (not_nil c.args.hooks.now c.is_empty.result c.is_empty.ensures c.if-is_empty.false)) c.rule-3.ensures.rule c.hook_word.ensures
