@@ -3,13 +3,14 @@ use Rattle.std.proofs.Common.{◌≡◌, ℕ, true, zero, suc, ◌+◌, ◌*◌,
 use Rattle.std.specs.Option.{option_map, IsSome}
 use Rattle.std.specs.FinMap as map
 use Rattle.std.specs.List.{range_with_len}
-use Rattle.std.proofs.Math.Nat.{div-eq_of_lt, div-mul-le_self}
+use Rattle.std.proofs.Math.Nat.{div-eq_of_lt, div-mul-le_self, mul_comm}
 use Rattle.std.proofs.lemmas.Bool.{cases_lt, false≢true}
 use Rattle.std.proofs.lemmas.List.{length-map, length-append, length-drop, length-take-le, get_or_past, take_at, drop_at}
 use Rattle.std.proofs.lemmas.Option.{none-some, same_Some}
 use Rattle.std.proofs.lemmas.List.Elements.{All-head, All-tail, All-drop, All-take, All-map, All-weaker}
 use Rattle.std.proofs.lemmas.List.FromFn.{get_or-range_with_len, length-range_with_len}
 use Rattle.slab.specs.Slab.{Slab, get, slab_len, entries_from}
+use Rattle.gm_model.specs.Limits.{most_darts}
 use Rattle.gm_model.specs.Maps.{IsSchema}
 use Rattle.gm_model.specs.declared.schema.Schema.{Schema}
 use Rattle.gm_model.specs.declared.value.Value.{Value}
@@ -74,6 +75,25 @@ length-entries : {X : Type 0} (first : ℕ) (xs : List (Option X)) → ((at : �
 length-entries first [] all = refl
 length-entries first (None ∷ xs) all = absurd (false≢true (all 0 (omega arith)))
 length-entries first (Some x ∷ xs) all = ap suc (length-entries (first + 1) xs (λ at below. all (suc at) (omega (arith, below))))
+
+-- ---- how many lines there are, by the numbers that the code reads
+
+module _ (schema : Schema) (lines : List ℕ) (top len : ℕ) (top_is : top ≡ schema.dim) (len_is : len ≡ length lines) where
+  counted_lines : len / (top + 1 + 1) ≡ line_count schema lines
+  counted_lines =
+      let size : top + 1 + 1 ≡ schema.dim + 2 = omega (arith, top_is) in
+      ap₂ (λ n k. n / k) len_is size
+
+  pub few_lines : line_count schema lines ≤ most_darts → len / (top + 1 + 1) ≤ most_darts
+  few_lines few = rw counted_lines few
+
+  steps_lines : len / (top + 1 + 1) * (2 * (top + 1) + 2) ≡ (2 * schema.dim + 4) * line_count schema lines
+  steps_lines =
+      let each : 2 * (top + 1) + 2 ≡ 2 * schema.dim + 4 = omega (arith, top_is) in
+      ap₂ (λ n k. n * k) counted_lines each ∙ mul_comm (line_count schema lines) (2 * schema.dim + 4)
+
+  pub cost_lines : (old new : ℕ) → new ≡ old + len / (top + 1 + 1) * (2 * (top + 1) + 2) → new ≡ old + (2 * schema.dim + 4) * line_count schema lines
+  cost_lines old new e = e ∙ ap (λ k. old + k) steps_lines
 
 -- ---- the arena
 

@@ -128,13 +128,16 @@ impl Arena {
         let count = lines.len() / (labels + 1);
         steps.tick_times((count * (2 * labels + 2)) as u64);
         let table = Table::numbered(alloc, count)?;
-        let mut places = grown(&Slab::new(alloc), count)?;
-        let mut neighbours = Vec::with_capacity(alloc, places.capacity() * labels)?;
-        put_neighbours(&mut neighbours, labels, &lines);
-        // Their room is free again before the places take theirs.
-        drop(lines);
-        widen(&mut values, places.capacity() * width)?;
-        number_places(&mut places, count)?;
+        let mut places = Slab::new(alloc);
+        let mut neighbours = Vec::new(alloc);
+        put_lines(
+            &mut places,
+            &mut neighbours,
+            &mut values,
+            labels,
+            width,
+            lines,
+        )?;
         Ok(Arena {
             schema,
             labels,
@@ -548,6 +551,40 @@ fn link(neighbours: &mut [Slot], labels: usize, label: usize, from: &[Slot], to:
     }
 }
 
+/// Puts the darts of all whole lines into places, of which there are none yet, and makes room for their
+/// values.
+fn put_lines(
+    places: &mut Slab<Place>,
+    neighbours: &mut Vec<Slot>,
+    values: &mut Vec<Value>,
+    labels: usize,
+    width: usize,
+    lines: Vec<u32>,
+) -> Result<(), OutOfMemory>
+    requires places { places.old.slots ≡ [] }
+    requires capacity { places.old.capacity ≡ 0 }
+    requires neighbours { neighbours.old.items ≡ [] }
+    requires labels { labels ≤ 8 }
+    requires width { width ≤ 8 }
+    requires few { length lines.items / (labels + 1) ≤ most_darts }
+    ensures numbered { OnOk result (AreNumbered (length lines.items / (labels + 1)) places.new) }
+    ensures len { OnOk result (slab_len places.new ≡ length lines.items / (labels + 1)) }
+    ensures fits { OnOk result (places.new.capacity ≤ no_slot) }
+    ensures room { OnOk result (length lines.items / (labels + 1) ≤ places.new.capacity) }
+    ensures parts { OnOk result (HasParts places.new.capacity labels width (vec_capacity neighbours.new) (vec_capacity values.new)) }
+    ensures neighbours { OnOk result (neighbours.new.items ≡ links_in labels (length lines.items / (labels + 1)) lines.items) }
+    ensures values { values.new.items ≡ values.old.items }
+{
+    let count = lines.len() / (labels + 1);
+    *places = grown(places, count)?;
+    widen(neighbours, places.capacity() * labels)?;
+    put_neighbours(neighbours, labels, &lines);
+    // Their room is free again before values and places take theirs.
+    drop(lines);
+    widen(values, places.capacity() * width)?;
+    number_places(places, count)
+}
+
 /// Appends the neighbours of all whole lines, each of which has a slot in front of them. It takes no
 /// memory.
 // The compiler is told the labels of a surface and of a solid, and does each line without a loop.
@@ -637,10 +674,31 @@ fn reserve_places(
         return Ok(());
     }
     let grown = grown(places, more)?;
-    widen(neighbours, grown.capacity() * labels)?;
-    widen(values, grown.capacity() * width)?;
+    widen_parts(neighbours, values, labels, width, grown.capacity())?;
     *places = grown;
     Ok(())
+}
+
+/// Makes room for the neighbours and values of so many slots. A refused call may have made room for
+/// the neighbours.
+fn widen_parts(
+    neighbours: &mut Vec<Slot>,
+    values: &mut Vec<Value>,
+    labels: usize,
+    width: usize,
+    slots: usize,
+) -> Result<(), OutOfMemory>
+    requires slots { slots ≤ no_slot }
+    requires labels { labels ≤ 8 }
+    requires width { width ≤ 8 }
+    ensures parts { OnOk result (HasParts slots labels width (vec_capacity neighbours.new) (vec_capacity values.new)) }
+    ensures neighbours { neighbours.new.items ≡ neighbours.old.items }
+    ensures values { values.new.items ≡ values.old.items }
+    ensures links_grow { vec_capacity neighbours.old ≤ vec_capacity neighbours.new }
+    ensures values_grow { vec_capacity values.old ≤ vec_capacity values.new }
+{
+    widen(neighbours, slots * labels)?;
+    widen(values, slots * width)
 }
 
 /// The same places with room for so many more. A slab does not say that it grows by no more than

@@ -44,11 +44,35 @@ pub fn orbits<L: Ledger>(
     }
     // One byte for each slot, so that a count touches little memory.
     let mut seen = none_seen(alloc, arena.bound())?;
+    count_darts(alloc, arena, mask, pair, &mut seen, scratch, steps)
+}
+
+/// The same, where no slot was seen yet and the scratch has the room for a walk.
+#[inline]
+fn count_darts<L: Ledger>(
+    alloc: Global,
+    arena: &Arena,
+    mask: Mask,
+    pair: Option<(u8, u8)>,
+    seen: &mut [bool],
+    scratch: &mut Scratch,
+    steps: &mut Steps<L>,
+) -> Result<u32, OutOfMemory>
+    requires generalised { IsGeneralised (as_map arena.now) }
+    requires mask { (label : ℕ) → IsTrue (has mask label) → label ≤ arena.now.schema.dim }
+    requires pair { IfSome pair (λ labels. letters_of mask ≡ At labels.0 ∷ At labels.1 ∷ []) }
+    requires seen { seen.old ≡ replicate arena.now.bound false }
+    requires fits { pair ≡ None → Fits scratch.old arena.now }
+    ensures orbits { IfOk result (HasOrbits (IsDart (as_map arena.now)) (as_map arena.now).alpha (has mask)) }
+    ensures cost { steps.new ≤ steps.old + 8 * (arena.now.schema.dim + 1) * arena.now.count }
+    ensures least { steps.old ≤ steps.new }
+    ensures bound { scratch.new.bound ≡ scratch.old.bound }
+{
     if arena.is_dense() {
-        return Ok(count_slots(arena, mask, pair, &mut seen, scratch, steps));
+        return Ok(count_slots(arena, mask, pair, seen, scratch, steps));
     }
     let names = arena.names(alloc, steps)?;
-    Ok(count_names(arena, &names, mask, pair, &mut seen, scratch, steps))
+    Ok(count_names(arena, &names, mask, pair, seen, scratch, steps))
 }
 
 /// For each slot whether it was seen: none was.

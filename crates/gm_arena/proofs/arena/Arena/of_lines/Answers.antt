@@ -1,15 +1,17 @@
-use Rattle.std.proofs.Common.{◌≡◌, ◌+◌, ◌*◌, ◌/◌, ◌++◌, length, ap, ap₂, sym, ◌∙◌, arith}
+use Rattle.std.proofs.Common.{◌≡◌, ◌+◌, ◌/◌, length, refl, ap, ap₂, ◌∙◌, arith}
 use Rattle.gm_arena.specs.Inside.{links_in}
-use Rattle.gm_arena.proofs.LinesLemmas.{AreParts, sound_made, holds_made, named_made}
+use Rattle.gm_model.proofs.Exits.{unless_ok}
+use Rattle.gm_arena.proofs.LinesLemmas.{AreParts, sound_made, holds_made, named_made, few_lines, cost_lines}
 use Rattle.gm_arena.proofs.arena.Arena.of_lines.Given as given
 use Rattle.gm_arena.proofs.arena.Arena.of_lines.Goals as goal
 
-parts : (g : given.Over) (c : goal.In_ok-number_places g) → AreParts c.args.schema c.args.lines.items c.args.values.items (c.top.result + 1) (length c.as_slice-width.result.now) (c.len.result / (c.top.result + 1 + 1)) c.number_places.new.places c.put_neighbours.new.neighbours.items c.widen.new.vector.items c.in_ok-table.table
+parts : (g : given.Over) (c : goal.In_ok-put_lines g) → AreParts c.args.schema c.args.lines.items c.args.values.items (c.top.result + 1) (length c.as_slice-width.result.now) (c.len.result / (c.top.result + 1 + 1)) c.put_lines.new.places c.put_lines.new.neighbours.items c.put_lines.new.values.items c.in_ok-table.table
 parts g c =
     let labels : c.top.result + 1 ≡ c.args.schema.dim + 1 = omega (arith, c.top.ensures.value) in
     let size : c.top.result + 1 + 1 ≡ c.args.schema.dim + 2 = omega (arith, c.top.ensures.value) in
     let long : c.len.result ≡ length c.args.lines.items = omega (arith, c.len.ensures, c.args.lines.ok.0) in
-    let capacity = c.in_ok-number_places.ensures.capacity in
+    let count : c.len.result / (c.top.result + 1 + 1) ≡ length c.args.lines.items / (c.top.result + 1 + 1) = ap (λ n. n / (c.top.result + 1 + 1)) long in
+    let put = c.in_ok-put_lines.ensures in
     record {
       lawful = c.requires.schema;
       some = c.top.ensures.least;
@@ -18,28 +20,38 @@ parts g c =
       labels_are = labels;
       width_is = ap length c.as_slice-width.ensures;
       count_is = ap₂ (λ n k. n / k) long size;
-      numbered = c.in_ok-number_places.ensures.numbered;
-      full = c.in_ok-number_places.ensures.len;
-      fits = omega (arith, capacity, c.in_ok-places.ensures.fits);
-      room = omega (arith, capacity, c.in_ok-places.ensures.room);
-      links_are =
-          c.put_neighbours.ensures.items
-          ∙ (ap (λ xs. xs ++ links_in (c.top.result + 1) (length c.deref.result.now / (c.top.result + 1 + 1)) c.deref.result.now) c.in_ok-neighbours.ensures.items
-          ∙ (λ i. links_in (labels i) (length (c.deref.ensures.value i) / size i) (c.deref.ensures.value i)));
-      values_are = c.in_ok-widen.ensures.items;
+      numbered = rw count put.numbered;
+      full = rw count put.len;
+      fits = put.fits;
+      room = rw count put.room;
+      links_are = put.neighbours ∙ ap₂ (λ k n. links_in k (length c.args.lines.items / n) c.args.lines.items) labels size;
+      values_are = put.values;
       table_is = c.in_ok-table.ensures;
     }
 
 pub invariant_of-result : goal.invariant_of-result
-invariant_of-result g c =
-    let room = c.in_ok-number_places.ensures.capacity in (
-      sound_made _ _ _ _ _ _ _ _ _ _ (parts g c),
-      record {
-        linked = omega (arith, ap (λ k. k * (c.top.result + 1)) (room ∙ sym c.capacity.ensures.value), c.in_ok-neighbours.ensures.capacity, c.put_neighbours.ensures.capacity);
-        long = omega (arith, ap (λ k. k * length c.as_slice-width.result.now) (room ∙ sym c.capacity-2.ensures.value), c.in_ok-widen.ensures.room);
-      },
-      named_made _ _ _ _ _ _ _ _ _ _ (parts g c),
-    )
+invariant_of-result g c = (sound_made _ _ _ _ _ _ _ _ _ _ (parts g c), c.in_ok-put_lines.ensures.parts, named_made _ _ _ _ _ _ _ _ _ _ (parts g c))
 
 pub returns-clause-holds : goal.returns-clause-holds
 returns-clause-holds g c = holds_made _ _ _ _ _ _ _ _ _ _ (parts g c)
+
+pub numbered-requires : goal.numbered-requires
+numbered-requires g c = omega (arith, few_lines c.args.schema c.args.lines.items c.top.result c.len.result c.top.ensures.value (c.len.ensures ∙ c.args.lines.ok.0) c.requires.lines.few)
+
+pub put_lines-requires-clause-few : goal.put_lines-requires-clause-few
+put_lines-requires-clause-few g c = few_lines c.args.schema c.args.lines.items _ _ c.top.ensures.value refl c.requires.lines.few
+
+pub returns-in_err-table-clause-holds : goal.returns-in_err-table-clause-holds
+returns-in_err-table-clause-holds g c = unless_ok _ c.from_residual.result c.from_residual.ensures.0
+
+pub returns-in_err-table-clause-cost : goal.returns-in_err-table-clause-cost
+returns-in_err-table-clause-cost g c = cost_lines c.args.schema c.args.lines.items _ _ c.top.ensures.value (c.len.ensures ∙ c.args.lines.ok.0) _ _ c.tick_times.ensures
+
+pub returns-in_err-put_lines-clause-holds : goal.returns-in_err-put_lines-clause-holds
+returns-in_err-put_lines-clause-holds g c = unless_ok _ c.from_residual-in_err-put_lines.result c.from_residual-in_err-put_lines.ensures.0
+
+pub returns-in_err-put_lines-clause-cost : goal.returns-in_err-put_lines-clause-cost
+returns-in_err-put_lines-clause-cost g c = cost_lines c.args.schema c.args.lines.items _ _ c.top.ensures.value (c.len.ensures ∙ c.args.lines.ok.0) _ _ c.tick_times.ensures
+
+pub returns-clause-cost : goal.returns-clause-cost
+returns-clause-cost g c = cost_lines c.args.schema c.args.lines.items _ _ c.top.ensures.value (c.len.ensures ∙ c.args.lines.ok.0) _ _ c.tick_times.ensures
