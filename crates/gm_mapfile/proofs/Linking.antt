@@ -22,6 +22,9 @@ values-turned label to (Some dart) = refl
 
 -- ---- one neighbour more
 
+pub same_dim : {n : ℕ} {old new : ArenaMap} → IsRelinked n old new → new.schema.dim ≡ old.schema.dim
+same_dim relinked = ap (λ (x : ArenaMap). x.schema.dim) relinked.frame
+
 pub none_relinked : (n : ℕ) (m : ArenaMap) → AreWhole n m → IsRelinked n m m
 none_relinked n m whole = record { frame = refl; live = λ d. refl; values = λ d. refl; whole = whole }
 

@@ -1,13 +1,14 @@
 -- Lines of the darts 0, 1 and so on: when lines are those, and that an arena made of them holds their darts.
-use Rattle.std.proofs.Common.{◌≡◌, ℕ, ◌+◌, ◌*◌, ◌<◌, ◌≤◌, List, length, drop, get_or, slice_get, All, Option, Some, None, inl, inr, sym, ap, refl, subst, ◌∙◌, arith}
+use Rattle.std.proofs.Common.{◌≡◌, ℕ, ◌+◌, ◌*◌, ◌/◌, ◌<◌, ◌≤◌, List, length, drop, get_or, slice_get, All, Option, Some, None, is_some, inl, inr, sym, ap, refl, subst, ◌∙◌, arith}
 use Rattle.std.specs.FinMap.{get}
+use Rattle.std.proofs.lemmas.Bool.{cases_lt, false≢true}
 use Rattle.std.proofs.Math.Nat.{div-mul-le_self}
 use Rattle.std.proofs.lemmas.List.{get_or-take, get_or-drop}
 use Rattle.std.proofs.lemmas.List.Elements.{All-drop, All-take, All-from_recursion}
 use Rattle.std.proofs.lemmas.Option.{slice_get_cases, get_or_from_slice_get, none-some, same_Some}
 use Rattle.gm_model.specs.declared.schema.Schema.{Schema}
 use Rattle.gm_model.specs.declared.value.Value.{Value}
-use Rattle.gm_arena.specs.ArenaMap.{ArenaMap}
+use Rattle.gm_arena.specs.ArenaMap.{ArenaMap, IsLiveName}
 use Rattle.gm_arena.specs.Lawful.{AreGoodValues}
 use Rattle.gm_arena.specs.Lines.{line_count, values_on, AreLines, HoldsLines}
 use Rattle.gm_arena.specs.Parts.{part_of}
@@ -16,9 +17,18 @@ use Rattle.gm_mapfile.specs.MapText.{First, DartRow, IsNext, names, rows_of}
 use Rattle.gm_mapfile.specs.MapFaults.{AreNamedOnce, IsLeastNotBelow}
 use Rattle.gm_mapfile.specs.Draft.{version_in}
 use Rattle.gm_mapfile.specs.Rows.{darts_in}
-use Rattle.gm_mapfile.specs.Building.{AreInRoom, IsHeld}
+use Rattle.gm_mapfile.specs.Building.{AreInRoom, IsHeld, IsNextSet}
+use Rattle.gm_mapfile.specs.Faults.{IsNameFault}
+use Rattle.gm_mapfile.specs.declared.fault.MapFault.TheVariants as faults
 use Rattle.gm_mapfile.proofs.Chunks.{name_of_line, alphas_of_line, alphas_long, dart_on, dart_at_line, many_darts}
 use Rattle.gm_mapfile.proofs.HeldInOrder.{AreInOrder, placed, held_in_order, next_in_order, least_in_order, once_in_order}
+
+count_set : (made m : ArenaMap) (stated : Option ℕ) → IsNextSet (version_in stated) made m → m.count ≡ made.count
+count_set made m None set = ap (λ (x : ArenaMap). x.count) set
+count_set made m (Some next) set = ap (λ (x : ArenaMap). x.count) set
+
+once : (k n : ℕ) → n ≤ (k + 1) * n
+once k n = grind arith
 
 module _ (schema : Schema) (numbers : List ℕ) (values : List Value) where
   abbrev size : ℕ
@@ -41,6 +51,11 @@ module _ (schema : Schema) (numbers : List ℕ) (values : List Value) where
         let dart = dart_on schema numbers values at in
         subst (λ (other : DartRow). AreGoodValues schema other.values) (get_or_from_slice_get darts at dart dart (dart_at_line schema numbers values at below)) (good at dart (omega (arith, below, many_darts schema numbers values)));
   }
+
+  -- the same of the numbers as they are lent
+  pub own_lines : (xs : List ℕ) → xs ≡ numbers → AreInRoom schema numbers values → ((at : ℕ) → at < length xs / size → get_or xs (at * size) 0 ≡ at) → All (λ name. name < length xs / size) xs → AreLines schema numbers values
+  own_lines xs same room named within =
+      are_lines room (subst (λ (ns : List ℕ). (at : ℕ) → at < length ns / size → get_or ns (at * size) 0 ≡ at) same named) (subst (λ (ns : List ℕ). All (λ name. name < length ns / size) ns) same within)
 
   pub steps_made : (before after : ℕ) → after ≡ before + (2 * schema.dim + 4) * count → after ≤ before + (2 * schema.dim + 5) * length darts
   steps_made before after cost = omega (arith, cost, ap (λ k. (2 * schema.dim + 5) * k) (many_darts schema numbers values))
@@ -106,6 +121,23 @@ module _ (schema : Schema) (numbers : List ℕ) (values : List Value) where
     pub held_stated : (made : ArenaMap) (next : ℕ) → HoldsLines schema numbers values made → IsHeld (version_in (Some next)) schema darts (record made { next = next })
     held_stated made next holds = held_lines made (record made { next = next }) holds refl (Some next) refl
 
+    -- with the next name that the text states, or as it was made
+    pub held_set : (made m : ArenaMap) (stated : Option ℕ) → HoldsLines schema numbers values made → IsNextSet (version_in stated) made m → IsHeld (version_in stated) schema darts m
+    held_set made m None holds set = subst (IsHeld (version_in None) schema darts) (sym set) (held_made made holds)
+    held_set made m (Some next) holds set = subst (IsHeld (version_in (Some next)) schema darts) (sym set) (held_stated made next holds)
+
+    pub live_below : (made : ArenaMap) → HoldsLines schema numbers values made → (name : ℕ) → IsLiveName made name → name < made.count
+    live_below made holds name live = elim (cases_lt name count) [
+      | inl below ↦ omega (arith, below, holds.count)
+      | inr past ↦ absurd (false≢true (sym (ap is_some (holds.none name past)) ∙ live))
+    ]
+
+    pub many_set : (made m : ArenaMap) (stated : Option ℕ) (before after : ℕ) → HoldsLines schema numbers values made → IsNextSet (version_in stated) made m → after ≡ before + (2 * schema.dim + 4) * count → before + m.count ≤ after
+    many_set made m stated before after holds set cost = omega (arith, cost, count_set made m stated set, holds.count, once (2 * schema.dim + 3) count)
+
     -- a stated next name that isn't above all is the fault
     pub not_above : (next : ℕ) → next < count → AreNamedOnce (rows_of darts) × IsLeastNotBelow (rows_of darts) next next
     not_above next below = (once_in_order schema.dim darts in_order, least_in_order schema.dim darts in_order next (omega (arith, below, many_darts schema numbers values)))
+
+    pub fault_set : (made : ArenaMap) (stated : Option ℕ) (next : ℕ) → HoldsLines schema numbers values made → stated ≡ Some next → next < made.count → IsNameFault (version_in stated) schema.dim darts (faults.Next next)
+    fault_set made stated next holds is below = subst (λ s. IsNameFault (version_in s) schema.dim darts (faults.Next next)) (sym is) (not_above next (omega (arith, below, holds.count)))

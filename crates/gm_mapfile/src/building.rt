@@ -5,9 +5,9 @@
 //! lines at once and takes their values over, and nothing is looked up. Else the darts are added one
 //! after another, each free for every label, and then linked to their neighbours. A name above all that
 //! were added is that of no dart.
-ghost use Rattle.gm_model.specs.Limits.{most_names};
+ghost use Rattle.gm_model.specs.Limits.{most_darts, most_names};
 ghost use Rattle.gm_model.specs.Maps.{IsSchema};
-ghost use Rattle.std.specs.Prelude.{◌≡◌, ℕ, ◌+◌, ◌*◌, ◌/◌, ◌<◌, ◌≤◌, length, get_or, min, nat_lt, if◌then◌else◌, None, All, IsTrue, MatchOption, IfOk, IfErr, IfSome, OnSome, OnOk};
+ghost use Rattle.std.specs.Prelude.{◌≡◌, ℕ, ◌+◌, ◌*◌, ◌/◌, ◌<◌, ◌≤◌, length, get_or, min, nat_lt, if◌then◌else◌, Some, None, All, IsTrue, IsPermutation, MatchOption, IfOk, IfErr, IfSome, IfNone, OnSome, OnOk};
 ghost use Rattle.std.specs.FinMap.{get};
 ghost use Rattle.gm_arena.specs.ArenaMap.{IsAt, IsLiveName};
 ghost use Rattle.gm_arena.specs.Lines.{AreLines};
@@ -21,7 +21,7 @@ use crate::fault::MapFault;
 use crate::ordering::in_order;
 use crate::reading::Draft;
 use gm_arena::{Arena, Slot, Steps};
-use gm_model::{Schema, Value};
+use gm_model::{OutOfMemory, Schema, Value};
 use std::alloc::Global;
 use std::sync::ledger::Ledger;
 
@@ -47,42 +47,46 @@ pub(crate) fn build<L: Ledger>(
         mut numbers,
         mut values,
     } = draft;
-    let width = schema.dim.top() as usize + 2;
-    if are_numbered(&numbers, width) {
-        return build_numbered(alloc, schema, stated, numbers, values, steps);
-    }
-    let end = in_order(alloc, &schema, &mut numbers, &mut values)?;
-    if are_numbered(&numbers, width) {
-        return build_numbered(alloc, schema, stated, numbers, values, steps);
-    }
+    let Some(end) = end_in_order(alloc, &schema, &mut numbers, &mut values)? else {
+        return arena_of_lines(alloc, schema, stated, numbers, values, steps);
+    };
     let (numbers, values) = (numbers.as_slice(), values.as_slice());
     build_lines(alloc, schema, stated, end, numbers, values, steps)
 }
 
-/// The same of lines whose names run from 0 on.
-fn build_numbered<L: Ledger>(
+/// Brings the lines into the order of their names. The answer is above each of these, and `None`
+/// where the lines are then those of the darts 0, 1 and so on.
+fn end_in_order(
     alloc: Global,
-    schema: Schema,
-    stated: Option<u32>,
-    numbers: Vec<u32>,
-    values: Vec<Value>,
-    steps: &mut Steps<L>,
-) -> Result<Arena, MapFault>
-    requires schema { IsSchema schema }
-    requires room { AreInRoom schema numbers.items values.items }
-    requires named { (at : ℕ) → at < length numbers.items / (schema.dim + 2) → get_or numbers.items (at * (schema.dim + 2)) 0 ≡ at }
-    requires next { IfSome stated (λ next. next ≤ most_names) }
-    ensures held { IfOk result (IsHeld (version_in stated) schema (darts_in schema numbers.items values.items)) }
-    ensures fault { IfErr result (IsNameFault (version_in stated) schema.dim (darts_in schema numbers.items values.items)) }
-    ensures most { steps.new ≤ steps.old + (2 * schema.dim + 5) * length (darts_in schema numbers.items values.items) }
-    ensures least { IfOk result (λ arena. steps.old + arena.count ≤ steps.new) }
+    schema: &Schema,
+    numbers: &mut Vec<u32>,
+    values: &mut Vec<Value>,
+) -> Result<Option<u32>, OutOfMemory>
+    requires room { AreInRoom schema.now numbers.old.items values.old.items }
+    ensures room { IfOk result (λ _. AreInRoom schema.now numbers.new.items values.new.items) }
+    ensures darts { IfOk result (λ _. IsPermutation (darts_in schema.now numbers.old.items values.old.items) (darts_in schema.now numbers.new.items values.new.items)) }
+    ensures own { IfOk result (λ end. IfNone end (AreLines schema.now numbers.new.items values.new.items)) }
+    ensures end { IfOk result (λ end. IfSome end (AreBelow (rows_in schema.now.dim numbers.new.items))) }
+    ensures names { IfOk result (λ end. IfSome end (λ most. most ≤ most_names)) }
 {
-    let count = (numbers.len() / (schema.dim.top() as usize + 2)) as u32;
-    if are_below(&numbers, count) {
-        return arena_of_lines(alloc, schema, stated, numbers, values, steps);
+    if are_own(schema, numbers.as_slice()) {
+        return Ok(None);
     }
-    let (numbers, values) = (numbers.as_slice(), values.as_slice());
-    build_lines(alloc, schema, stated, count, numbers, values, steps)
+    let end = in_order(alloc, schema, numbers, values)?;
+    if are_own(schema, numbers.as_slice()) {
+        return Ok(None);
+    }
+    Ok(Some(end))
+}
+
+/// Whether the lines are those of the darts 0, 1 and so on, and each neighbour is one of these.
+fn are_own(schema: &Schema, numbers: &[u32]) -> bool
+    requires { length numbers.now / (schema.now.dim + 2) ≤ most_darts }
+    ensures named { IsTrue result → (at : ℕ) → at < length numbers.now / (schema.now.dim + 2) → get_or numbers.now (at * (schema.now.dim + 2)) 0 ≡ at }
+    ensures within { IsTrue result → All (λ x. x < length numbers.now / (schema.now.dim + 2)) numbers.now }
+{
+    let width = schema.dim.top() as usize + 2;
+    are_numbered(numbers, width) && are_below(numbers, (numbers.len() / width) as u32)
 }
 
 /// Whether the name on each line, of so many numbers, is how many lines stand before it.
@@ -127,15 +131,28 @@ fn arena_of_lines<L: Ledger>(
     ensures least { IfOk result (λ arena. steps.old + arena.count ≤ steps.new) }
 {
     let mut arena = Arena::of_lines(alloc, schema, numbers, values, steps)?;
-    let Some(next) = stated else {
-        return Ok(arena);
-    };
-    if next < arena.count() {
+    if let Some(dart) = set_above(&mut arena, stated) {
         drop(arena);
-        return Err(MapFault::Next { dart: next });
+        return Err(MapFault::Next { dart });
+    }
+    Ok(arena)
+}
+
+/// Sets the next name of the darts 0, 1 and so on, where the text states one. The answer is that name
+/// where a dart has it, and then the arena is left as it was.
+fn set_above(arena: &mut Arena, stated: Option<u32>) -> Option<u32>
+    requires names { (name : ℕ) → IsLiveName arena.old name → name < arena.old.count }
+    requires most { IfSome stated (λ next. next ≤ most_names) }
+    ensures set { IfNone result (IsNextSet (version_in stated) arena.old arena.new) }
+    ensures stated { IfSome result (λ next. stated ≡ Some next) }
+    ensures within { IfSome result (λ next. next < arena.old.count) }
+{
+    let next = stated?;
+    if next < arena.count() {
+        return Some(next);
     }
     arena.set_next(next);
-    Ok(arena)
+    None
 }
 
 /// The same of the lines in their order, where the text may state the next name. No name reaches

@@ -1,5 +1,5 @@
 //! The values of a dart, read from its line.
-ghost use Rattle.std.specs.Prelude.{◌≡◌, ℕ, false, ◌<◌, ◌≤◌, [], ◌∷◌, codes, IsTrue, MatchOption, IfOk, IfErr, IfSome, OnOk, OnErr};
+ghost use Rattle.std.specs.Prelude.{◌≡◌, ℕ, false, ◌<◌, ◌≤◌, [], ◌∷◌, codes, if◌then◌else◌, IsTrue, MatchOption, IfOk, IfErr, IfSome, OnOk, OnErr};
 ghost use Rattle.gm_model.specs.declared.value.Kind.TheVariants as kinds;
 ghost use Rattle.gm_model.specs.Tokens as tokens;
 ghost use Rattle.gm_model.specs.Expressions.{components};
@@ -149,24 +149,55 @@ fn read_bracket(lexer: &mut Lexer<'_>, blank: Option<u8>, sign: u8) -> Result<()
     read_sign(lexer, blank, sign)
 }
 
-/// Three components behind the sign before them, with the sign behind them.
+/// Two components behind the sign before them.
+// Inlined, as `read_triple` is.
+#[inline(always)]
+fn read_two(
+    lexer: &mut Lexer<'_>,
+    guesses: &mut Guesses,
+    colour: bool,
+) -> Result<(i64, i64), SchemaFault>
+    ensures takes { IfOk result (λ xs. Takes (TheSign (codes "(") ∷ Component colour ∷ Component colour ∷ []) (xs.0 ∷ xs.1 ∷ []) lexer.old lexer.new) }
+    ensures channels { IfOk result (λ xs. IsTrue colour → IsTrue (is_channel xs.0) × IsTrue (is_channel xs.1)) }
+    ensures misses { IfErr result (Misses (TheSign (codes "(") ∷ Component colour ∷ Component colour ∷ []) lexer.old) }
+{
+    read_bracket(lexer, SPACE, b'(')?;
+    let x = read_component(lexer, None, &mut guesses.x, colour)?;
+    let y = read_component(lexer, SPACE, &mut guesses.y, colour)?;
+    Ok((x, y))
+}
+
+/// The value of three components, a colour or not.
+// Inlined, as `read_triple` is.
+#[inline(always)]
+fn value_of_three(x: i64, y: i64, z: i64, colour: bool) -> Value
+    requires { IsTrue colour → IsTrue (is_channel x) × IsTrue (is_channel y) × IsTrue (is_channel z) }
+    ensures components { components result ≡ x ∷ y ∷ z ∷ [] }
+    ensures kind { kind_of result ≡ (if colour then kinds.Rgb else kinds.Vec3) }
+{
+    if colour {
+        Value::Rgb(x as u8, y as u8, z as u8)
+    } else {
+        Value::Vec3(x, y, z)
+    }
+}
+
+/// A vector or a colour: three components, with a sign before them and one behind.
 // Inlined, as `read_number` is, so that vectors and colours are each read without a test which it is.
 #[inline(always)]
 fn read_triple(
     lexer: &mut Lexer<'_>,
     guesses: &mut Guesses,
     colour: bool,
-) -> Result<(i64, i64, i64), SchemaFault>
-    ensures takes { IfOk result (λ xs. Takes (TheSign (codes "(") ∷ Component colour ∷ Component colour ∷ Component colour ∷ TheSign (codes ")") ∷ []) (xs.0 ∷ xs.1 ∷ xs.2 ∷ []) lexer.old lexer.new) }
-    ensures channels { IfOk result (λ xs. IsTrue colour → IsTrue (is_channel xs.0) × IsTrue (is_channel xs.1) × IsTrue (is_channel xs.2)) }
+) -> Result<Value, SchemaFault>
+    ensures takes { IfOk result (λ value. Takes (TheSign (codes "(") ∷ Component colour ∷ Component colour ∷ Component colour ∷ TheSign (codes ")") ∷ []) (components value) lexer.old lexer.new) }
+    ensures kind { IfOk result (λ value. kind_of value ≡ (if colour then kinds.Rgb else kinds.Vec3)) }
     ensures misses { IfErr result (Misses (TheSign (codes "(") ∷ Component colour ∷ Component colour ∷ Component colour ∷ TheSign (codes ")") ∷ []) lexer.old) }
 {
-    read_bracket(lexer, SPACE, b'(')?;
-    let x = read_component(lexer, None, &mut guesses.x, colour)?;
-    let y = read_component(lexer, SPACE, &mut guesses.y, colour)?;
+    let (x, y) = read_two(lexer, guesses, colour)?;
     let z = read_component(lexer, SPACE, &mut guesses.z, colour)?;
     read_bracket(lexer, None, b')')?;
-    Ok((x, y, z))
+    Ok(value_of_three(x, y, z, colour))
 }
 
 // Inlined, as `read_triple` is.
@@ -176,11 +207,20 @@ fn read_pair(lexer: &mut Lexer<'_>, guesses: &mut Guesses) -> Result<Value, Sche
     ensures kind { IfOk result (λ value. kind_of value ≡ kinds.Vec2) }
     ensures misses { IfErr result (Misses (value_wants kinds.Vec2) lexer.old) }
 {
-    read_bracket(lexer, SPACE, b'(')?;
-    let x = read_component(lexer, None, &mut guesses.x, false)?;
-    let y = read_component(lexer, SPACE, &mut guesses.y, false)?;
+    let (x, y) = read_two(lexer, guesses, false)?;
     read_bracket(lexer, None, b')')?;
     Ok(Value::Vec2(x, y))
+}
+
+// Inlined, as `read_triple` is.
+#[inline(always)]
+fn read_int(lexer: &mut Lexer<'_>, guess: &mut Guess) -> Result<Value, SchemaFault>
+    ensures takes { IfOk result (λ value. Takes (value_wants kinds.Int) (components value) lexer.old lexer.new) }
+    ensures kind { IfOk result (λ value. kind_of value ≡ kinds.Int) }
+    ensures misses { IfErr result (Misses (value_wants kinds.Int) lexer.old) }
+{
+    let number = read_component(lexer, SPACE, guess, false)?;
+    Ok(Value::Int(number))
 }
 
 /// A truth has no components. No embedding is one of truths.
@@ -206,17 +246,11 @@ fn read_value(
     ensures misses { IfErr result (Misses (value_wants kind) lexer.old) }
 {
     match kind {
-        Kind::Int => Ok(Value::Int(read_component(lexer, SPACE, &mut guesses.x, false)?)),
+        Kind::Int => read_int(lexer, &mut guesses.x),
         Kind::Bool => read_truth(lexer),
         Kind::Vec2 => read_pair(lexer, guesses),
-        Kind::Vec3 => {
-            let (x, y, z) = read_triple(lexer, guesses, false)?;
-            Ok(Value::Vec3(x, y, z))
-        }
-        Kind::Rgb => {
-            let (red, green, blue) = read_triple(lexer, guesses, true)?;
-            Ok(Value::Rgb(red as u8, green as u8, blue as u8))
-        }
+        Kind::Vec3 => read_triple(lexer, guesses, false),
+        Kind::Rgb => read_triple(lexer, guesses, true),
     }
 }
 

@@ -1,7 +1,6 @@
 use Rattle.std.proofs.Common.{◌≡◌, ◌+◌, ◌<◌, ap, subst, arith, refl}
-use Rattle.gm_arena.specs.ArenaMap.{ArenaMap}
 use Rattle.gm_mapfile.specs.Building.{IsDartLinked}
-use Rattle.gm_mapfile.proofs.Linking.{none_linked, linked_at, not_live, no_target, slot_live}
+use Rattle.gm_mapfile.proofs.Linking.{same_dim, none_linked, linked_at, not_live, no_target, slot_live}
 use Rattle.gm_mapfile.proofs.building.link_dart.Goals as goal
 
 pub loop-label-init : goal.loop-label-init
@@ -68,7 +67,7 @@ set_alpha-requires-clause-live g c = slot_live _ _ _ _ _ c.loop-label.invariant.
 pub set_alpha-requires-clause-label : goal.set_alpha-requires-clause-label
 set_alpha-requires-clause-label g c =
     let low : c.loop-label.label < c.args.arena.now.schema.dim + 1 = omega (arith, c.loop-label-test.true, c.top-label-end.ensures.value, ap (λ s. s.dim) c.schema.ensures) in
-    omega (arith, low, ap (λ (x : ArenaMap). x.schema.dim) c.loop-label.invariant.linked.relinked.frame)
+    omega (arith, low, same_dim c.loop-label.invariant.linked.relinked)
 
 pub set_alpha-requires-clause-to_live : goal.set_alpha-requires-clause-to_live
 set_alpha-requires-clause-to_live g c = let at = c.in-Some.ensures.slot in rw at refl

@@ -1,11 +1,10 @@
 use Rattle.std.proofs.Common.{◌≡◌, ◌+◌, ◌*◌, ◌∷◌, [], ◌++◌, length, sym, ap, subst, ◌∙◌, arith}
 use Rattle.std.proofs.lemmas.List.{length_push}
 use Rattle.std.specs.Slice.Iter.{chunks_exact_rest}
-use Rattle.gm_arena.specs.ArenaMap.{ArenaMap}
 use Rattle.gm_mapfile.specs.Rows.{row_in, rows_in}
 use Rattle.gm_mapfile.specs.Building.{AreLinkedUnless, AreWhole}
 use Rattle.gm_mapfile.proofs.Chunks.{one_more, no_more}
-use Rattle.gm_mapfile.proofs.Linking.{none_relinked, slots_live}
+use Rattle.gm_mapfile.proofs.Linking.{none_relinked, same_dim, slots_live}
 use Rattle.gm_mapfile.proofs.LinkedLine.{line_live, line_linked, line_lacks, steps_more, neighbours_long}
 use Rattle.gm_mapfile.proofs.building.link_darts.Goals as goal
 
@@ -39,7 +38,7 @@ loop-line-preserved-in-Some-link_dart g c =
     let steps = c.in-Some.ensures.steps in
     let line = c.in-Some.line.now in
     let long = steps.1.1 ∙ before.size in
-    let dim = ap (λ (x : ArenaMap). x.schema.dim) before.relinked.frame in
+    let dim = same_dim before.relinked in
     let said = c.in-Some-link_dart.ensures.linked in
     let turn = line_lacks n c.args.arena.now c.loop-line.arena c.link_dart.new.arena before.front c.args.numbers.now _ line _ before.split steps.1.0 long c.requires.added.twice.0 before.relinked c.loop-line.missing before.linked dim c.in-Some-link_dart.label c.earlier.result said.0 said.1 c.earlier.ensures in
     record {
@@ -59,7 +58,7 @@ loop-line-preserved g c =
     let steps = c.in-Some.ensures.steps in
     let line = c.in-Some.line.now in
     let long = steps.1.1 ∙ before.size in
-    let dim = ap (λ (x : ArenaMap). x.schema.dim) before.relinked.frame in
+    let dim = same_dim before.relinked in
     let turn = line_linked n c.args.arena.now c.loop-line.arena c.link_dart.new.arena before.front c.args.numbers.now _ line _ before.split steps.1.0 long c.requires.added.twice.0 before.relinked c.loop-line.missing before.linked dim c.in_default.ensures.linked in
     record {
       front = before.front ++ row_in line ∷ [];
@@ -93,12 +92,12 @@ link_dart-requires-clause-slots g c = slots_live _ _ _ c.loop-line.invariant.rel
 pub link_dart-requires-clause-whole : goal.link_dart-requires-clause-whole
 link_dart-requires-clause-whole g c =
     let before = c.loop-line.invariant in
-    subst (λ n. AreWhole n c.loop-line.arena) (sym (ap (λ (x : ArenaMap). x.schema.dim) before.relinked.frame)) before.relinked.whole
+    subst (λ n. AreWhole n c.loop-line.arena) (sym (same_dim before.relinked)) before.relinked.whole
 
 pub link_dart-requires-clause-labels : goal.link_dart-requires-clause-labels
 link_dart-requires-clause-labels g c =
     let before = c.loop-line.invariant in
-    neighbours_long c.in-Some.line.now _ (c.in-Some.ensures.steps.1.1 ∙ before.size ∙ ap (λ (x : ArenaMap). x.schema.dim + 2) (sym before.relinked.frame))
+    neighbours_long c.in-Some.line.now _ (c.in-Some.ensures.steps.1.1 ∙ before.size ∙ ap (λ k. k + 2) (sym (same_dim before.relinked)))
 
 pub returns-clause-relinked : goal.returns-clause-relinked
 returns-clause-relinked g c = c.loop-line.invariant.relinked

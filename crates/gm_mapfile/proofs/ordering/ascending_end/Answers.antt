@@ -1,4 +1,5 @@
-use Rattle.std.proofs.Common.{◌∷◌, [], ◌++◌, get_or, subst, ◌∙◌, arith}
+use Rattle.std.proofs.Common.{◌≡◌, ◌∷◌, [], ◌++◌, get_or, ap, subst, ◌∙◌, arith}
+use Rattle.std.specs.Slice.Iter.{chunks_exact_rest}
 use Rattle.gm_model.specs.Limits.{most_names}
 use Rattle.gm_mapfile.specs.MapFaults.{AreBelow}
 use Rattle.gm_mapfile.specs.Rows.{row_in, rows_in}
@@ -29,3 +30,18 @@ returns-clause-end c =
     let steps = c.in-None.ensures.steps in
     let whole = no_more n before.front (rows_in n c.args.numbers.now) _ before.split (omega (arith, steps.1.0, before.size)) in
     subst (λ rows. AreBelow rows c.loop-line.end) whole before.below
+
+pub loop-line-init : goal.loop-line-init
+loop-line-init c =
+    let n = c.args.top in
+    let rest : chunks_exact_rest c.into_iter-line-iterator.result ≡ c.args.numbers.now = cc (c.into_iter-line-iterator.ensures.into_iter_gives, c.chunks_exact-line-items.ensures.rest) in
+    record {
+      front = [];
+      size = cc (c.into_iter-line-iterator.ensures.into_iter_gives, c.chunks_exact-line-items.ensures.size);
+      split = ap (rows_in n) rest;
+      below = λ d live. absurd cc;
+      names = omega arith;
+    }
+
+pub returns-clause-names : goal.returns-clause-names
+returns-clause-names c = c.loop-line.invariant.names

@@ -20,3 +20,9 @@ returns-in_err-lines c = unless_ok _ c.from_residual.result c.from_residual.ensu
 
 pub returns-in_err-push : goal.returns-in_err-push
 returns-in_err-push c = unless_ok _ c.from_residual-in_err-push.result c.from_residual-in_err-push.ensures.0
+
+pub loop-at-init : goal.loop-at-init
+loop-at-init c = ap (map (λ (line : Line). line.at)) c.in_ok-lines.ensures.items
+
+pub returns : goal.returns
+returns c = c.loop-at.invariant ∙ ap (counted_from 0) (omega (arith, c.loop-at-test.false, c.loop-at.auto.at-end))

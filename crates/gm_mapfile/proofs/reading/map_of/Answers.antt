@@ -61,3 +61,9 @@ returns-in-Err-clause-fault g c text draft =
     let fault = law_fault_of text (version_in d.stated) d.schema d.numbers.items d.values.items draft arena c.in_ok-arena.ensures.held c.next.ensures.lawful c.in-Err.fault c.in-Err.ensures.fault in
     let named = c.why_broken-no_map.ensures.embed ∙ ap (λ embeds. name_told embeds c.in-Err.fault) (c.as_slice.ensures ∙ ap (λ s. s.embeds) c.schema.ensures) in
     subst (λ told. IsNamedFaultOf text c.why_broken-no_map.result.fault told) (sym named) (subst (λ fault. IsNamedFaultOf text fault (name_told arena.schema.embeds c.in-Err.fault)) (sym c.why_broken-no_map.ensures.fault) fault)
+
+pub build-requires-clause-schema : goal.build-requires-clause-schema
+build-requires-clause-schema g c = c.requires.schema
+
+pub build-requires-clause-next : goal.build-requires-clause-next
+build-requires-clause-next g c = c.requires.next

@@ -1,5 +1,7 @@
-use Rattle.std.proofs.Common.{ℕ, ◌+◌, List, replicate, subst}
+use Rattle.std.proofs.Common.{ℕ, ◌+◌, ◌≤◌, List, length, replicate, ap, subst, arith}
+use Rattle.std.proofs.lemmas.Nat.{mul-le}
 use Rattle.std.proofs.lemmas.Result.{err_from_is_err_and}
+use Rattle.gm_model.specs.Limits.{most_darts}
 use Rattle.gm_model.specs.declared.schema.Embed.{Embed}
 use Rattle.gm_mapfile.specs.MapText.{DartName}
 use Rattle.gm_mapfile.specs.MapReading.{TheNumber, Misses, values_wants, ReadsNames, ReadsValues}
@@ -50,3 +52,17 @@ returns-in_err-read_names-clause-reads c = unless_ok _ c.from_residual-in_err-re
 
 pub returns-in_err-read_values-clause-reads : goal.returns-in_err-read_values-clause-reads
 returns-in_err-read_values-clause-reads c = unless_ok _ c.from_residual-in_err-read_values.result c.from_residual-in_err-read_values.ensures.0
+
+pub loop-smaller : goal.loop-smaller
+loop-smaller c = omega (arith, c.loop-test.true)
+
+pub overflow_mul-room : goal.overflow_mul-room
+overflow_mul-room c =
+    let few : c.min-room.result ≤ most_darts = omega (arith, c.min-room.ensures, c.requires.few) in
+    omega (arith, mul-le c.min-room.result (c.top.result + 2) most_darts 257 few (omega (arith, c.top.type_inv)))
+
+pub overflow_mul-room-2 : goal.overflow_mul-room-2
+overflow_mul-room-2 c =
+    let few : c.min-room.result ≤ most_darts = omega (arith, c.min-room.ensures, c.requires.few) in
+    let narrow : length c.as_slice-embeds.result.now ≤ 8 = omega (arith, ap length c.as_slice-embeds.ensures, c.requires.schema.count) in
+    omega (arith, mul-le c.min-room.result (length c.as_slice-embeds.result.now) most_darts 8 few narrow)

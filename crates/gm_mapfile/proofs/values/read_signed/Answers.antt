@@ -1,3 +1,4 @@
+use Rattle.gm_model.proofs.Exits.{unless_ok}
 use Rattle.std.proofs.Common.{false, subst}
 use Rattle.std.proofs.lemmas.Result.{err_from_is_err_and}
 use Rattle.gm_text.specs.Cursor.{Cursor}
@@ -18,3 +19,6 @@ returns-in-Some-clause-next c =
     let new = c.small_numeral.new.lexer in
     subst (λ (old : Cursor). IsSignedNext old false found.value found.place new) (c.small_sign.ensures.none c.if-small_sign.false)
     (plain_next between new found.value found.place c.in-Some.ensures.next)
+
+pub returns-in_err-value-clause-next : goal.returns-in_err-value-clause-next
+returns-in_err-value-clause-next c = unless_ok _ c.from_residual.result c.from_residual.ensures.0

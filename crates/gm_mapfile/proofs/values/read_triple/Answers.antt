@@ -6,79 +6,56 @@ use Rattle.gm_model.proofs.Exits.{unless_ok}
 use Rattle.gm_mapfile.proofs.Joined.{takes_then, misses_first, misses_then}
 use Rattle.gm_mapfile.proofs.values.read_triple.Goals as goal
 
-pub returns-in_err-read_bracket-clause-misses : goal.returns-in_err-read_bracket-clause-misses
-returns-in_err-read_bracket-clause-misses c =
-    let p = err_from_is_err_and c.from_residual.result c.from_residual.ensures.1 in
-    rw (p.1, p.2) (misses_first (TheSign (codes "(") ∷ []) (Component c.args.colour ∷ Component c.args.colour ∷ Component c.args.colour ∷ TheSign (codes ")") ∷ []) c.args.lexer.now c.in_err-read_bracket.field-0.0 c.in_err-read_bracket.ensures.misses)
+pub value_of_three-requires : goal.value_of_three-requires
+value_of_three-requires c is =
+    let back-x : to_z w64 (of_z w64 c.in_ok-x.x) ≡ c.in_ok-x.x = search rules in
+    let back-y : to_z w64 (of_z w64 c.in_ok-x.y) ≡ c.in_ok-x.y = search rules in
+    let back-z : to_z w64 (of_z w64 c.in_ok-z.z) ≡ c.in_ok-z.z = search rules in
+    let both = c.in_ok-x.ensures.channels is in
+    rw (back-x, back-y, back-z) (both.0, both.1, c.in_ok-z.ensures.channel is)
 
 pub returns-in_err-x-clause-misses : goal.returns-in_err-x-clause-misses
 returns-in_err-x-clause-misses c =
-    let p = err_from_is_err_and c.from_residual-in_err-x.result c.from_residual-in_err-x.ensures.1 in
-    let taken = c.in_ok-read_bracket.ensures.takes in
-    rw (p.1, p.2) (misses_then (TheSign (codes "(") ∷ []) (Component c.args.colour ∷ Component c.args.colour ∷ Component c.args.colour ∷ TheSign (codes ")") ∷ []) [] c.args.lexer.now c.read_bracket.new.lexer c.in_err-x.field-0.0 taken (misses_first (Component c.args.colour ∷ []) (Component c.args.colour ∷ Component c.args.colour ∷ TheSign (codes ")") ∷ []) c.read_bracket.new.lexer c.in_err-x.field-0.0 c.in_err-x.ensures.misses))
-
-pub returns-in_err-y-clause-misses : goal.returns-in_err-y-clause-misses
-returns-in_err-y-clause-misses c =
-    let p = err_from_is_err_and c.from_residual-in_err-y.result c.from_residual-in_err-y.ensures.1 in
-    let taken = c.in_ok-read_bracket.ensures.takes in
-    let taken = takes_then (TheSign (codes "(") ∷ []) (Component c.args.colour ∷ []) [] (c.in_ok-x.x ∷ []) c.args.lexer.now c.read_bracket.new.lexer c.read_component.new.lexer taken c.in_ok-x.ensures.takes in
-    rw (p.1, p.2) (misses_then (TheSign (codes "(") ∷ Component c.args.colour ∷ []) (Component c.args.colour ∷ Component c.args.colour ∷ TheSign (codes ")") ∷ []) (c.in_ok-x.x ∷ []) c.args.lexer.now c.read_component.new.lexer c.in_err-y.field-0.0 taken (misses_first (Component c.args.colour ∷ []) (Component c.args.colour ∷ TheSign (codes ")") ∷ []) c.read_component.new.lexer c.in_err-y.field-0.0 c.in_err-y.ensures.misses))
+    let p = err_from_is_err_and c.from_residual.result c.from_residual.ensures.1 in
+    rw (p.1, p.2) (misses_first (TheSign (codes "(") ∷ Component c.args.colour ∷ Component c.args.colour ∷ []) (Component c.args.colour ∷ TheSign (codes ")") ∷ []) c.args.lexer.now c.in_err-x.field-0.0 c.in_err-x.ensures.misses)
 
 pub returns-in_err-z-clause-misses : goal.returns-in_err-z-clause-misses
 returns-in_err-z-clause-misses c =
     let p = err_from_is_err_and c.from_residual-in_err-z.result c.from_residual-in_err-z.ensures.1 in
-    let taken = c.in_ok-read_bracket.ensures.takes in
-    let taken = takes_then (TheSign (codes "(") ∷ []) (Component c.args.colour ∷ []) [] (c.in_ok-x.x ∷ []) c.args.lexer.now c.read_bracket.new.lexer c.read_component.new.lexer taken c.in_ok-x.ensures.takes in
-    let taken = takes_then (TheSign (codes "(") ∷ Component c.args.colour ∷ []) (Component c.args.colour ∷ []) (c.in_ok-x.x ∷ []) (c.in_ok-y.y ∷ []) c.args.lexer.now c.read_component.new.lexer c.read_component-2.new.lexer taken c.in_ok-y.ensures.takes in
-    rw (p.1, p.2) (misses_then (TheSign (codes "(") ∷ Component c.args.colour ∷ Component c.args.colour ∷ []) (Component c.args.colour ∷ TheSign (codes ")") ∷ []) (c.in_ok-x.x ∷ c.in_ok-y.y ∷ []) c.args.lexer.now c.read_component-2.new.lexer c.in_err-z.field-0.0 taken (misses_first (Component c.args.colour ∷ []) (TheSign (codes ")") ∷ []) c.read_component-2.new.lexer c.in_err-z.field-0.0 c.in_err-z.ensures.misses))
+    rw (p.1, p.2) (misses_then (TheSign (codes "(") ∷ Component c.args.colour ∷ Component c.args.colour ∷ []) (Component c.args.colour ∷ TheSign (codes ")") ∷ []) (c.in_ok-x.x ∷ c.in_ok-x.y ∷ []) c.args.lexer.now c.read_two.new.lexer c.in_err-z.field-0.0 c.in_ok-x.ensures.takes (misses_first (Component c.args.colour ∷ []) (TheSign (codes ")") ∷ []) c.read_two.new.lexer c.in_err-z.field-0.0 c.in_err-z.ensures.misses))
 
-pub returns-in_err-read_bracket-2-clause-misses : goal.returns-in_err-read_bracket-2-clause-misses
-returns-in_err-read_bracket-2-clause-misses c =
-    let p = err_from_is_err_and c.from_residual-in_err-read_bracket-2.result c.from_residual-in_err-read_bracket-2.ensures.1 in
-    let taken = c.in_ok-read_bracket.ensures.takes in
-    let taken = takes_then (TheSign (codes "(") ∷ []) (Component c.args.colour ∷ []) [] (c.in_ok-x.x ∷ []) c.args.lexer.now c.read_bracket.new.lexer c.read_component.new.lexer taken c.in_ok-x.ensures.takes in
-    let taken = takes_then (TheSign (codes "(") ∷ Component c.args.colour ∷ []) (Component c.args.colour ∷ []) (c.in_ok-x.x ∷ []) (c.in_ok-y.y ∷ []) c.args.lexer.now c.read_component.new.lexer c.read_component-2.new.lexer taken c.in_ok-y.ensures.takes in
-    let taken = takes_then (TheSign (codes "(") ∷ Component c.args.colour ∷ Component c.args.colour ∷ []) (Component c.args.colour ∷ []) (c.in_ok-x.x ∷ c.in_ok-y.y ∷ []) (c.in_ok-z.z ∷ []) c.args.lexer.now c.read_component-2.new.lexer c.read_component-3.new.lexer taken c.in_ok-z.ensures.takes in
-    rw (p.1, p.2) (misses_then (TheSign (codes "(") ∷ Component c.args.colour ∷ Component c.args.colour ∷ Component c.args.colour ∷ []) (TheSign (codes ")") ∷ []) (c.in_ok-x.x ∷ c.in_ok-y.y ∷ c.in_ok-z.z ∷ []) c.args.lexer.now c.read_component-3.new.lexer c.in_err-read_bracket-2.field-0.0 taken c.in_err-read_bracket-2.ensures.misses)
+pub returns-in_err-read_bracket-clause-misses : goal.returns-in_err-read_bracket-clause-misses
+returns-in_err-read_bracket-clause-misses c =
+    let p = err_from_is_err_and c.from_residual-in_err-read_bracket.result c.from_residual-in_err-read_bracket.ensures.1 in
+    let taken = takes_then (TheSign (codes "(") ∷ Component c.args.colour ∷ Component c.args.colour ∷ []) (Component c.args.colour ∷ []) (c.in_ok-x.x ∷ c.in_ok-x.y ∷ []) (c.in_ok-z.z ∷ []) c.args.lexer.now c.read_two.new.lexer c.read_component.new.lexer c.in_ok-x.ensures.takes c.in_ok-z.ensures.takes in
+    rw (p.1, p.2) (misses_then (TheSign (codes "(") ∷ Component c.args.colour ∷ Component c.args.colour ∷ Component c.args.colour ∷ []) (TheSign (codes ")") ∷ []) (c.in_ok-x.x ∷ c.in_ok-x.y ∷ c.in_ok-z.z ∷ []) c.args.lexer.now c.read_component.new.lexer c.in_err-read_bracket.field-0.0 taken c.in_err-read_bracket.ensures.misses)
 
 pub returns-clause-takes : goal.returns-clause-takes
 returns-clause-takes c =
-    let taken = c.in_ok-read_bracket.ensures.takes in
-    let taken = takes_then (TheSign (codes "(") ∷ []) (Component c.args.colour ∷ []) [] (c.in_ok-x.x ∷ []) c.args.lexer.now c.read_bracket.new.lexer c.read_component.new.lexer taken c.in_ok-x.ensures.takes in
-    let taken = takes_then (TheSign (codes "(") ∷ Component c.args.colour ∷ []) (Component c.args.colour ∷ []) (c.in_ok-x.x ∷ []) (c.in_ok-y.y ∷ []) c.args.lexer.now c.read_component.new.lexer c.read_component-2.new.lexer taken c.in_ok-y.ensures.takes in
-    let taken = takes_then (TheSign (codes "(") ∷ Component c.args.colour ∷ Component c.args.colour ∷ []) (Component c.args.colour ∷ []) (c.in_ok-x.x ∷ c.in_ok-y.y ∷ []) (c.in_ok-z.z ∷ []) c.args.lexer.now c.read_component-2.new.lexer c.read_component-3.new.lexer taken c.in_ok-z.ensures.takes in
-    let taken = takes_then (TheSign (codes "(") ∷ Component c.args.colour ∷ Component c.args.colour ∷ Component c.args.colour ∷ []) (TheSign (codes ")") ∷ []) (c.in_ok-x.x ∷ c.in_ok-y.y ∷ c.in_ok-z.z ∷ []) [] c.args.lexer.now c.read_component-3.new.lexer c.read_bracket-2.new.lexer taken c.in_ok-read_bracket-2.ensures.takes in
+    let taken = takes_then (TheSign (codes "(") ∷ Component c.args.colour ∷ Component c.args.colour ∷ []) (Component c.args.colour ∷ []) (c.in_ok-x.x ∷ c.in_ok-x.y ∷ []) (c.in_ok-z.z ∷ []) c.args.lexer.now c.read_two.new.lexer c.read_component.new.lexer c.in_ok-x.ensures.takes c.in_ok-z.ensures.takes in
     let back-x : to_z w64 (of_z w64 c.in_ok-x.x) ≡ c.in_ok-x.x = search rules in
-    let back-y : to_z w64 (of_z w64 c.in_ok-y.y) ≡ c.in_ok-y.y = search rules in
+    let back-y : to_z w64 (of_z w64 c.in_ok-x.y) ≡ c.in_ok-x.y = search rules in
     let back-z : to_z w64 (of_z w64 c.in_ok-z.z) ≡ c.in_ok-z.z = search rules in
-    rw (back-x, back-y, back-z) taken
+    rw (c.value_of_three.ensures.components, back-x, back-y, back-z)
+    (takes_then (TheSign (codes "(") ∷ Component c.args.colour ∷ Component c.args.colour ∷ Component c.args.colour ∷ []) (TheSign (codes ")") ∷ []) (c.in_ok-x.x ∷ c.in_ok-x.y ∷ c.in_ok-z.z ∷ []) [] c.args.lexer.now c.read_component.new.lexer c.read_bracket.new.lexer taken c.in_ok-read_bracket.ensures.takes)
 
-pub returns-in_err-read_bracket-clause-takes : goal.returns-in_err-read_bracket-clause-takes
-returns-in_err-read_bracket-clause-takes c = unless_ok _ c.from_residual.result c.from_residual.ensures.0
-
-pub returns-in_err-read_bracket-clause-channels : goal.returns-in_err-read_bracket-clause-channels
-returns-in_err-read_bracket-clause-channels c = unless_ok _ c.from_residual.result c.from_residual.ensures.0
+pub returns-clause-kind : goal.returns-clause-kind
+returns-clause-kind c = c.value_of_three.ensures.kind
 
 pub returns-in_err-x-clause-takes : goal.returns-in_err-x-clause-takes
-returns-in_err-x-clause-takes c = unless_ok _ c.from_residual-in_err-x.result c.from_residual-in_err-x.ensures.0
+returns-in_err-x-clause-takes c = unless_ok _ c.from_residual.result c.from_residual.ensures.0
 
-pub returns-in_err-x-clause-channels : goal.returns-in_err-x-clause-channels
-returns-in_err-x-clause-channels c = unless_ok _ c.from_residual-in_err-x.result c.from_residual-in_err-x.ensures.0
-
-pub returns-in_err-y-clause-takes : goal.returns-in_err-y-clause-takes
-returns-in_err-y-clause-takes c = unless_ok _ c.from_residual-in_err-y.result c.from_residual-in_err-y.ensures.0
-
-pub returns-in_err-y-clause-channels : goal.returns-in_err-y-clause-channels
-returns-in_err-y-clause-channels c = unless_ok _ c.from_residual-in_err-y.result c.from_residual-in_err-y.ensures.0
+pub returns-in_err-x-clause-kind : goal.returns-in_err-x-clause-kind
+returns-in_err-x-clause-kind c = unless_ok _ c.from_residual.result c.from_residual.ensures.0
 
 pub returns-in_err-z-clause-takes : goal.returns-in_err-z-clause-takes
 returns-in_err-z-clause-takes c = unless_ok _ c.from_residual-in_err-z.result c.from_residual-in_err-z.ensures.0
 
-pub returns-in_err-z-clause-channels : goal.returns-in_err-z-clause-channels
-returns-in_err-z-clause-channels c = unless_ok _ c.from_residual-in_err-z.result c.from_residual-in_err-z.ensures.0
+pub returns-in_err-z-clause-kind : goal.returns-in_err-z-clause-kind
+returns-in_err-z-clause-kind c = unless_ok _ c.from_residual-in_err-z.result c.from_residual-in_err-z.ensures.0
 
-pub returns-in_err-read_bracket-2-clause-takes : goal.returns-in_err-read_bracket-2-clause-takes
-returns-in_err-read_bracket-2-clause-takes c = unless_ok _ c.from_residual-in_err-read_bracket-2.result c.from_residual-in_err-read_bracket-2.ensures.0
+pub returns-in_err-read_bracket-clause-takes : goal.returns-in_err-read_bracket-clause-takes
+returns-in_err-read_bracket-clause-takes c = unless_ok _ c.from_residual-in_err-read_bracket.result c.from_residual-in_err-read_bracket.ensures.0
 
-pub returns-in_err-read_bracket-2-clause-channels : goal.returns-in_err-read_bracket-2-clause-channels
-returns-in_err-read_bracket-2-clause-channels c = unless_ok _ c.from_residual-in_err-read_bracket-2.result c.from_residual-in_err-read_bracket-2.ensures.0
+pub returns-in_err-read_bracket-clause-kind : goal.returns-in_err-read_bracket-clause-kind
+returns-in_err-read_bracket-clause-kind c = unless_ok _ c.from_residual-in_err-read_bracket.result c.from_residual-in_err-read_bracket.ensures.0
