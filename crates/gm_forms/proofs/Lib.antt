@@ -20,3 +20,5 @@ pub mod ValuePlaces
 pub mod ValuesRead
 pub mod Drafts
 pub mod Marks
+pub mod Stops
+pub mod OneToken

@@ -11,6 +11,7 @@ use crate::reader::Reader;
 use crate::state::{Heading, State};
 use gm_text::Lexer;
 use std::alloc::Global;
+use std::mem;
 
 fn read_rules<'a>(
     alloc: Global,
@@ -34,6 +35,23 @@ fn read_rules<'a>(
     reader.end(alloc, state, lexer.place())
 }
 
+/// The rules behind the header, by a reader that holds nothing yet.
+fn read_forms_by<'a>(
+    alloc: Global,
+    lexer: &mut Lexer<'a>,
+    reader: &mut Reader<'a>,
+    heading: Heading,
+) -> Result<Vec<RuleForm>, FormFault>
+    requires rules { reader.old.draft.rules.items ≡ [] }
+    requires current { reader.old.draft.current ≡ None }
+    ensures forms { IfOk result (λ forms. AreRulesRead heading (marks_left lexer.old) (forms_of lexer.old.text forms.items)) }
+    ensures within { IfOk result (λ forms. AreRulesIn lexer.old.text forms.items) }
+    ensures fault { IfErr result (IsRulesFault heading (marks_left lexer.old)) }
+{
+    read_rules(alloc, lexer, reader, heading)?;
+    Ok(mem::replace(&mut reader.draft.rules, Vec::new(alloc)))
+}
+
 /// The rules behind the header as they are written, or the first fault from left to right.
 pub fn read_forms(
     alloc: Global,
@@ -45,7 +63,5 @@ pub fn read_forms(
     ensures fault { IfErr result (IsRulesFault heading (marks_left lexer.old)) }
 {
     let mut reader = Reader::new(alloc);
-    read_rules(alloc, lexer, &mut reader, heading)?;
-    let Reader { draft, .. } = reader;
-    Ok(draft.rules)
+    read_forms_by(alloc, lexer, &mut reader, heading)
 }

@@ -6,6 +6,7 @@ use Rattle.gm_book.specs.Building.{HasNoFaultInRules, IsFaultOfNames}
 use Rattle.gm_book.specs.FirstNameFault.{IsLeastFault}
 use Rattle.gm_book.proofs.Built.{no_fault, first_fault}
 use Rattle.gm_book.proofs.RuleFaults.{least_of_all}
+use Rattle.gm_model.proofs.Exits.{unless_ok}
 use Rattle.gm_book.proofs.building.build.Goals as goal
 
 pub returns-in-Err-clause-fault : goal.returns-in-Err-clause-fault
@@ -27,3 +28,15 @@ returns-in-Ok-clause-sound c =
     let least = least_of_all n embeds rules (result_err read) c.in_ok-tables.ensures.fault in
     subst (λ (forms : List RuleForm). HasNoFaultInRules n embeds (forms_of c.args.text.now forms)) c.deref.ensures.value
     (no_fault n embeds rules (subst (IsLeastFault n embeds rules) (ap result_err c.in-Ok.is) least))
+
+pub returns-in_err-tables-clause-version : goal.returns-in_err-tables-clause-version
+returns-in_err-tables-clause-version c = unless_ok _ c.from_residual.result c.from_residual.ensures.0
+
+pub returns-in_err-tables-clause-schema : goal.returns-in_err-tables-clause-schema
+returns-in_err-tables-clause-schema c = unless_ok _ c.from_residual.result c.from_residual.ensures.0
+
+pub returns-in_err-tables-clause-rules : goal.returns-in_err-tables-clause-rules
+returns-in_err-tables-clause-rules c = unless_ok _ c.from_residual.result c.from_residual.ensures.0
+
+pub returns-in_err-tables-clause-sound : goal.returns-in_err-tables-clause-sound
+returns-in_err-tables-clause-sound c = unless_ok _ c.from_residual.result c.from_residual.ensures.0

@@ -8,6 +8,7 @@ use Rattle.gm_book.specs.declared.names.NameFault.{NameFault}
 use Rattle.gm_book.specs.FirstNameFault.{IsLeast, IsFaultInRule, IsRuleFault}
 use Rattle.gm_book.proofs.Checked.{earlier_or}
 use Rattle.gm_book.proofs.RuleFaults.{least_of_rule}
+use Rattle.gm_model.proofs.Exits.{unless_ok, never_ok}
 use Rattle.gm_book.proofs.building.named_table.Goals as goal
 
 pub returns-in-Err-clause-fault : goal.returns-in-Err-clause-fault
@@ -21,3 +22,21 @@ returns-in-Err-clause-fault c =
     let least = least_of_rule n embeds names rule c.in_ok-again.again (Some fault) c.in_ok-again.ensures.fault here in
     let told : c.unwrap_or.result ≡ unwrap_or c.earlier.result fault = c.unwrap_or.ensures in
     subst (IsLeast (IsRuleFault n embeds names rule)) (earlier_or c.in_ok-again.again fault ∙ ap Some (sym (told ∙ ap (λ (o : Option NameFault). unwrap_or o fault) c.earlier.ensures))) least
+
+pub returns-in_err-again-clause-held : goal.returns-in_err-again-clause-held
+returns-in_err-again-clause-held c = never_ok _ c.from_residual.result c.from_residual.ensures.0
+
+pub returns-in_err-again-clause-table : goal.returns-in_err-again-clause-table
+returns-in_err-again-clause-table c = unless_ok _ c.from_residual.result c.from_residual.ensures.0
+
+pub returns-in_err-again-clause-fault : goal.returns-in_err-again-clause-fault
+returns-in_err-again-clause-fault c = unless_ok _ c.from_residual.result c.from_residual.ensures.0
+
+pub returns-in_err-table-clause-held : goal.returns-in_err-table-clause-held
+returns-in_err-table-clause-held c = never_ok _ c.from_residual-in_err-table.result c.from_residual-in_err-table.ensures.0
+
+pub returns-in_err-table-clause-table : goal.returns-in_err-table-clause-table
+returns-in_err-table-clause-table c = unless_ok _ c.from_residual-in_err-table.result c.from_residual-in_err-table.ensures.0
+
+pub returns-in_err-table-clause-fault : goal.returns-in_err-table-clause-fault
+returns-in_err-table-clause-fault c = unless_ok _ c.from_residual-in_err-table.result c.from_residual-in_err-table.ensures.0

@@ -17,6 +17,7 @@ use Rattle.gm_book.proofs.ReadSets.{each_read, zip_more}
 use Rattle.gm_book.proofs.LeastOf.{least_regrouped, least_with_none}
 use Rattle.gm_book.proofs.Onward.{left_on, each_on}
 use Rattle.gm_book.proofs.RuleFaults.{least_behind, none_behind}
+use Rattle.gm_model.proofs.Exits.{unless_ok}
 use Rattle.gm_book.proofs.building.read_tables_behind.Goals as goal
 use Rattle.gm_book.proofs.building.read_tables_behind.Goals.{in-Ok+in_ok-push-in-Ok, in-Err}
 
@@ -96,3 +97,15 @@ pub returns-in-None-clause-tables : goal.returns-in-None-clause-tables
 returns-in-None-clause-tables c =
     subst (λ (forms : List RuleForm). AllZip (MeansRule c.args.schema.now.dim c.args.schema.now.embeds) (map (rule_form_of c.args.text.now) forms) (map rule_of c.loop-rule.tables.items))
     (take_all c.loop-rule.rule-index c.args.rules.now c.loop-rule-test.false) (c.loop-rule.invariant.tables c.in-None.is)
+
+pub returns-in_err-table-clause-tables : goal.returns-in_err-table-clause-tables
+returns-in_err-table-clause-tables c = unless_ok _ c.from_residual.result c.from_residual.ensures.0
+
+pub returns-in_err-table-clause-fault : goal.returns-in_err-table-clause-fault
+returns-in_err-table-clause-fault c = unless_ok _ c.from_residual.result c.from_residual.ensures.0
+
+pub returns-in_err-push-in-Ok-clause-tables : goal.returns-in_err-push-in-Ok-clause-tables
+returns-in_err-push-in-Ok-clause-tables c = unless_ok _ c.from_residual-in_err-push-in-Ok.result c.from_residual-in_err-push-in-Ok.ensures.0
+
+pub returns-in_err-push-in-Ok-clause-fault : goal.returns-in_err-push-in-Ok-clause-fault
+returns-in_err-push-in-Ok-clause-fault c = unless_ok _ c.from_residual-in_err-push-in-Ok.result c.from_residual-in_err-push-in-Ok.ensures.0

@@ -10,6 +10,7 @@ use Rattle.gm_book.specs.declared.names.NameFault.{NameFault}
 use Rattle.gm_book.specs.FirstNameFault.{least_of, again_at, least_param}
 use Rattle.gm_book.proofs.LeastOf.{least_regrouped, least_with_none}
 use Rattle.gm_book.proofs.Onward.{each_on, none_on}
+use Rattle.gm_model.proofs.Exits.{unless_ok}
 use Rattle.gm_book.proofs.names.params_fault.Goals as goal
 
 abbrev blank : ParamForm
@@ -42,3 +43,6 @@ returns c =
     let l = c.loop-param in
     sym (least_with_none l.fault)
     ∙ none_on (param_form_of c.args.text.now) (λ forms. least_of l.fault (least_param (names_held l.table) forms)) c.args.params.now l.param-index _ c.loop-param-test.false l.invariant
+
+pub returns-in_err-take_in : goal.returns-in_err-take_in
+returns-in_err-take_in c = unless_ok _ c.from_residual.result c.from_residual.ensures.0

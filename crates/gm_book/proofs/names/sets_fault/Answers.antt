@@ -7,6 +7,7 @@ use Rattle.gm_book.specs.declared.names.NameFault.{NameFault}
 use Rattle.gm_book.specs.FirstNameFault.{embed_names, least_of, again_at, unknown_at, least_set}
 use Rattle.gm_book.proofs.LeastOf.{least_regrouped, least_with_none}
 use Rattle.gm_book.proofs.Onward.{left_on, each_on, none_on}
+use Rattle.gm_model.proofs.Exits.{unless_ok}
 use Rattle.gm_book.proofs.names.sets_fault.Goals as goal
 
 pub loop-set-init : goal.loop-set-init
@@ -42,3 +43,6 @@ returns c =
     let l = c.loop-set in
     sym (least_with_none l.fault)
     ∙ none_on (set_form_of c.args.text.now) (λ forms. least_of l.fault (least_set known (names_held l.table) forms)) c.args.sets.now l.set-index _ c.loop-set-test.false l.invariant
+
+pub returns-in_err-again : goal.returns-in_err-again
+returns-in_err-again c = unless_ok _ c.from_residual.result c.from_residual.ensures.0

@@ -7,6 +7,7 @@ use Rattle.gm_forms.specs.BookText.{with_name}
 use Rattle.gm_forms.specs.Held.{names_at, names_held}
 use Rattle.gm_forms.proofs.HeldNames.{among_held, taken_in}
 use Rattle.gm_book.specs.declared.names.NameFault.{NameFault}
+use Rattle.gm_model.proofs.Exits.{unless_ok, never_ok}
 use Rattle.gm_book.proofs.names.take_in.Goals as goal
 
 -- the fault is there where the name was
@@ -26,3 +27,9 @@ returns-clause-fault c =
     let known = is_among names (bytes_of c.args.text.now c.args.name.now) in
     let new : c.in_ok-added.added ≡ not known = c.in_ok-added.ensures.added ∙ ap not (among_held c.args.table.now.keys key) ∙ ap (λ bytes. not (is_among names bytes)) c.bytes_in-bytes.ensures in
     c.then_some.ensures ∙ there known c.in_ok-added.added _ new
+
+pub returns-in_err-added-clause-held : goal.returns-in_err-added-clause-held
+returns-in_err-added-clause-held c = never_ok _ c.from_residual.result c.from_residual.ensures.0
+
+pub returns-in_err-added-clause-fault : goal.returns-in_err-added-clause-fault
+returns-in_err-added-clause-fault c = unless_ok _ c.from_residual.result c.from_residual.ensures.0

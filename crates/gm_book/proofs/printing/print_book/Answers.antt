@@ -6,6 +6,7 @@ use Rattle.gm_text.specs.SchemaText as schemas
 use Rattle.gm_book.specs.Canonical.{rule_lines}
 use Rattle.gm_book.specs.Printing.{NamesItsNodes, HasNamedExprs}
 use Rattle.gm_book.proofs.Lines.{mapped_more}
+use Rattle.gm_model.proofs.Exits.{unless_ok}
 use Rattle.gm_book.proofs.printing.print_book.Goals as goal
 
 pub print_rule-requires-clause-numbers : goal.print_rule-requires-clause-numbers
@@ -32,3 +33,9 @@ loop-rule-preserved c =
     let here : c.rule-item.result ≡ get_or c.args.book.now.rules c.loop-rule.rule-index c.rule-item.result = c.rule-item.is ∙ ap (λ rs. get_or rs c.loop-rule.rule-index c.rule-item.result) same in
     mapped_more rule_of (rule_lines schema) c.args.book.now.rules c.loop-rule.rule-index c.rule-item.result (codes "book " ++ decimal c.args.book.now.version ++ codes "\n" ++ schemas.canonical schema) c.loop-rule.text c.print_rule.new.text within c.loop-rule.invariant
     (c.in_ok-print_rule.ensures ∙ ap (λ r. c.loop-rule.text ++ rule_lines schema (rule_of r)) here)
+
+pub returns-in_err-print_header : goal.returns-in_err-print_header
+returns-in_err-print_header c = unless_ok _ c.from_residual.result c.from_residual.ensures.0
+
+pub returns-in_err-print_rule : goal.returns-in_err-print_rule
+returns-in_err-print_rule c = unless_ok _ c.from_residual-in_err-print_rule.result c.from_residual-in_err-print_rule.ensures.0

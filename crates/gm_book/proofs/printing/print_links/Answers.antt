@@ -5,6 +5,7 @@ use Rattle.gm_model.specs.declared.rule.Node.{Node}
 use Rattle.gm_model.specs.Rules.{node_of, name_at}
 use Rattle.gm_book.specs.Canonical.{link_line}
 use Rattle.gm_book.proofs.Lines.{flat_more, put_more, node_named}
+use Rattle.gm_model.proofs.Exits.{never_ok}
 use Rattle.gm_book.proofs.printing.print_links.Goals as goal
 
 pub loop-link-preserved : goal.loop-link-preserved
@@ -30,3 +31,21 @@ loop-link-preserved c =
     let p = put_more text c.put-in-loop-link-2.new.self (from ++ codes " -" ++ decimal link.label ++ codes "- ") c.put-in-loop-link-3.new.self c.bytes-in-loop-link.result.now to p c.in_ok-put-4.ensures.ok to_is in
     let p = put_more text c.put-in-loop-link-3.new.self (from ++ codes " -" ++ decimal link.label ++ codes "- " ++ to) c.put-in-loop-link-4.new.self (codes "\n") (codes "\n") p c.in_ok-put-5.ensures.ok refl in
     flat_more (link_line named) c.args.links.now c.loop-link.link-index blank c.args.text.now text c.put-in-loop-link-4.new.self c.loop-link-test.true c.loop-link.invariant p
+
+pub returns-in_err-put : goal.returns-in_err-put
+returns-in_err-put c = never_ok _ c.from_residual.result c.from_residual.ensures.0
+
+pub returns-in_err-put-2 : goal.returns-in_err-put-2
+returns-in_err-put-2 c = never_ok _ c.from_residual-in_err-put-2.result c.from_residual-in_err-put-2.ensures.0
+
+pub returns-in_err-number : goal.returns-in_err-number
+returns-in_err-number c = never_ok _ c.from_residual-in_err-number.result c.from_residual-in_err-number.ensures.0
+
+pub returns-in_err-put-3 : goal.returns-in_err-put-3
+returns-in_err-put-3 c = never_ok _ c.from_residual-in_err-put-3.result c.from_residual-in_err-put-3.ensures.0
+
+pub returns-in_err-put-4 : goal.returns-in_err-put-4
+returns-in_err-put-4 c = never_ok _ c.from_residual-in_err-put-4.result c.from_residual-in_err-put-4.ensures.0
+
+pub returns-in_err-put-5 : goal.returns-in_err-put-5
+returns-in_err-put-5 c = never_ok _ c.from_residual-in_err-put-5.result c.from_residual-in_err-put-5.ensures.0

@@ -7,6 +7,7 @@ use Rattle.gm_model.specs.Rules.{rule_of, node_of}
 use Rattle.gm_book.specs.Canonical.{params_text, left_lines, right_line, right_lines, link_line, pre_line}
 use Rattle.gm_book.specs.Printing.{AreEndsNodes, is_left}
 use Rattle.gm_book.proofs.Lines.{put_more}
+use Rattle.gm_model.proofs.Exits.{never_ok}
 use Rattle.gm_book.proofs.printing.print_rule.Goals as goal
 
 -- the ends of links as they are lent
@@ -57,3 +58,33 @@ returns c =
     let p = put_more start c.print_right_nodes-2.new.text with_right c.print_links-2.new.text (flat_map (link_line (map node_of lent)) c.as_slice-4.result.now) (flat_map (link_line nodes) rule.right_links) p c.in_ok-print_links-2.ensures
     (ap (flat_map (link_line (map node_of lent))) c.as_slice-4.ensures ∙ ap (λ ns. flat_map (link_line ns) rule.right_links) same) in
     last c.print_pre.result start c.print_links-2.new.text right c.print_pre.new.text (pre_line schema (rule_of rule)) p c.print_pre.ensures
+
+pub returns-in_err-put : goal.returns-in_err-put
+returns-in_err-put c = never_ok _ c.from_residual.result c.from_residual.ensures.0
+
+pub returns-in_err-put-2 : goal.returns-in_err-put-2
+returns-in_err-put-2 c = never_ok _ c.from_residual-in_err-put-2.result c.from_residual-in_err-put-2.ensures.0
+
+pub returns-in_err-print_params : goal.returns-in_err-print_params
+returns-in_err-print_params c = never_ok _ c.from_residual-in_err-print_params.result c.from_residual-in_err-print_params.ensures.0
+
+pub returns-in_err-put-3 : goal.returns-in_err-put-3
+returns-in_err-put-3 c = never_ok _ c.from_residual-in_err-put-3.result c.from_residual-in_err-put-3.ensures.0
+
+pub returns-in_err-print_left_nodes : goal.returns-in_err-print_left_nodes
+returns-in_err-print_left_nodes c = never_ok _ c.from_residual-in_err-print_left_nodes.result c.from_residual-in_err-print_left_nodes.ensures.0
+
+pub returns-in_err-print_links : goal.returns-in_err-print_links
+returns-in_err-print_links c = never_ok _ c.from_residual-in_err-print_links.result c.from_residual-in_err-print_links.ensures.0
+
+pub returns-in_err-put-4 : goal.returns-in_err-put-4
+returns-in_err-put-4 c = never_ok _ c.from_residual-in_err-put-4.result c.from_residual-in_err-put-4.ensures.0
+
+pub returns-in_err-print_right_nodes : goal.returns-in_err-print_right_nodes
+returns-in_err-print_right_nodes c = never_ok _ c.from_residual-in_err-print_right_nodes.result c.from_residual-in_err-print_right_nodes.ensures.0
+
+pub returns-in_err-print_right_nodes-2 : goal.returns-in_err-print_right_nodes-2
+returns-in_err-print_right_nodes-2 c = never_ok _ c.from_residual-in_err-print_right_nodes-2.result c.from_residual-in_err-print_right_nodes-2.ensures.0
+
+pub returns-in_err-print_links-2 : goal.returns-in_err-print_links-2
+returns-in_err-print_links-2 c = never_ok _ c.from_residual-in_err-print_links-2.result c.from_residual-in_err-print_links-2.ensures.0

@@ -8,6 +8,7 @@ use Rattle.gm_expr.specs.ExprText.{IsNamed, embed_name, expr_text}
 use Rattle.gm_book.specs.Canonical.{set_text}
 use Rattle.gm_book.specs.Printing.{AreNamed}
 use Rattle.gm_book.proofs.Lines.{each_at, mapped_more, put_more, embed_named}
+use Rattle.gm_model.proofs.Exits.{never_ok}
 use Rattle.gm_book.proofs.printing.print_sets.Goals as goal
 
 -- the numbers in an assignment that comes name something
@@ -44,3 +45,15 @@ loop-set-preserved c =
     let p = put_more text c.put-in-loop-set-2.new.self (start ++ name ++ codes " = ") c.print_expr.new.out tree tree p c.in_ok-print_expr.ensures.ok refl in
     mapped_more assignment_of (set_text schema rule) c.args.sets.now c.loop-set.set-index c.set-item.result c.args.text.now text c.print_expr.new.out c.loop-set-test.true c.loop-set.invariant
     (p ∙ ap (λ made. text ++ set_text schema rule (assignment_of made)) c.set-item.is)
+
+pub returns-in_err-put : goal.returns-in_err-put
+returns-in_err-put c = never_ok _ c.from_residual.result c.from_residual.ensures.0
+
+pub returns-in_err-put-2 : goal.returns-in_err-put-2
+returns-in_err-put-2 c = never_ok _ c.from_residual-in_err-put-2.result c.from_residual-in_err-put-2.ensures.0
+
+pub returns-in_err-put-3 : goal.returns-in_err-put-3
+returns-in_err-put-3 c = never_ok _ c.from_residual-in_err-put-3.result c.from_residual-in_err-put-3.ensures.0
+
+pub returns-in_err-print_expr : goal.returns-in_err-print_expr
+returns-in_err-print_expr c = never_ok _ c.from_residual-in_err-print_expr.result c.from_residual-in_err-print_expr.ensures.0

@@ -11,6 +11,7 @@ use Rattle.gm_forms.specs.Reading.{AtFormat, heading_at}
 use Rattle.gm_forms.specs.Standing.{IsHeaded, IsHeadFault, AreRulesRead}
 use Rattle.gm_book.specs.Fitting.{IsFitting, HasExprs}
 use Rattle.gm_book.proofs.ReadBook.{rules_there, fitting_there, exprs_there, head_fault, skip_fault, rules_fault, names_in_schema, answer_stands, answer_faults, answer_in_range, answer_within_limits, answer_typed, answer_unsigned}
+use Rattle.gm_model.proofs.Exits.{unless_ok}
 use Rattle.gm_book.proofs.reading.read_book.Goals as goal
 
 pub returns-in_err-version-clause-fault : goal.returns-in_err-version-clause-fault
@@ -129,3 +130,75 @@ returns-clause-fault c =
     let declared = c.in_ok-schema.schema in
     let found = subst (λ (cursor : Cursor). IsSchemaRead cursor c.read_schema.new.lexer declared) c.fork-again.ensures c.in_ok-schema.ensures.schema in
     answer_faults text version old headed new n c.in_ok-dim.ensures.runs c.in_ok-dim.ensures.dim (forms_of text forms) there declared c.read_schema.new.lexer found c.build.result c.build.ensures.fault
+
+pub returns-in_err-version-clause-book : goal.returns-in_err-version-clause-book
+returns-in_err-version-clause-book c = unless_ok _ c.from_residual.result c.from_residual.ensures.0
+
+pub returns-in_err-version-clause-schema : goal.returns-in_err-version-clause-schema
+returns-in_err-version-clause-schema c = unless_ok _ c.from_residual.result c.from_residual.ensures.0
+
+pub returns-in_err-version-clause-in_range : goal.returns-in_err-version-clause-in_range
+returns-in_err-version-clause-in_range c = unless_ok _ c.from_residual.result c.from_residual.ensures.0
+
+pub returns-in_err-version-clause-limits : goal.returns-in_err-version-clause-limits
+returns-in_err-version-clause-limits c = unless_ok _ c.from_residual.result c.from_residual.ensures.0
+
+pub returns-in_err-version-clause-typed : goal.returns-in_err-version-clause-typed
+returns-in_err-version-clause-typed c = unless_ok _ c.from_residual.result c.from_residual.ensures.0
+
+pub returns-in_err-version-clause-unsigned : goal.returns-in_err-version-clause-unsigned
+returns-in_err-version-clause-unsigned c = unless_ok _ c.from_residual.result c.from_residual.ensures.0
+
+pub returns-in_err-dim-clause-book : goal.returns-in_err-dim-clause-book
+returns-in_err-dim-clause-book c = unless_ok _ c.from_residual-in_err-dim.result c.from_residual-in_err-dim.ensures.0
+
+pub returns-in_err-dim-clause-schema : goal.returns-in_err-dim-clause-schema
+returns-in_err-dim-clause-schema c = unless_ok _ c.from_residual-in_err-dim.result c.from_residual-in_err-dim.ensures.0
+
+pub returns-in_err-dim-clause-in_range : goal.returns-in_err-dim-clause-in_range
+returns-in_err-dim-clause-in_range c = unless_ok _ c.from_residual-in_err-dim.result c.from_residual-in_err-dim.ensures.0
+
+pub returns-in_err-dim-clause-limits : goal.returns-in_err-dim-clause-limits
+returns-in_err-dim-clause-limits c = unless_ok _ c.from_residual-in_err-dim.result c.from_residual-in_err-dim.ensures.0
+
+pub returns-in_err-dim-clause-typed : goal.returns-in_err-dim-clause-typed
+returns-in_err-dim-clause-typed c = unless_ok _ c.from_residual-in_err-dim.result c.from_residual-in_err-dim.ensures.0
+
+pub returns-in_err-dim-clause-unsigned : goal.returns-in_err-dim-clause-unsigned
+returns-in_err-dim-clause-unsigned c = unless_ok _ c.from_residual-in_err-dim.result c.from_residual-in_err-dim.ensures.0
+
+pub returns-in_err-forms-clause-book : goal.returns-in_err-forms-clause-book
+returns-in_err-forms-clause-book c = unless_ok _ c.from_residual-in_err-forms.result c.from_residual-in_err-forms.ensures.0
+
+pub returns-in_err-forms-clause-schema : goal.returns-in_err-forms-clause-schema
+returns-in_err-forms-clause-schema c = unless_ok _ c.from_residual-in_err-forms.result c.from_residual-in_err-forms.ensures.0
+
+pub returns-in_err-forms-clause-in_range : goal.returns-in_err-forms-clause-in_range
+returns-in_err-forms-clause-in_range c = unless_ok _ c.from_residual-in_err-forms.result c.from_residual-in_err-forms.ensures.0
+
+pub returns-in_err-forms-clause-limits : goal.returns-in_err-forms-clause-limits
+returns-in_err-forms-clause-limits c = unless_ok _ c.from_residual-in_err-forms.result c.from_residual-in_err-forms.ensures.0
+
+pub returns-in_err-forms-clause-typed : goal.returns-in_err-forms-clause-typed
+returns-in_err-forms-clause-typed c = unless_ok _ c.from_residual-in_err-forms.result c.from_residual-in_err-forms.ensures.0
+
+pub returns-in_err-forms-clause-unsigned : goal.returns-in_err-forms-clause-unsigned
+returns-in_err-forms-clause-unsigned c = unless_ok _ c.from_residual-in_err-forms.result c.from_residual-in_err-forms.ensures.0
+
+pub returns-in_err-schema-clause-book : goal.returns-in_err-schema-clause-book
+returns-in_err-schema-clause-book c = unless_ok _ c.from_residual-in_err-schema.result c.from_residual-in_err-schema.ensures.0
+
+pub returns-in_err-schema-clause-schema : goal.returns-in_err-schema-clause-schema
+returns-in_err-schema-clause-schema c = unless_ok _ c.from_residual-in_err-schema.result c.from_residual-in_err-schema.ensures.0
+
+pub returns-in_err-schema-clause-in_range : goal.returns-in_err-schema-clause-in_range
+returns-in_err-schema-clause-in_range c = unless_ok _ c.from_residual-in_err-schema.result c.from_residual-in_err-schema.ensures.0
+
+pub returns-in_err-schema-clause-limits : goal.returns-in_err-schema-clause-limits
+returns-in_err-schema-clause-limits c = unless_ok _ c.from_residual-in_err-schema.result c.from_residual-in_err-schema.ensures.0
+
+pub returns-in_err-schema-clause-typed : goal.returns-in_err-schema-clause-typed
+returns-in_err-schema-clause-typed c = unless_ok _ c.from_residual-in_err-schema.result c.from_residual-in_err-schema.ensures.0
+
+pub returns-in_err-schema-clause-unsigned : goal.returns-in_err-schema-clause-unsigned
+returns-in_err-schema-clause-unsigned c = unless_ok _ c.from_residual-in_err-schema.result c.from_residual-in_err-schema.ensures.0

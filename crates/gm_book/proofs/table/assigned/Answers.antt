@@ -7,6 +7,7 @@ use Rattle.gm_book.specs.Building.{IsSoundNode}
 use Rattle.gm_book.proofs.Checked.{at_ok, at_err, node_sound, set_fault_of}
 use Rattle.gm_book.proofs.ReadSets.{zip_more}
 use Rattle.gm_book.proofs.RuleNames.{good_at}
+use Rattle.gm_model.proofs.Exits.{unless_ok}
 use Rattle.gm_book.proofs.table.assigned.Goals as goal
 
 pub node-requires-clause-good : goal.node-requires-clause-good
@@ -35,3 +36,9 @@ returns-in-Err c =
     let fault = c.in-Err.fault in
     let found = rw c.as_slice.ensures.value at (at_err _ _ c.in_ok-sets.field-0 fault c.in-Err.is c.in_ok-sets.ensures) in
     set_fault_of n embeds env.params.now names (rule_form_of text c.args.rule.now).right _ fault found
+
+pub returns-in_err-sets : goal.returns-in_err-sets
+returns-in_err-sets c = unless_ok _ c.from_residual.result c.from_residual.ensures.0
+
+pub returns-in_err-push-in-Ok : goal.returns-in_err-push-in-Ok
+returns-in_err-push-in-Ok c = unless_ok _ c.from_residual-in_err-push-in-Ok.result c.from_residual-in_err-push-in-Ok.ensures.0

@@ -5,6 +5,7 @@ use Rattle.gm_forms.specs.Forms.{IsItemIn, item_of}
 use Rattle.gm_forms.specs.Held.{names_held}
 use Rattle.gm_book.proofs.Items.{link_there, node_no_link}
 use Rattle.gm_book.proofs.Onward.{each_on, passed_on, gathered_on, gathered_all}
+use Rattle.gm_model.proofs.Exits.{unless_ok}
 use Rattle.gm_book.proofs.table.links.Goals as goal
 use Rattle.gm_book.proofs.table.links.Goals.{in-Link+in_ok-push, in_default}
 
@@ -38,3 +39,6 @@ loop-item-preserved c =
 
 pub returns : goal.returns
 returns c = gathered_all (item_of c.args.text.now) (links_in (names_held c.args.names.now)) c.args.items.now c.loop-item.item-index _ c.loop-item.links.items c.loop-item-test.false refl c.loop-item.invariant
+
+pub returns-in_err-push : goal.returns-in_err-push
+returns-in_err-push c = unless_ok _ c.from_residual.result c.from_residual.ensures.0

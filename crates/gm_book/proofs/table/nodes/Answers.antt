@@ -7,6 +7,7 @@ use Rattle.gm_forms.specs.Forms.{rule_form_of}
 use Rattle.gm_forms.specs.Held.{names_at}
 use Rattle.gm_book.proofs.Mapped.{seen_more}
 use Rattle.gm_book.proofs.RuleNames.{good_at}
+use Rattle.gm_model.proofs.Exits.{unless_ok}
 use Rattle.gm_book.proofs.table.nodes.Goals as goal
 
 pub node-requires-clause-good : goal.node-requires-clause-good
@@ -20,3 +21,6 @@ loop-name-preserved c =
 
 pub returns : goal.returns
 returns c = c.loop-name.invariant ∙ ap (λ names. map (node_in (rule_form_of c.args.text.now c.args.rule.now) (λ node. [])) (names_at names)) (take_all c.loop-name.name-index c.args.names.now c.loop-name-test.false)
+
+pub returns-in_err-push : goal.returns-in_err-push
+returns-in_err-push c = unless_ok _ c.from_residual.result c.from_residual.ensures.0

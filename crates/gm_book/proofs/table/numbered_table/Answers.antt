@@ -12,6 +12,7 @@ use Rattle.gm_book.specs.declared.table.Values.{Values}
 use Rattle.gm_book.specs.Building.{AreSoundValues}
 use Rattle.gm_book.proofs.Checked.{at_ok, at_err, nodes_mean, rule_sound, values_fault_there}
 use Rattle.gm_book.proofs.ReadSets.{IsAssigned, means_rule}
+use Rattle.gm_model.proofs.Exits.{unless_ok}
 use Rattle.gm_book.proofs.table.numbered_table.Goals as goal
 
 pub returns-in-Ok : goal.returns-in-Ok
@@ -58,3 +59,18 @@ pub hooks-requires : goal.hooks-requires
 hooks-requires c =
     let (within, few) = asked c.args.text.now c.args.rule.now.left.items c.as_slice-3.result.now _ (rule_form_of c.args.text.now c.args.rule.now) c.as_slice-3.ensures.value c.requires.within.2 c.in_ok-take_in_rule.ensures.nodes c.requires.fits.nodes in
     record { within = within; few = few }
+
+pub returns-in_err-take_in_rule : goal.returns-in_err-take_in_rule
+returns-in_err-take_in_rule c = unless_ok _ c.from_residual.result c.from_residual.ensures.0
+
+pub returns-in_err-left_links : goal.returns-in_err-left_links
+returns-in_err-left_links c = unless_ok _ c.from_residual-in_err-left_links.result c.from_residual-in_err-left_links.ensures.0
+
+pub returns-in_err-right_links : goal.returns-in_err-right_links
+returns-in_err-right_links c = unless_ok _ c.from_residual-in_err-right_links.result c.from_residual-in_err-right_links.ensures.0
+
+pub returns-in_err-hooks : goal.returns-in_err-hooks
+returns-in_err-hooks c = unless_ok _ c.from_residual-in_err-hooks.result c.from_residual-in_err-hooks.ensures.0
+
+pub returns-in_err-params : goal.returns-in_err-params
+returns-in_err-params c = unless_ok _ c.from_residual-in_err-params.result c.from_residual-in_err-params.ensures.0

@@ -9,6 +9,7 @@ use Rattle.gm_forms.specs.BookText.{param_of}
 use Rattle.gm_forms.specs.Forms.{IsParamIn, param_form_of}
 use Rattle.gm_book.proofs.Mapped.{pushed_more}
 use Rattle.gm_book.proofs.Onward.{each_on}
+use Rattle.gm_model.proofs.Exits.{unless_ok}
 use Rattle.gm_book.proofs.table.params.Goals as goal
 
 pub bytes_in-requires : goal.bytes_in-requires
@@ -27,3 +28,6 @@ loop-form-preserved c =
 
 pub returns : goal.returns
 returns c = c.loop-form.invariant ∙ ap (λ forms. map param_of (map (param_form_of c.args.text.now) forms)) (take_all c.loop-form.form-index c.args.forms.now c.loop-form-test.false)
+
+pub returns-in_err-push : goal.returns-in_err-push
+returns-in_err-push c = unless_ok _ c.from_residual.result c.from_residual.ensures.0

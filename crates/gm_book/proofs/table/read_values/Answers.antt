@@ -17,6 +17,7 @@ use Rattle.gm_book.specs.Fitting.{IsFitting}
 use Rattle.gm_book.proofs.Checked.{at_ok, at_err, embed_there, values_of, set_fault_in, pre_fault_in}
 use Rattle.gm_book.proofs.ReadSets.{all_known}
 use Rattle.gm_book.proofs.ValueNames.{names_same}
+use Rattle.gm_model.proofs.Exits.{unless_ok}
 use Rattle.gm_book.proofs.table.read_values.Goals as goal
 
 -- the names of what was lent are those of the form
@@ -59,3 +60,21 @@ returns-in-Err-clause-values c =
     let declared : params ≡ map param_of form.params = c.as_slice.ensures.value ∙ c.in_ok-params.ensures.params in
     let same = names_are schema form c.requires.schema c.requires.fits params c.as_slice-2.result.now c.in_ok-params.field-0.nodes.items (names_at c.args.names.now) declared c.as_slice-2.ensures.value c.in_ok-params.ensures.nodes c.requires.numbered in
     set_fault_in schema.dim schema.embeds form params (first_names schema params c.as_slice-2.result.now) declared same c.in-Err.fault (at_err _ _ c.in_ok-assigned.field-0 c.in-Err.fault c.in-Err.is c.in_ok-assigned.ensures)
+
+pub returns-in_err-params-clause-params : goal.returns-in_err-params-clause-params
+returns-in_err-params-clause-params c = unless_ok _ c.from_residual.result c.from_residual.ensures.0
+
+pub returns-in_err-params-clause-values : goal.returns-in_err-params-clause-values
+returns-in_err-params-clause-values c = unless_ok _ c.from_residual.result c.from_residual.ensures.0
+
+pub returns-in_err-assigned-clause-params : goal.returns-in_err-assigned-clause-params
+returns-in_err-assigned-clause-params c = unless_ok _ c.from_residual-in_err-assigned.result c.from_residual-in_err-assigned.ensures.0
+
+pub returns-in_err-assigned-clause-values : goal.returns-in_err-assigned-clause-values
+returns-in_err-assigned-clause-values c = unless_ok _ c.from_residual-in_err-assigned.result c.from_residual-in_err-assigned.ensures.0
+
+pub returns-in_err-pre-in-Ok-clause-params : goal.returns-in_err-pre-in-Ok-clause-params
+returns-in_err-pre-in-Ok-clause-params c = unless_ok _ c.from_residual-in_err-pre-in-Ok.result c.from_residual-in_err-pre-in-Ok.ensures.0
+
+pub returns-in_err-pre-in-Ok-clause-values : goal.returns-in_err-pre-in-Ok-clause-values
+returns-in_err-pre-in-Ok-clause-values c = unless_ok _ c.from_residual-in_err-pre-in-Ok.result c.from_residual-in_err-pre-in-Ok.ensures.0

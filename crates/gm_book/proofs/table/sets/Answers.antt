@@ -24,6 +24,7 @@ use Rattle.gm_book.specs.FirstNameFault.{embed_names, IsLeast, IsValueFault}
 use Rattle.gm_book.specs.Values.{IsValueRead}
 use Rattle.gm_book.proofs.Onward.{each_on}
 use Rattle.gm_book.proofs.ReadSets.{each_read, embed_known, read_among, zip_more}
+use Rattle.gm_model.proofs.Exits.{unless_ok}
 use Rattle.gm_book.proofs.table.sets.Goals as goal
 
 pub checked_value-requires-clause-expr : goal.checked_value-requires-clause-expr
@@ -87,3 +88,9 @@ returns c =
     let env = c.args.env.now in
     subst (λ (forms : List SetForm). AllZip (IsSoundSet env.schema.now.dim env.schema.now.embeds env.params.now (first_names env.schema.now env.params.now env.nodes.now)) (map (set_form_of c.args.text.now) forms) (map assignment_of c.loop-form.sets.items))
     (take_all c.loop-form.form-index c.args.forms.now c.loop-form-test.false) c.loop-form.invariant
+
+pub returns-in_err-expr : goal.returns-in_err-expr
+returns-in_err-expr c = unless_ok _ c.from_residual.result c.from_residual.ensures.0
+
+pub returns-in_err-push-in-Ok : goal.returns-in_err-push-in-Ok
+returns-in_err-push-in-Ok c = unless_ok _ c.from_residual-in_err-push-in-Ok.result c.from_residual-in_err-push-in-Ok.ensures.0

@@ -5,6 +5,7 @@ use Rattle.gm_forms.specs.Forms.{item_of, rule_form_of}
 use Rattle.gm_book.specs.FirstNameFault.{with_items}
 use Rattle.gm_forms.specs.Held.{names_held}
 use Rattle.gm_book.proofs.RuleNames.{rule_names_counted, good_items}
+use Rattle.gm_model.proofs.Exits.{never_ok}
 use Rattle.gm_book.proofs.table.take_in_rule.Goals as goal
 
 module _ (c : goal.In_ok-take_in_nodes-2) where
@@ -26,3 +27,15 @@ returns-clause-good c =
     let rule = c.args.rule.now in
     subst (AllByRecursion IsName) (sym (all_taken c))
     (good_items text rule.right.items _ (good_items text rule.left.items [] tt c.requires.within.2) c.requires.within.3)
+
+pub returns-in_err-take_in_nodes-clause-nodes : goal.returns-in_err-take_in_nodes-clause-nodes
+returns-in_err-take_in_nodes-clause-nodes c = never_ok _ c.from_residual.result c.from_residual.ensures.0
+
+pub returns-in_err-take_in_nodes-clause-good : goal.returns-in_err-take_in_nodes-clause-good
+returns-in_err-take_in_nodes-clause-good c = never_ok _ c.from_residual.result c.from_residual.ensures.0
+
+pub returns-in_err-take_in_nodes-2-clause-nodes : goal.returns-in_err-take_in_nodes-2-clause-nodes
+returns-in_err-take_in_nodes-2-clause-nodes c = never_ok _ c.from_residual-in_err-take_in_nodes-2.result c.from_residual-in_err-take_in_nodes-2.ensures.0
+
+pub returns-in_err-take_in_nodes-2-clause-good : goal.returns-in_err-take_in_nodes-2-clause-good
+returns-in_err-take_in_nodes-2-clause-good c = never_ok _ c.from_residual-in_err-take_in_nodes-2.result c.from_residual-in_err-take_in_nodes-2.ensures.0

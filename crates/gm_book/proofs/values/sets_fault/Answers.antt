@@ -11,6 +11,7 @@ use Rattle.gm_book.proofs.LeastOf.{least_regrouped, least_with_none}
 use Rattle.gm_book.proofs.Onward.{left_on, each_on}
 use Rattle.gm_book.proofs.ReadSets.{each_read}
 use Rattle.gm_book.proofs.ValueFaults.{no_set, least_of_sets}
+use Rattle.gm_model.proofs.Exits.{unless_ok}
 use Rattle.gm_book.proofs.values.sets_fault.Goals as goal
 
 pub bytes_in-requires : goal.bytes_in-requires
@@ -53,3 +54,6 @@ returns c =
     let none : [] ≡ drop l.set-index c.args.sets.now = sym (drop_all l.set-index c.args.sets.now c.loop-set-test.false) in
     let there = subst (λ (ss : List SetForm). IsLeast (IsSetFault schema.dim schema.embeds params names (map (set_form_of text) ss)) None) none (no_set schema.dim schema.embeds params names) in
     subst (IsLeast (IsSetFault schema.dim schema.embeds params names (map (set_form_of text) c.args.sets.now))) (least_with_none l.fault) (l.invariant None there)
+
+pub returns-in_err-value_fault : goal.returns-in_err-value_fault
+returns-in_err-value_fault c = unless_ok _ c.from_residual.result c.from_residual.ensures.0

@@ -7,6 +7,7 @@ use Rattle.gm_forms.specs.Forms.{item_of, rule_form_of}
 use Rattle.gm_book.specs.FirstNameFault.{IsLeast, IsAssignedFault, IsFaultOfValues}
 use Rattle.gm_book.proofs.ValueFaults.{least_of_values}
 use Rattle.gm_book.proofs.ValueNames.{names_same}
+use Rattle.gm_model.proofs.Exits.{unless_ok}
 use Rattle.gm_book.proofs.values.values_fault.Goals as goal
 
 pub returns : goal.returns
@@ -24,3 +25,12 @@ returns c =
     let same : names ≡ names_for embeds rule = names_same schema rule params nodes c.requires.schema.count c.requires.fits.params c.requires.fits.nodes params_are nodes_are in
     let sets = subst (λ (items : List Item). IsLeast (IsAssignedFault n embeds params names (map (item_of bytes) items)) c.in_ok-sets.sets) c.as_slice-3.ensures.value c.in_ok-sets.ensures in
     subst (IsLeast (IsFaultOfValues n embeds rule)) (sym c.earlier.ensures) (least_of_values n embeds params names rule params_are same c.in_ok-sets.sets c.in_ok-pre_fault.field-0 sets c.in_ok-pre_fault.ensures)
+
+pub returns-in_err-params : goal.returns-in_err-params
+returns-in_err-params c = unless_ok _ c.from_residual.result c.from_residual.ensures.0
+
+pub returns-in_err-sets : goal.returns-in_err-sets
+returns-in_err-sets c = unless_ok _ c.from_residual-in_err-sets.result c.from_residual-in_err-sets.ensures.0
+
+pub returns-in_err-pre_fault : goal.returns-in_err-pre_fault
+returns-in_err-pre_fault c = unless_ok _ c.from_residual-in_err-pre_fault.result c.from_residual-in_err-pre_fault.ensures.0

@@ -4,6 +4,7 @@ use Rattle.gm_forms.specs.Forms.{rule_form_of}
 use Rattle.gm_forms.specs.Reading.{PreSlot, Required, Held}
 use Rattle.gm_forms.specs.Standing.{rules_of, current_of}
 use Rattle.gm_forms.proofs.Values.{pre_past, value_fails}
+use Rattle.gm_model.proofs.Exits.{unless_ok}
 use Rattle.gm_forms.proofs.exprs.past_pre_value.Goals as goal
 
 pub returns-in_err-value-clause-past : goal.returns-in_err-value-clause-past
@@ -17,3 +18,12 @@ pub returns-clause-past : goal.returns-clause-past
 returns-clause-past c nodes last =
     pre_past c.args.lexer.now c.skip_value.new.lexer c.in_ok-value.value c.in_ok-value.ensures.over nodes c.args.draft.now c.require.new.self last c.args.heading c.args.rules
     c.in_ok-value.ensures.dim (ap (λ rules. map (rule_form_of c.args.lexer.now.text) rules.items) c.require.ensures.rules) (c.require.ensures.current c.args.lexer.now.text) _ refl
+
+pub returns-in_err-value-clause-onward : goal.returns-in_err-value-clause-onward
+returns-in_err-value-clause-onward c = unless_ok _ c.from_residual.result c.from_residual.ensures.0
+
+pub returns-in_err-value-clause-outside : goal.returns-in_err-value-clause-outside
+returns-in_err-value-clause-outside c = unless_ok _ c.from_residual.result c.from_residual.ensures.0
+
+pub returns-in_err-value-clause-within : goal.returns-in_err-value-clause-within
+returns-in_err-value-clause-within c state_in draft_in = unless_ok _ c.from_residual.result c.from_residual.ensures.0

@@ -4,6 +4,7 @@ use Rattle.gm_forms.specs.Forms.{mention_of, rule_form_of}
 use Rattle.gm_forms.specs.Reading.{SetSlot, Assigned, Held}
 use Rattle.gm_forms.specs.Standing.{rules_of, current_of, spot_of}
 use Rattle.gm_forms.proofs.Values.{set_past, value_fails}
+use Rattle.gm_model.proofs.Exits.{unless_ok}
 use Rattle.gm_forms.proofs.exprs.past_set_value.Goals as goal
 
 pub returns-in_err-value-clause-past : goal.returns-in_err-value-clause-past
@@ -22,3 +23,21 @@ pub returns-clause-past : goal.returns-clause-past
 returns-clause-past c nodes last =
     set_past c.args.lexer.now c.skip_value.new.lexer c.in_ok-value.value c.in_ok-value.ensures.over nodes c.args.draft.now c.assign.new.self last c.args.spot c.args.embed
     c.in_ok-value.ensures.dim (ap (λ rules. map (rule_form_of c.args.lexer.now.text) rules.items) c.in_ok-assign.ensures.rules) (c.in_ok-assign.ensures.current c.args.lexer.now.text)
+
+pub returns-in_err-value-clause-onward : goal.returns-in_err-value-clause-onward
+returns-in_err-value-clause-onward c = unless_ok _ c.from_residual.result c.from_residual.ensures.0
+
+pub returns-in_err-value-clause-outside : goal.returns-in_err-value-clause-outside
+returns-in_err-value-clause-outside c = unless_ok _ c.from_residual.result c.from_residual.ensures.0
+
+pub returns-in_err-value-clause-within : goal.returns-in_err-value-clause-within
+returns-in_err-value-clause-within c state_in draft_in = unless_ok _ c.from_residual.result c.from_residual.ensures.0
+
+pub returns-in_err-assign-clause-onward : goal.returns-in_err-assign-clause-onward
+returns-in_err-assign-clause-onward c = unless_ok _ c.from_residual-in_err-assign.result c.from_residual-in_err-assign.ensures.0
+
+pub returns-in_err-assign-clause-outside : goal.returns-in_err-assign-clause-outside
+returns-in_err-assign-clause-outside c = unless_ok _ c.from_residual-in_err-assign.result c.from_residual-in_err-assign.ensures.0
+
+pub returns-in_err-assign-clause-within : goal.returns-in_err-assign-clause-within
+returns-in_err-assign-clause-within c state_in draft_in = unless_ok _ c.from_residual-in_err-assign.result c.from_residual-in_err-assign.ensures.0

@@ -4,6 +4,7 @@ use Rattle.gm_model.specs.declared.token.Token.{Token}
 use Rattle.gm_text.specs.SchemaAnswers.{marks_left}
 use Rattle.gm_forms.specs.Standing.{IsNext, IsStateIn, IsDraftIn, rules_stand, stand_of, read_on}
 use Rattle.gm_forms.proofs.Onward.{goes_on, stops_here, keeps_on, past_on, past_stops, stray_stops}
+use Rattle.gm_model.proofs.Exits.{unless_ok}
 use Rattle.gm_forms.proofs.first_pass.read_rules.Goals as goal
 
 pub returns-in_err-token-clause-read : goal.returns-in_err-token-clause-read
@@ -76,3 +77,12 @@ loop-token-smaller c =
     let is = subst (λ (found : Option Token). IsNext l.lexer (Ok found) c.next_token.new.lexer) c.in-Some.is c.in_ok-token.ensures.next in
     let within = subst (λ (text : List ℕ). c.in-Some.token.end ≤ length text) l.invariant.0 is.0.within in
     omega (arith, is.2, is.3, within, c.in_ok-state.ensures.onward)
+
+pub returns-in_err-token-clause-within : goal.returns-in_err-token-clause-within
+returns-in_err-token-clause-within c = unless_ok _ c.from_residual.result c.from_residual.ensures.0
+
+pub returns-in_err-next-clause-within : goal.returns-in_err-next-clause-within
+returns-in_err-next-clause-within c = unless_ok _ c.from_residual-in_err-next.result c.from_residual-in_err-next.ensures.0
+
+pub returns-in_err-state-clause-within : goal.returns-in_err-state-clause-within
+returns-in_err-state-clause-within c = unless_ok _ c.from_residual-in_err-state.result c.from_residual-in_err-state.ensures.0

@@ -7,6 +7,7 @@ use Rattle.gm_model.specs.Tokens.{bytes_of}
 use Rattle.gm_forms.specs.Reading.{AtFormat}
 use Rattle.gm_forms.specs.Standing.{IsNext}
 use Rattle.gm_forms.proofs.HeadRead.{at_stray, at_end, at_token, no_word, other_word, book_read}
+use Rattle.gm_model.proofs.Exits.{unless_ok}
 use Rattle.gm_forms.proofs.headers.read_format.Goals as goal
 use Rattle.gm_forms.proofs.headers.read_format.Goals.{then-ne-via-then-ne, then-ne-via-else-ne+then-not-reads}
 
@@ -38,3 +39,6 @@ returns-clause-read c =
     let name : token.kind ≡ kinds.Name = search rules in
     let word : bytes_eq (bytes_of rest.text token) (codes "book") ≡ true = search rules in
     book_read c.args.lexer.now rest token c.in_ok-token.ensures.text is name word
+
+pub returns-in_err-token-clause-read : goal.returns-in_err-token-clause-read
+returns-in_err-token-clause-read c = unless_ok _ c.from_residual.result c.from_residual.ensures.0

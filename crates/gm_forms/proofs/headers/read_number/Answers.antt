@@ -6,6 +6,7 @@ use Rattle.gm_model.specs.Tokens.{bytes_of}
 use Rattle.gm_forms.specs.Reading.{AtVersion}
 use Rattle.gm_forms.specs.Standing.{IsNext}
 use Rattle.gm_forms.proofs.HeadRead.{at_stray, at_end, at_token, no_number, other_version, version_read}
+use Rattle.gm_model.proofs.Exits.{unless_ok}
 use Rattle.gm_forms.proofs.headers.read_number.Goals as goal
 
 pub returns-in_err-token-clause-fault : goal.returns-in_err-token-clause-fault
@@ -40,3 +41,6 @@ returns-clause-read c =
     let number : token.kind ≡ kinds.Number = search rules in
     let known : (c.value-version.result ≡ 1) ⊎ (c.value-version.result ≡ 2) = search rules in
     version_read c.args.lexer.now rest token c.in_ok-token.ensures.text is number c.value-version.result c.value-version.ensures known
+
+pub returns-in_err-token-clause-read : goal.returns-in_err-token-clause-read
+returns-in_err-token-clause-read c = unless_ok _ c.from_residual.result c.from_residual.ensures.0

@@ -7,7 +7,9 @@ use Rattle.gm_forms.specs.BookText.{NodeItem}
 use Rattle.gm_forms.specs.Forms.{rule_form_of, mention_of}
 use Rattle.gm_forms.specs.Reading.{with_item, takes_hook, is_hook_on}
 use Rattle.gm_forms.specs.Standing.{rules_of, current_of}
-use Rattle.gm_forms.proofs.Behind.{behind_moves, hook_moves}
+use Rattle.gm_forms.proofs.Behind.{also_in, behind_moves, hook_moves}
+use Rattle.gm_model.proofs.Exits.{unless_ok}
+use Rattle.gm_forms.proofs.Stops.{memory_wanting}
 use Rattle.gm_forms.proofs.reader.Reader.at_left_behind.Goals as goal
 
 pub returns-then-hook-clause-moves : goal.returns-then-hook-clause-moves
@@ -31,3 +33,15 @@ returns-clause-moves c =
     behind_moves text nodes old put c.args.spot c.args.name c.args.word (bytes_of text c.args.token) c.args.token.start c.at_left_item.result nodes put
     (ap (λ rs. map (rule_form_of text) rs.items) c.in_ok-put_node.ensures.rules) (rw c.requires.side listed) (rw c.requires.side plain) (rw c.requires.side refl)
     (λ last. c.at_left_item.ensures.leads nodes (rules_of text put) (current_of text put) last)
+
+pub returns-in_err-put_node-clause-moves : goal.returns-in_err-put_node-clause-moves
+returns-in_err-put_node-clause-moves c last = memory_wanting _ c.from_residual.result _ c.from_residual.ensures.1
+
+pub returns-in_err-put_node-clause-within : goal.returns-in_err-put_node-clause-within
+returns-in_err-put_node-clause-within c state_in draft_in = unless_ok _ c.from_residual.result c.from_residual.ensures.0
+
+pub returns-then-hook-clause-within : goal.returns-then-hook-clause-within
+returns-then-hook-clause-within c state_in draft_in = (tt, c.in_ok-put_node.ensures.within c.args.lexer.now.text state_in draft_in)
+
+pub returns-clause-within : goal.returns-clause-within
+returns-clause-within c state_in draft_in = let text = c.args.lexer.now.text in also_in text c.put_node.new.self c.at_left_item.result (c.at_left_item.ensures.within tt) (c.in_ok-put_node.ensures.within text state_in draft_in)

@@ -3,6 +3,8 @@ use Rattle.gm_model.specs.Names.{reserved, is_among}
 use Rattle.gm_model.specs.Tokens.{bytes_of}
 use Rattle.gm_forms.specs.Standing.{rules_of, current_of}
 use Rattle.gm_forms.proofs.NameWords.{told, is_long, is_short, name_in, right_reserved, right_long, right_named, right_pre}
+use Rattle.gm_model.proofs.Exits.{unless_ok}
+use Rattle.gm_forms.proofs.Stops.{memory_wanting}
 use Rattle.gm_forms.proofs.reader.Reader.at_right_item.Goals as goal
 
 pub returns-then-reads-clause-within : goal.returns-then-reads-clause-within
@@ -30,3 +32,21 @@ returns-clause-moves c last =
 
 pub returns-clause-within : goal.returns-clause-within
 returns-clause-within c state_in draft_in = let text = c.args.lexer.now.text in (name_in text c.args.token c.text-word.result.now c.requires.token c.requires.kind c.text-word.ensures c.if-word-gt-MOST_NAME_BYTES.false, draft_in)
+
+pub returns-in_err-close-clause-moves : goal.returns-in_err-close-clause-moves
+returns-in_err-close-clause-moves c last = memory_wanting _ c.from_residual.result _ c.from_residual.ensures.1
+
+pub returns-in_err-close-clause-within : goal.returns-in_err-close-clause-within
+returns-in_err-close-clause-within c state_in draft_in = unless_ok _ c.from_residual.result c.from_residual.ensures.0
+
+pub returns-in_default-clause-within : goal.returns-in_default-clause-within
+returns-in_default-clause-within c state_in draft_in = tt
+
+pub returns-then-reads-2-clause-within : goal.returns-then-reads-2-clause-within
+returns-then-reads-2-clause-within c state_in draft_in = (tt, draft_in)
+
+pub returns-then-is_reserved-clause-within : goal.returns-then-is_reserved-clause-within
+returns-then-is_reserved-clause-within c state_in draft_in = tt
+
+pub returns-then-word-gt-MOST_NAME_BYTES-clause-within : goal.returns-then-word-gt-MOST_NAME_BYTES-clause-within
+returns-then-word-gt-MOST_NAME_BYTES-clause-within c state_in draft_in = tt

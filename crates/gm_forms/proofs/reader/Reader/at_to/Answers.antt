@@ -5,6 +5,8 @@ use Rattle.gm_forms.specs.Forms.{rule_form_of, IsIn}
 use Rattle.gm_forms.specs.Standing.{rules_of, current_of}
 use Rattle.gm_forms.proofs.Behind.{to_moves}
 use Rattle.gm_forms.proofs.NameWords.{told, is_long, is_short, name_in, to_reserved, to_long}
+use Rattle.gm_model.proofs.Exits.{unless_ok}
+use Rattle.gm_forms.proofs.Stops.{memory_wanting}
 use Rattle.gm_forms.proofs.reader.Reader.at_to.Goals as goal
 
 pub returns-clause-moves : goal.returns-clause-moves
@@ -34,3 +36,9 @@ returns-then-word-gt-MOST_NAME_BYTES-clause-moves c last =
     to_long text c.args.token (told (is_among reserved) c.is_reserved.result _ c.text-word.result.now (bytes_of text c.args.token) c.is_reserved.ensures c.text-word.ensures c.if-is_reserved.false)
     (is_long c.text-word.result.now (bytes_of text c.args.token) c.text-word.ensures c.if-word-gt-MOST_NAME_BYTES.true)
     c.args.spot c.args.from c.args.label c.args.self.now.nodes (rules_of text c.args.self.now.draft) (current_of text c.args.self.now.draft) last
+
+pub returns-in_err-put-clause-moves : goal.returns-in_err-put-clause-moves
+returns-in_err-put-clause-moves c last = memory_wanting _ c.from_residual.result _ c.from_residual.ensures.1
+
+pub returns-in_err-put-clause-within : goal.returns-in_err-put-clause-within
+returns-in_err-put-clause-within c state_in draft_in = unless_ok _ c.from_residual.result c.from_residual.ensures.0

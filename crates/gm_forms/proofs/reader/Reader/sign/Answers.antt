@@ -1,5 +1,6 @@
 use Rattle.gm_forms.specs.Standing.{sign_mark, rules_of, current_of}
 use Rattle.gm_forms.proofs.Behind.{moves_from, stays_at, stays_keeps_at}
+use Rattle.gm_forms.proofs.Stops.{sign_stops}
 use Rattle.gm_forms.proofs.reader.Reader.sign.Goals as goal
 
 pub returns-in-Left-clause-moves : goal.returns-in-Left-clause-moves
@@ -46,3 +47,9 @@ returns-in-Equal-clause-moves c = stays_at c.args.lexer.now.text c.args.self.now
 
 pub returns-in-Equal-clause-within : goal.returns-in-Equal-clause-within
 returns-in-Equal-clause-within c = stays_keeps_at c.args.lexer.now.text c.args.self.now.draft c.at_equal.result c.in-Equal.is c.at_equal.ensures.within
+
+pub returns-in_default-clause-moves : goal.returns-in_default-clause-moves
+returns-in_default-clause-moves c = sign_stops c.args.lexer.now.text c.args.self.now.nodes c.args.self.now.draft c.args.token c.args.state c.requires.outside c.in_default.not-Left c.in_default.not-Colon c.in_default.not-Comma c.in_default.not-Sign c.in_default.not-Letter c.in_default.not-Equal c.in_default.not-Dash c.args.last
+
+pub returns-in_default-clause-within : goal.returns-in_default-clause-within
+returns-in_default-clause-within c state_in draft_in = tt

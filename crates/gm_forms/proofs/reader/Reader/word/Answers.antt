@@ -1,5 +1,6 @@
 use Rattle.gm_forms.specs.Standing.{word_mark}
 use Rattle.gm_forms.proofs.Behind.{moves_at, stays_at, keeps_in_at, stays_keeps_at}
+use Rattle.gm_forms.proofs.Stops.{word_stops}
 use Rattle.gm_forms.proofs.reader.Reader.word.Goals as goal
 
 pub returns-in-Rules-clause-moves : goal.returns-in-Rules-clause-moves
@@ -73,3 +74,9 @@ returns-in-RuleEnd-clause-moves c = moves_at c.args.lexer.now.text c.args.self.n
 
 pub returns-in-RuleEnd-clause-within : goal.returns-in-RuleEnd-clause-within
 returns-in-RuleEnd-clause-within c = keeps_in_at c.args.lexer.now.text c.args.self.now.draft c.at_rule_end.result c.at_rule_end.new.self.draft c.in-RuleEnd.is c.at_rule_end.ensures.within
+
+pub returns-in_default-clause-moves : goal.returns-in_default-clause-moves
+returns-in_default-clause-moves c = word_stops c.args.lexer.now.text c.args.self.now.nodes c.args.self.now.draft c.args.token c.args.state c.requires.outside c.in_default.not-Rules c.in_default.not-Name c.in_default.not-Left c.in_default.not-Param c.in_default.not-Kind c.in_default.not-Body c.in_default.not-Item c.in_default.not-Behind c.in_default.not-Assigned c.in_default.not-Set c.in_default.not-RuleEnd c.in_default.not-To
+
+pub returns-in_default-clause-within : goal.returns-in_default-clause-within
+returns-in_default-clause-within c state_in draft_in = tt

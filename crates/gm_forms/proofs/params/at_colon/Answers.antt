@@ -1,0 +1,15 @@
+use Rattle.std.proofs.Common.{sym, ◌∙◌}
+use Rattle.gm_forms.proofs.OneToken.{no_colon, colon}
+use Rattle.gm_forms.proofs.params.at_colon.Goals as goal
+
+pub returns-then-not-reads-clause-leads : goal.returns-then-not-reads-clause-leads
+returns-then-not-reads-clause-leads c = no_colon c.args.lexer.now.text c.args.token c.args.heading c.args.rules c.args.count c.args.name (sym c.reads.ensures ∙ c.if-not-reads.true)
+
+pub returns-then-not-reads-clause-within : goal.returns-then-not-reads-clause-within
+returns-then-not-reads-clause-within c state_in = tt
+
+pub returns-clause-leads : goal.returns-clause-leads
+returns-clause-leads c = colon c.args.lexer.now.text c.args.token c.args.heading c.args.rules c.args.count c.args.name (sym c.reads.ensures ∙ c.if-not-reads.false)
+
+pub returns-clause-within : goal.returns-clause-within
+returns-clause-within c state_in = state_in
