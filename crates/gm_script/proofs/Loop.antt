@@ -1,5 +1,5 @@
 -- Statements that are compared as they are read: what was read and compared so far, and what that says at each end.
-use Rattle.std.proofs.Common.{◌≡◌, ℕ, ◌-◌, ◌≤◌, List, [], ◌∷◌, ◌++◌, true, false, Option, Some, None, is_some, Result, Ok, Err, IfOk, IfErr, refl, sym, ap, subst, ◌∙◌, arith}
+use Rattle.std.proofs.Common.{◌≡◌, ℕ, ◌-◌, ◌≤◌, List, [], ◌∷◌, ◌++◌, true, false, Option, Some, None, is_some, Result, Ok, Err, IfOk, IfErr, OnOk, refl, sym, ap, subst, ◌∙◌, arith}
 use Rattle.std.proofs.lemmas.List.{append-nil}
 use Rattle.gm_model.specs.declared.script.Script.{Script}
 use Rattle.gm_model.specs.Statements.{Stat}
@@ -11,10 +11,10 @@ use Rattle.gm_script.specs.ScriptText.{ScriptText, Disagreement}
 use Rattle.gm_script.specs.Comparing.{stat_for, stats_for}
 use Rattle.gm_script.specs.Comparing as comparing
 use Rattle.gm_script.specs.Faults.{of_text, IsFaultOf, Says, unless}
-use Rattle.gm_script.specs.Reading.{HeldStat, Held, Stop, been_of, sight_of, symbol_at, next_spot, passed_in, hold, hold_head, hold_number, hold_vector, taken, taken_at, finished, read_from, ended_by, put_first, nothing, stats_of, Fails, IsStray, ◌>>=◌, IsInText}
+use Rattle.gm_script.specs.Reading.{HeldStat, Held, Stop, before_head, been_of, sight_of, symbol_at, next_spot, passed_in, hold, hold_head, hold_number, hold_vector, taken, taken_at, finished, read_from, ended_by, put_first, nothing, stats_of, Fails, IsStray, ◌>>=◌, IsInText}
 use Rattle.gm_text.specs.Cursor.{Cursor}
 use Rattle.gm_text.specs.Lexing.{rest_of}
-use Rattle.gm_script.specs.SoFar.{behind, Holds, Adds, IsSoFar}
+use Rattle.gm_script.specs.SoFar.{behind, Holds, Adds, IsSoFar, IsCompared}
 use Rattle.gm_script.specs.declared.fault.ScriptFault.{ScriptFault}
 use Rattle.gm_script.specs.declared.fault.ScriptFault.TheVariants as faults
 use Rattle.gm_script.specs.declared.reader.TextFault.{TextFault}
@@ -80,6 +80,28 @@ module _ (text : List ℕ) (token : Token) (inside : IsInText text token) (held 
       let same : record (hold held.spot sight token held) { spot = spot } ≡ next = cc e in
       subst (NameIn text) same (held_named held.spot sight)
 
+-- ---- a statement that ends holds nothing of what is read next
+
+taken_same : (to : Option Spot) (passed : Option Passed) (sight : Sight) (token : Token) (one other : Held) → hold one.spot sight token one ≡ hold other.spot sight token other
+    → taken to passed sight token one ≡ taken to passed sight token other
+taken_same None passed sight token one other e = refl
+taken_same (Some spot) (Some what) sight token one other e = refl
+taken_same (Some spot) None sight token one other e = ap (λ (held : Held). let next : Result Held Stop = Ok (record held { spot = spot }) in next) e
+
+begun_same : (n : ℕ) (spot : Spot) (head : Head) (token : Token) (held : Held) (stat : HeldStat) → before_head spot stat ≡ Some stat
+    → taken_at n (sights.Begins head) token (record held { spot = spot; stat = stat }) ≡ taken_at n (sights.Begins head) token (record held { spot = spot })
+begun_same n spots.Start head token held stat e = absurd cc
+begun_same n spots.Apply head token held stat e = absurd cc
+begun_same n spots.Over head token held stat e = absurd cc
+begun_same n spot head token held stat e =
+    taken_same (next_spot held.within spot (sights.Begins head)) (passed_in n spot (been_of held) (sights.Begins head) (token.end - token.start)) (sights.Begins head) token
+    (record held { spot = spot; stat = stat }) (record held { spot = spot }) refl
+
+pub ended_same : (n : ℕ) (sight : Sight) (token : Token) (held : Held) (stat : HeldStat) → ended_by held.spot sight stat ≡ Some stat
+    → taken_at n sight token (record held { stat = stat }) ≡ taken_at n sight token held
+ended_same n (sights.Begins head) token held stat e = begun_same n held.spot head token held stat e
+ended_same n sight token held stat e = absurd cc
+
 -- ---- what was read so far
 
 behind_none : (read : Result (List HeldStat) Stop) → behind [] read ≡ read
@@ -139,6 +161,14 @@ module _ (text : List ℕ) (rules : List Rule) where
     fault_added None stats fault there e says = rw (stats_more helds held, e) (says_on fault (stat_for text rules held) (λ stat. Ok (stats ++ stat ∷ [])) says)
     fault_added (Some other) stats fault there e says = absurd cc
 
+  pub adds_same : (stat : Option HeldStat) (compared : Result (List Stat) ScriptFault) → stat ≡ None → Adds text rules stat compared compared
+  adds_same stat compared none = rw none (λ helds holds. rw (append-nil helds) holds)
+
+  pub adds_one : {A : Type 0} (result : Result A ScriptFault) (stat : Option HeldStat) (one : HeldStat) (old new : Result (List Stat) ScriptFault) → stat ≡ Some one
+      → ((helds : List HeldStat) → Holds text rules old helds → OnOk result (Holds text rules new (helds ++ one ∷ []))) → OnOk result (Adds text rules stat old new)
+  adds_one (Ok x) stat one old new e adds = rw e (λ helds holds. adds helds holds)
+  adds_one (Err fault) stat one old new e adds = tt
+
   module _ (n : ℕ) where
     pub starts : n ≤ 7 → IsSoFar n text rules nothing (items_of text) (Ok [])
     starts low = record { low = low; before = []; read = behind_none (stats_of n text); holds = refl; named = record { order = omega arith; within = omega arith } }
@@ -183,20 +213,22 @@ module _ (text : List ℕ) (rules : List Rule) where
           named = taken_named text token inside held so_far.named (next_spot held.within held.spot (sight_of (symbol_at text token))) (passed_in n held.spot (been_of held) (sight_of (symbol_at text token)) (token.end - token.start)) (sight_of (symbol_at text token)) next e;
         }
 
-    -- all statements are compared
-    pub record IsDone (compared : Result (List Stat) ScriptFault) : Type 0 where
-      pub low : n ≤ 7
-      pub helds : List HeldStat
-      pub read : stats_of n text ≡ Ok helds
-      pub holds : Holds text rules compared helds
-
     pub ends : (held : Held) (place : ℕ) (last : Option HeldStat) (old new : Result (List Stat) ScriptFault) → IsSoFar n text rules held (EndAt place ∷ []) old
-        → finished place held ≡ Ok last → Adds text rules last old new → IsDone new
+        → finished place held ≡ Ok last → Adds text rules last old new → IsCompared n text rules new
     ends held place last old new so_far e adds =
         let step : read_from n text held (EndAt place ∷ []) ≡ Ok (put_first last []) = rw e refl in
         record { low = so_far.low; helds = so_far.before ++ put_first last []; read = sym so_far.read ∙ ap (behind so_far.before) step; holds = adds so_far.before so_far.holds }
 
-    module _ (compared : Result (List Stat) ScriptFault) (done : IsDone compared) where
+    pub ends_with : {A : Type 0} (result : Result A ScriptFault) (held : Held) (place : ℕ) (old new : Result (List Stat) ScriptFault) → IsSoFar n text rules held (EndAt place ∷ []) old
+        → finished place held ≡ Ok (Some held.stat) → ((helds : List HeldStat) → Holds text rules old helds → OnOk result (Holds text rules new (helds ++ held.stat ∷ []))) → OnOk result (IsCompared n text rules new)
+    ends_with (Ok x) held place old new so_far e adds = ends held place (Some held.stat) old new so_far e adds
+    ends_with (Err fault) held place old new so_far e adds = tt
+
+    pub memory_fails : {A : Type 0} (result : Result A ScriptFault) → IfErr result (λ fault. fault ≡ faults.OutOfMemory) → IfErr result (IsFaultOf text n rules)
+    memory_fails (Ok x) e = tt
+    memory_fails (Err fault) e = rw e tt
+
+    module _ (compared : Result (List Stat) ScriptFault) (done : IsCompared n text rules compared) where
       pub done_script : (result : Result Script ScriptFault) → IfOk result (λ all. compared ≡ Ok all.stats) → IfOk result (λ all. ScriptText text n rules all.stats)
       done_script (Ok all) e =
           let holds : Holds text rules (Ok all.stats) done.helds = rw e at done.holds in

@@ -1,10 +1,12 @@
 -- What was read of a text so far, and the statements that were compared.
-use Rattle.std.specs.Prelude.{◌≡◌, ◌-◌, ◌≤◌, ℕ, List, [], ◌++◌, take, drop, Option, Some, Result, Ok, Err}
+use Rattle.std.specs.Prelude.{◌≡◌, ◌-◌, ◌<◌, ◌≤◌, ℕ, Bool, true, false, List, [], ◌∷◌, ◌++◌, length, take, drop, Option, Some, Result, Ok, Err}
 use Rattle.gm_model.specs.Statements.{Stat}
 use Rattle.gm_model.specs.Rules.{Rule}
-use Rattle.gm_model.specs.Tokens.{Item}
+use Rattle.gm_model.specs.Tokens.{Item, EndAt}
+use Rattle.gm_text.specs.Cursor.{Cursor}
+use Rattle.gm_text.specs.Lexing.{rest_of}
 use Rattle.gm_script.specs.Comparing.{stats_for}
-use Rattle.gm_script.specs.Faults.{Compares}
+use Rattle.gm_script.specs.Faults.{Compares, IsFaultOf}
 use Rattle.gm_script.specs.Reading.{HeldStat, Held, Stop, put_first, read_from, stats_of, IsInText, IsNameLead}
 use Rattle.gm_script.specs.ScriptText.{index_of}
 use Rattle.gm_script.specs.declared.near.NameLead.{NameLead}
@@ -31,6 +33,32 @@ pub record IsSoFar (n : ℕ) (text : List ℕ) (rules : List Rule) (held : Held)
   pub read : behind before (read_from n text held items) ≡ stats_of n text
   pub holds : Holds text rules compared before
   pub named : IsInText text held.stat.name
+
+-- one token or more were read on from the old place, and this is held and compared so far
+pub record IsOneOn (n : ℕ) (bytes : List ℕ) (rules : List Rule) (old : Cursor) (held : Held) (new : Cursor) (compared : Result (List Stat) ScriptFault) : Type 0 where
+  pub text : new.text ≡ old.text
+  pub inside : old.place < length old.text
+  pub moved : old.place < new.place
+  pub so_far : IsSoFar n bytes rules held (rest_of new) compared
+
+-- what reading the beginning of a line comes to, where `true` says that one was read
+abbrev pub BeginsLine : ℕ → List ℕ → List Rule → Cursor → Held → Cursor → Result (List Stat) ScriptFault → Result Bool ScriptFault → Type 0
+BeginsLine n text rules old held new compared (Ok true) = IsOneOn n text rules old held new compared
+BeginsLine n text rules old held new compared (Ok false) = (new ≡ old) × IsSoFar n text rules held (rest_of new) compared
+BeginsLine n text rules old held new compared (Err fault) = IsFaultOf text n rules fault
+
+-- what reading what stands next comes to, where `false` says that the text has ended
+abbrev pub ReadsNext : ℕ → List ℕ → List Rule → Cursor → Held → Cursor → Result (List Stat) ScriptFault → Result Bool ScriptFault → Type 0
+ReadsNext n text rules old held new compared (Ok true) = IsOneOn n text rules old held new compared
+ReadsNext n text rules old held new compared (Ok false) = IsSoFar n text rules held (EndAt (length text) ∷ []) compared
+ReadsNext n text rules old held new compared (Err fault) = IsFaultOf text n rules fault
+
+-- all statements of the text are compared
+pub record IsCompared (n : ℕ) (text : List ℕ) (rules : List Rule) (compared : Result (List Stat) ScriptFault) : Type 0 where
+  pub low : n ≤ 7
+  pub helds : List HeldStat
+  pub read : stats_of n text ≡ Ok helds
+  pub holds : Holds text rules compared helds
 
 -- a name between two blanks that is one of the rules' names, with that rule's index
 pub record IsKnown (rules : List Rule) (lead : NameLead) : Type 0 where

@@ -19,11 +19,12 @@ use std::marker::Model;
 /// The bytes of the shortest line, `apply a`, and a blank behind it.
 const LEAST_LINE_BYTES: usize = 8;
 
-/// Whether the statement is one of the rule, whose parameters' kinds then have taken its values.
+/// The index, where the statement is one of the rule that has it, whose parameters' kinds then have
+/// taken its values.
 // Inlined, as `add` is.
 #[inline(always)]
-fn fit_rule(draft: &mut Draft, rule: &RuleTable) -> Result<(), ScriptFault>
-    ensures { (k : ℕ) → Compares (λ _. comparing.stat_of draft.new.head draft.new k draft.new.values) result (comparing.stat_of_rule draft.old k (Some (rule_of rule.now))) }
+fn fit_rule(draft: &mut Draft, rule: &RuleTable, index: u16) -> Result<u16, ScriptFault>
+    ensures { Compares (λ k. comparing.stat_of draft.new.head draft.new k draft.new.values) result (comparing.stat_of_rule draft.old index (Some (rule_of rule.now))) }
 {
     let place = draft.place;
     if draft.hook_count() != rule.hooks.as_slice().len() {
@@ -32,7 +33,7 @@ fn fit_rule(draft: &mut Draft, rule: &RuleTable) -> Result<(), ScriptFault>
     if !draft.fit(rule.params.as_slice()) {
         return Err(ScriptFault::Params { place });
     }
-    Ok(())
+    Ok(index)
 }
 
 /// The index of the rule that the statement names, and is one of.
@@ -52,8 +53,7 @@ fn index_of_rule(
     let Some(index) = index_of_name(bytes, name, rules, known) else {
         return Err(ScriptFault::UnknownRule { place: name.start });
     };
-    fit_rule(draft, &rules.as_slice()[index as usize])?;
-    Ok(index)
+    fit_rule(draft, &rules.as_slice()[index as usize], index)
 }
 
 /// The index of the rule that the statement names, or 0 where it is one that names none.

@@ -1,14 +1,16 @@
 //! What a script says so far, as its tokens are read one after another.
-ghost use Rattle.std.specs.Prelude.{◌≡◌, ◌-◌, ◌<◌, ◌≤◌, ℕ, Some, None, IsTrue, IsFalse, map, OnOk, IfErr, IfSome, if◌then◌else◌};
+ghost use Rattle.std.specs.Prelude.{◌≡◌, ◌-◌, ◌<◌, ◌≤◌, ◌∷◌, ℕ, [], Some, None, IsTrue, IsFalse, length, map, OnOk, IfErr, IfSome, if◌then◌else◌};
 ghost use Rattle.gm_model.specs.declared.token.Token.{Token};
 ghost use Rattle.gm_model.specs.Rules.{rule_of};
 ghost use Rattle.gm_model.specs.Statements.{stat_of};
+ghost use Rattle.gm_model.specs.Tokens.{EndAt};
 ghost use Rattle.gm_text.specs.SchemaText.{LimitOf};
 ghost use Rattle.gm_text.specs.ValueText as numbers;
 ghost use Rattle.gm_script.specs.Comparing as comparing;
+ghost use Rattle.gm_script.specs.Faults.{IsFaultOf};
 ghost use Rattle.gm_script.specs.Reading as reading;
 ghost use Rattle.gm_script.specs.Reading.{Gives, IsInText, passed_of};
-ghost use Rattle.gm_script.specs.SoFar.{Adds, IsKnown};
+ghost use Rattle.gm_script.specs.SoFar.{Adds, IsCompared, IsKnown, IsSoFar};
 
 use crate::comparing::Compared;
 use crate::fault::ScriptFault;
@@ -17,7 +19,7 @@ use crate::rules::RulesByName;
 use crate::sight::{Head, Sight};
 use crate::spot::Spot;
 use crate::values::fit;
-use gm_model::{LimitKind, LineRef, MOST_NAMES, Mask, Param, StatRef, Token, Value};
+use gm_model::{Dim, LimitKind, LineRef, MOST_NAMES, Mask, Param, StatRef, Token, Value};
 use gm_text::with_label;
 use std::alloc::{AllocError, AllocFailed, Global};
 use std::marker::Model;
@@ -213,11 +215,10 @@ impl Reader {
         ensures next { (top : ℕ) (token : Token) → reading.taken_at top sight token self.new ≡ reading.taken_at top sight token self.old }
         ensures err { IfErr result (λ fault. fault ≡ ScriptFault.OutOfMemory) }
     {
-        match (sight, self.spot) {
-            (Sight::Begins(_), Spot::Start | Spot::Apply | Spot::Over) => Ok(()),
-            (Sight::Begins(_), _) => compared.add(bytes, &mut self.stat, rules, known),
-            _ => Ok(()),
+        if self.spot.ends_stat(sight) {
+            return compared.add(bytes, &mut self.stat, rules, known);
         }
+        Ok(())
     }
 
     /// Reads the word `apply`, where the statement before it is whole.
@@ -288,24 +289,32 @@ impl Reader {
         self.hook(hook)
     }
 
-    /// The last statement, if there is one, where the text ends at this place.
-    pub(crate) fn finish(self, place: usize) -> Result<Option<Draft>, TextFault>
-        ensures { Gives (λ stat. stat) result (reading.finished place self) }
+    /// Compares the last statement, if there is one, where the text ends.
+    pub(crate) fn end_text(
+        &mut self,
+        bytes: &[u8],
+        dim: Dim,
+        rules: &RulesByName<'_>,
+        compared: &mut Compared,
+    ) -> Result<(), ScriptFault>
+        requires so_far { IsSoFar dim bytes.now (map rule_of rules.now) self.old (EndAt (length bytes.now) ∷ []) compared.old }
+        ensures all { OnOk result (IsCompared dim bytes.now (map rule_of rules.now) compared.new) }
+        ensures fault { IfErr result (IsFaultOf bytes.now dim (map rule_of rules.now)) }
     {
-        let Reader {
-            spot,
-            within,
-            stat,
-            ..
-        } = self;
-        if within || !spot.is_whole() {
+        if self.has_last(bytes.len())? {
+            return compared.add(bytes, &mut self.stat, rules, &None);
+        }
+        Ok(())
+    }
+
+    /// Whether there is a last statement, where the text ends at this place.
+    fn has_last(&self, place: usize) -> Result<bool, TextFault>
+        ensures { Gives (λ has. if has then Some self.now.stat else None) result (reading.finished place self.now) }
+    {
+        if self.within || !self.spot.is_whole() {
             return Err(TextFault::Text { place });
         }
-        Ok(if spot == Spot::Start {
-            None
-        } else {
-            Some(stat)
-        })
+        Ok(!matches!(self.spot, Spot::Start))
     }
 
     /// What the token passes, where it can stand.

@@ -2,7 +2,7 @@
 //!
 //! The reader knows the grammar and its limits alone. Each statement is compared with the book as
 //! soon as it is whole, and where one disagrees, the text is read on: a fault of the text comes first.
-ghost use Rattle.std.specs.Prelude.{◌≡◌, ◌<◌, ◌∷◌, ℕ, [], length, map, IsTrue, IsFalse, OnOk, IfOk, IfErr, IfSome};
+ghost use Rattle.std.specs.Prelude.{◌≡◌, ◌∷◌, ℕ, [], length, map, OnOk, IfOk, IfErr, IfSome};
 ghost use Rattle.gm_model.specs.Rules.{rule_of};
 ghost use Rattle.gm_model.specs.Tokens.{EndAt};
 ghost use Rattle.gm_text.specs.Lexing.{rest_of};
@@ -10,8 +10,7 @@ ghost use Rattle.gm_script.specs.ScriptText.{ScriptText};
 ghost use Rattle.gm_script.specs.Faults.{IsFaultOf};
 ghost use Rattle.gm_script.specs.FirstRules.{first_rules};
 ghost use Rattle.gm_script.specs.Reading.{nothing, read_from, Fails, ReadsOn, IsInText};
-ghost use Rattle.gm_script.specs.SoFar.{IsKnown, IsSoFar};
-ghost use Rattle.gm_script.specs.declared.spot.Spot.{Spot};
+ghost use Rattle.gm_script.specs.SoFar.{BeginsLine, ReadsNext, IsCompared, IsKnown, IsSoFar};
 
 use crate::comparing::Compared;
 use crate::fault::ScriptFault;
@@ -26,11 +25,14 @@ use gm_text::{Lexer, Token, TokenKind};
 use std::alloc::Global;
 
 /// Reads the hooks that stand next, as long as they are small numbers with one blank before them.
+/// Where none can stand, nothing is read.
 fn read_hooks(lexer: &mut Lexer<'_>, reader: &mut Reader) -> Result<(), TextFault>
-    requires spot { reader.old.spot ≡ Spot.Rule }
     ensures ok { OnOk result (ReadsOn reader.old reader.new lexer.old lexer.new) }
     ensures err { IfErr result (λ fault. (n : ℕ) → Fails fault (read_from n lexer.old.text reader.old (rest_of lexer.old))) }
 {
+    let Spot::Rule = reader.spot() else {
+        return Ok(());
+    };
     while let Some(number) = lexer.small_number() {
         let token = Token {
             kind: TokenKind::Number,
@@ -42,19 +44,8 @@ fn read_hooks(lexer: &mut Lexer<'_>, reader: &mut Reader) -> Result<(), TextFaul
     Ok(())
 }
 
-/// The same where hooks can stand, and elsewhere nothing.
-fn read_hooks_there(lexer: &mut Lexer<'_>, reader: &mut Reader) -> Result<(), TextFault>
-    ensures ok { OnOk result (ReadsOn reader.old reader.new lexer.old lexer.new) }
-    ensures err { IfErr result (λ fault. (n : ℕ) → Fails fault (read_from n lexer.old.text reader.old (rest_of lexer.old))) }
-{
-    if reader.spot() == Spot::Rule {
-        return read_hooks(lexer, reader);
-    }
-    Ok(())
-}
-
-/// Reads the rule's name that stands next, if it has one blank before it and is no word that scripts
-/// have for something else.
+/// Reads an application's name that stands next, if it has one blank before it and is no word that
+/// scripts have for something else. Where none is looked for, nothing is read.
 fn read_name<'a>(
     bytes: &'a [u8],
     lexer: &mut Lexer<'a>,
@@ -64,33 +55,15 @@ fn read_name<'a>(
 ) -> Result<(), TextFault>
     requires text { lexer.old.text ≡ bytes.now }
     requires known { IfSome known.old (IsKnown (map rule_of rules.now)) }
-    requires spot { reader.old.spot ≡ Spot.Apply }
     ensures known { IfSome known.new (IsKnown (map rule_of rules.now)) }
     ensures ok { OnOk result (ReadsOn reader.old reader.new lexer.old lexer.new) }
     ensures err { IfErr result (λ fault. (n : ℕ) → Fails fault (read_from n lexer.old.text reader.old (rest_of lexer.old))) }
 {
+    let Spot::Apply = reader.spot() else {
+        return Ok(());
+    };
     if let Some(token) = next_name(bytes, lexer, rules, known) {
         reader.take_name(token)?;
-    }
-    Ok(())
-}
-
-/// The same where an application's name stands next, and elsewhere nothing.
-fn read_name_there<'a>(
-    bytes: &'a [u8],
-    lexer: &mut Lexer<'a>,
-    rules: &RulesByName<'_>,
-    reader: &mut Reader,
-    known: &mut Option<NameLead>,
-) -> Result<(), TextFault>
-    requires text { lexer.old.text ≡ bytes.now }
-    requires known { IfSome known.old (IsKnown (map rule_of rules.now)) }
-    ensures known { IfSome known.new (IsKnown (map rule_of rules.now)) }
-    ensures ok { OnOk result (ReadsOn reader.old reader.new lexer.old lexer.new) }
-    ensures err { IfErr result (λ fault. (n : ℕ) → Fails fault (read_from n lexer.old.text reader.old (rest_of lexer.old))) }
-{
-    if reader.spot() == Spot::Apply {
-        return read_name(bytes, lexer, rules, reader, known);
     }
     Ok(())
 }
@@ -110,8 +83,8 @@ fn read_on<'a>(
     ensures ok { OnOk result (ReadsOn reader.old reader.new lexer.old lexer.new) }
     ensures err { IfErr result (λ fault. (n : ℕ) → Fails fault (read_from n lexer.old.text reader.old (rest_of lexer.old))) }
 {
-    read_name_there(bytes, lexer, rules, reader, known)?;
-    read_hooks_there(lexer, reader)
+    read_name(bytes, lexer, rules, reader, known)?;
+    read_hooks(lexer, reader)
 }
 
 /// Reads the word `apply` with which a line begins, where one stands next behind a whole statement. That
@@ -128,14 +101,8 @@ fn begin_line<'a>(
     requires text { lexer.old.text ≡ bytes.now }
     requires known { IfSome known.now (IsKnown (map rule_of rules.now)) }
     requires named { IsInText bytes.now reader.old.stat.name }
-    ensures text { lexer.new.text ≡ lexer.old.text }
-    ensures inside { IfOk result (λ began. IsTrue began → lexer.old.place < length lexer.old.text) }
-    ensures moved { IfOk result (λ began. IsTrue began → lexer.old.place < lexer.new.place) }
-    ensures none { IfOk result (λ began. IsFalse began → lexer.new ≡ lexer.old) }
-    ensures so_far { (n : ℕ) → IsSoFar n bytes.now (map rule_of rules.now) reader.old (rest_of lexer.old) compared.old
-        → OnOk result (IsSoFar n bytes.now (map rule_of rules.now) reader.new (rest_of lexer.new) compared.new) }
-    ensures fault { (n : ℕ) → IsSoFar n bytes.now (map rule_of rules.now) reader.old (rest_of lexer.old) compared.old
-        → IfErr result (IsFaultOf bytes.now n (map rule_of rules.now)) }
+    ensures { (n : ℕ) → IsSoFar n bytes.now (map rule_of rules.now) reader.old (rest_of lexer.old) compared.old
+        → BeginsLine n bytes.now (map rule_of rules.now) lexer.old reader.new lexer.new compared.new result }
 {
     if !reader.spot().is_whole() {
         return Ok(false);
@@ -162,12 +129,7 @@ fn read_token<'a>(
     requires text { lexer.old.text ≡ bytes.now }
     requires known { IfSome known.now (IsKnown (map rule_of rules.now)) }
     requires so_far { IsSoFar top bytes.now (map rule_of rules.now) reader.old (rest_of lexer.old) compared.old }
-    ensures text { lexer.new.text ≡ lexer.old.text }
-    ensures inside { IfOk result (λ more. IsTrue more → lexer.old.place < length lexer.old.text) }
-    ensures moved { IfOk result (λ more. IsTrue more → lexer.old.place < lexer.new.place) }
-    ensures so_far { IfOk result (λ more. IsTrue more → IsSoFar top bytes.now (map rule_of rules.now) reader.new (rest_of lexer.new) compared.new) }
-    ensures all { IfOk result (λ more. IsFalse more → IsSoFar top bytes.now (map rule_of rules.now) reader.new (EndAt (length bytes.now) ∷ []) compared.new) }
-    ensures fault { IfErr result (IsFaultOf bytes.now top (map rule_of rules.now)) }
+    ensures { ReadsNext top bytes.now (map rule_of rules.now) lexer.old reader.new lexer.new compared.new result }
 {
     let Some(seen) = next_seen(bytes, lexer, reader.spot())? else {
         return Ok(false);
@@ -191,12 +153,7 @@ fn read_next<'a>(
     requires text { lexer.old.text ≡ bytes.now }
     requires known { IfSome known.now (IsKnown (map rule_of rules.now)) }
     requires so_far { IsSoFar top bytes.now (map rule_of rules.now) reader.old (rest_of lexer.old) compared.old }
-    ensures text { lexer.new.text ≡ lexer.old.text }
-    ensures inside { IfOk result (λ more. IsTrue more → lexer.old.place < length lexer.old.text) }
-    ensures moved { IfOk result (λ more. IsTrue more → lexer.old.place < lexer.new.place) }
-    ensures so_far { IfOk result (λ more. IsTrue more → IsSoFar top bytes.now (map rule_of rules.now) reader.new (rest_of lexer.new) compared.new) }
-    ensures all { IfOk result (λ more. IsFalse more → IsSoFar top bytes.now (map rule_of rules.now) reader.new (EndAt (length bytes.now) ∷ []) compared.new) }
-    ensures fault { IfErr result (IsFaultOf bytes.now top (map rule_of rules.now)) }
+    ensures { ReadsNext top bytes.now (map rule_of rules.now) lexer.old reader.new lexer.new compared.new result }
 {
     if begin_line(bytes, lexer, rules, reader, compared, known)? {
         return Ok(true);
@@ -228,22 +185,21 @@ fn read_tokens(
     Ok(())
 }
 
-/// The statements of the text, which is read to its end, where none disagrees.
-fn finish(
+/// Reads the text to its end, and compares each statement.
+fn compare_stats(
+    alloc: Global,
     bytes: &[u8],
     dim: Dim,
     rules: &RulesByName<'_>,
-    reader: Reader,
-    mut compared: Compared,
-) -> Result<Script, ScriptFault>
-    requires so_far { IsSoFar dim bytes.now (map rule_of rules.now) reader (EndAt (length bytes.now) ∷ []) compared }
-    ensures script { IfOk result (λ script. ScriptText bytes.now dim (map rule_of rules.now) script.stats) }
+    compared: &mut Compared,
+) -> Result<(), ScriptFault>
+    requires compared { compared.old ≡ Ok [] }
+    ensures all { OnOk result (IsCompared dim bytes.now (map rule_of rules.now) compared.new) }
     ensures fault { IfErr result (IsFaultOf bytes.now dim (map rule_of rules.now)) }
 {
-    if let Some(mut last) = reader.finish(bytes.len())? {
-        compared.add(bytes, &mut last, rules, &None)?;
-    }
-    compared.finish()
+    let mut reader = Reader::new(alloc);
+    read_tokens(bytes, dim, rules, &mut reader, compared)?;
+    reader.end_text(bytes, dim, rules, compared)
 }
 
 /// The statements of the script that the text stands for under these rules.
@@ -257,9 +213,8 @@ fn read_stats(
     ensures fault { IfErr result (IsFaultOf bytes.now dim (map rule_of rules.now)) }
 {
     let mut compared = Compared::new(alloc, bytes.len())?;
-    let mut reader = Reader::new(alloc);
-    read_tokens(bytes, dim, rules, &mut reader, &mut compared)?;
-    finish(bytes, dim, rules, reader, compared)
+    compare_stats(alloc, bytes, dim, rules, &mut compared)?;
+    compared.finish()
 }
 
 /// The script that the text stands for under the book. A fault of the text, by its grammar and

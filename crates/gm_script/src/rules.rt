@@ -1,5 +1,5 @@
 //! The rules of a book by their names.
-ghost use Rattle.std.specs.Prelude.{◌≡◌, ◌<◌, ◌≤◌, ◌^◌, ℕ, List, length, map, take, bytes_eq, IfOk, IfSome};
+ghost use Rattle.std.specs.Prelude.{◌≡◌, ◌<◌, ◌≤◌, ◌^◌, ℕ, List, length, map, take, bytes_eq, None, IfOk, IfSome, OnOk};
 ghost use Rattle.std.specs.HashMap as hash;
 ghost use Rattle.std.specs.List.{position};
 ghost use Rattle.gm_model.specs.declared.rule.RuleTable.{RuleTable};
@@ -48,11 +48,10 @@ impl<'a> RulesByName<'a> {
         ensures { IfOk result (λ book. book ≡ take (2 ^ 16) rules.now) }
     {
         let rules = first_ones(rules);
-        let indices = if rules.len() > FEW_RULES {
-            indices_by_name(alloc, rules)?
-        } else {
-            HashMap::new(alloc)
-        };
+        let mut indices = HashMap::new(alloc);
+        if rules.len() > FEW_RULES {
+            index_names(rules, &mut indices)?;
+        }
         Ok(RulesByName { rules, indices })
     }
 
@@ -105,20 +104,20 @@ fn first_named(rules: &[RuleTable], name: &[u8]) -> Option<u16>
     }
 }
 
-/// The index of each rule by its name, of rules with one name that of the first.
-fn indices_by_name<'a>(
-    alloc: Global,
+/// Puts the index of each rule under its name, of rules with one name that of the first.
+fn index_names<'a>(
     rules: &'a [RuleTable],
-) -> Result<HashMap<&'a [u8], u16>, AllocError>
+    indices: &mut HashMap<&'a [u8], u16>,
+) -> Result<(), AllocError>
     requires few { length rules.now ≤ 2 ^ 16 }
-    ensures { IfOk result (λ indices. (name : List ℕ) → hash.get_by (λ k. bytes_eq name k.now) indices ≡ index_of (map rule_of rules.now) name) }
+    requires empty { (name : List ℕ) → hash.get_by (λ k. bytes_eq name k.now) indices.old ≡ None }
+    ensures { OnOk result ((name : List ℕ) → hash.get_by (λ k. bytes_eq name k.now) indices.new ≡ index_of (map rule_of rules.now) name) }
 {
-    let mut indices = HashMap::new(alloc);
     for (index, rule) in rules.iter().enumerate() {
         let name = rule.name.bytes();
         if !indices.contains_key(name) {
             indices.insert(name, index as u16)?;
         }
     }
-    Ok(indices)
+    Ok(())
 }

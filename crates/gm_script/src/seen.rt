@@ -14,7 +14,7 @@ ghost use Rattle.gm_script.specs.declared.sight.Sight.{Sight};
 use crate::near::{NameLead, lead_of_name, word_of_lead};
 use crate::reader::TextFault;
 use crate::rules::RulesByName;
-use crate::sight::{Head, Sight, begins_as_known_word, sight_of, sight_of_known_word};
+use crate::sight::{Head, Sight, sight_of, sight_of_word};
 use crate::spot::Spot;
 use gm_text::{Lexer, Token, TokenKind};
 use std::simd::prelude::*;
@@ -85,9 +85,7 @@ fn near_name(lexer: &mut Lexer<'_>) -> Option<Token>
 {
     let mut ahead = lexer.fork();
     let token = ahead.small_name()?;
-    let word = ahead.text(&token);
-    // Two bytes tell of most names that they are nothing else.
-    if begins_as_known_word(word) && !matches!(sight_of_known_word(word), Sight::Name) {
+    if !matches!(sight_of_word(ahead.text(&token)), Sight::Name) {
         return None;
     }
     *lexer = ahead;

@@ -1,4 +1,4 @@
-ghost use Rattle.std.specs.Prelude.{◌≡◌, ◌≤◌, length, false};
+ghost use Rattle.std.specs.Prelude.{◌≡◌, ◌≤◌, length, false, bytes_eq};
 ghost use Rattle.gm_model.specs.Tokens.{bytes_of, IsLexeme};
 ghost use Rattle.gm_model.specs.Symbols.{symbol_of_kind};
 ghost use Rattle.gm_script.specs.Reading as reading;
@@ -6,7 +6,7 @@ ghost use Rattle.gm_script.specs.Reading as reading;
 use gm_text::{Lexer, Token, TokenKind, is_reserved};
 
 /// The word that a statement begins with.
-#[derive(Clone, Copy, PartialEq, Eq)]
+#[derive(Clone, Copy)]
 pub(crate) enum Head {
     Apply,
     Each,
@@ -53,8 +53,9 @@ pub(crate) fn sight_of(lexer: &Lexer<'_>, token: &Token) -> Sight
 
 /// What is seen in a word.
 // Most words are names of rules, and two bytes tell of most names that they are nothing else: that
-// takes some 120 instructions less.
-fn sight_of_word(bytes: &[u8]) -> Sight
+// takes some 120 instructions less. Inlined, since a call would undo that.
+#[inline(always)]
+pub(crate) fn sight_of_word(bytes: &[u8]) -> Sight
     ensures { result ≡ reading.sight_of_word bytes.now }
 {
     if begins_as_known_word(bytes) {
@@ -65,7 +66,7 @@ fn sight_of_word(bytes: &[u8]) -> Sight
 }
 
 /// Whether a word in which more is seen than a name begins with the same two bytes.
-pub(crate) fn begins_as_known_word(bytes: &[u8]) -> bool
+fn begins_as_known_word(bytes: &[u8]) -> bool
     ensures { result ≡ false → reading.sight_of_word bytes.now ≡ Sight.Name }
 {
     bytes.len() >= 2 && is_known_beginning(bytes[0], bytes[1])
@@ -94,35 +95,42 @@ fn is_known_beginning(first: u8, second: u8) -> bool
 /// The same, word by word.
 // Inlined, it would have `sight_of_word` save what it needs of registers before the two bytes are seen.
 #[inline(never)]
-pub(crate) fn sight_of_known_word(bytes: &[u8]) -> Sight
+fn sight_of_known_word(bytes: &[u8]) -> Sight
     ensures { result ≡ reading.sight_of_word bytes.now }
 {
-    if bytes == b"apply".as_slice() {
+    if is_word(bytes, b"apply") {
         Sight::Begins(Head::Apply)
-    } else if bytes == b"with".as_slice() {
+    } else if is_word(bytes, b"with") {
         Sight::With
     } else {
         sight_of_rarer_word(bytes)
     }
 }
 
+#[inline(always)]
+fn is_word(bytes: &[u8], word: &[u8]) -> bool
+    ensures { result ≡ bytes_eq bytes.now word.now }
+{
+    bytes == word
+}
+
 /// What is seen in a word that is neither `apply` nor `with`.
 fn sight_of_rarer_word(bytes: &[u8]) -> Sight
     ensures { result ≡ reading.sight_of_rarer_word bytes.now }
 {
-    if bytes == b"each".as_slice() {
+    if is_word(bytes, b"each") {
         Sight::Begins(Head::Each)
-    } else if bytes == b"undo".as_slice() {
+    } else if is_word(bytes, b"undo") {
         Sight::Begins(Head::Undo)
-    } else if bytes == b"redo".as_slice() {
+    } else if is_word(bytes, b"redo") {
         Sight::Begins(Head::Redo)
-    } else if bytes == b"group".as_slice() {
+    } else if is_word(bytes, b"group") {
         Sight::Begins(Head::Group)
-    } else if bytes == b"end".as_slice() {
+    } else if is_word(bytes, b"end") {
         Sight::Begins(Head::End)
-    } else if bytes == b"true".as_slice() {
+    } else if is_word(bytes, b"true") {
         Sight::Truth(true)
-    } else if bytes == b"false".as_slice() {
+    } else if is_word(bytes, b"false") {
         Sight::Truth(false)
     } else if is_reserved(bytes) {
         Sight::Other

@@ -1,10 +1,11 @@
-ghost use Rattle.std.specs.Prelude.{◌≡◌};
+ghost use Rattle.std.specs.Prelude.{◌≡◌, Some, None, if◌then◌else◌};
 ghost use Rattle.gm_script.specs.Reading as reading;
+ghost use Rattle.gm_script.specs.Reading.{HeldStat};
 
 use crate::sight::{Head, Sight};
 
 /// What a script was read up to.
-#[derive(Clone, Copy, PartialEq, Eq)]
+#[derive(Clone, Copy)]
 pub(crate) enum Spot {
     /// Nothing.
     Start,
@@ -101,6 +102,17 @@ impl Spot {
             self,
             Spot::Start | Spot::Bare | Spot::Rule | Spot::Named | Spot::Value
         )
+    }
+
+    /// Whether a statement ends there, where this is seen next.
+    #[inline(always)]
+    pub(crate) fn ends_stat(self, sight: Sight) -> bool
+        ensures { (stat : HeldStat) → reading.ended_by self sight stat ≡ (if result then Some stat else None) }
+    {
+        match sight {
+            Sight::Begins(_) => !matches!(self, Spot::Start | Spot::Apply | Spot::Over),
+            _ => false,
+        }
     }
 
     /// Whether a rule's name is looked for there.

@@ -1,4 +1,4 @@
-use Rattle.std.proofs.Common.{◌≡◌, map, Ok, sym, subst, ◌∙◌, arith}
+use Rattle.std.proofs.Common.{◌≡◌, map, Ok, refl, sym, subst, ◌∙◌, arith}
 use Rattle.std.proofs.lemmas.Result.{err_from_is_err_and}
 use Rattle.gm_model.specs.Rules.{rule_of}
 use Rattle.gm_text.specs.Lexing.{rest_of}
@@ -11,8 +11,28 @@ use Rattle.gm_script.proofs.Loop.{token_fails, goes_on}
 use Rattle.gm_script.proofs.Tokens.{token_stands}
 use Rattle.gm_script.proofs.reading.begin_line.Goals as goal
 
-pub returns-in_err-take_apply-clause-fault : goal.returns-in_err-take_apply-clause-fault
-returns-in_err-take_apply-clause-fault c = λ n so_far.
+pub near_apply-requires : goal.near_apply-requires
+near_apply-requires c = record { bytes = c.requires.text }
+
+pub end_stat-requires-clause-known : goal.end_stat-requires-clause-known
+end_stat-requires-clause-known c = c.requires.known
+
+pub end_stat-requires-clause-in_text : goal.end_stat-requires-clause-in_text
+end_stat-requires-clause-in_text c = c.requires.named
+
+pub returns-then-not-is_whole : goal.returns-then-not-is_whole
+returns-then-not-is_whole c = λ n so_far. (refl, so_far)
+
+pub returns-in_default : goal.returns-in_default
+returns-in_default c = λ n so_far. (c.in_default.ensures.none, rw c.in_default.ensures.none so_far)
+
+pub returns-in_err-end_stat : goal.returns-in_err-end_stat
+returns-in_err-end_stat c = λ n so_far.
+    let p = err_from_is_err_and c.from_residual.result c.from_residual.ensures.1 in
+    rw (p.1, p.2, c.in_err-end_stat.ensures.err) tt
+
+pub returns-in_err-take_apply : goal.returns-in_err-take_apply
+returns-in_err-take_apply c = λ n so_far.
     let p = err_from_is_err_and c.from_residual-in_err-take_apply.result c.from_residual-in_err-take_apply.ensures.1 in
     let apply : Sight = sights.Begins heads.Apply in
     let token = c.in-Some.token in
@@ -24,20 +44,21 @@ returns-in_err-take_apply-clause-fault c = λ n so_far.
     (token_fails c.args.bytes.now (map rule_of c.args.rules.now) n held token (rest_of c.near_apply.new.lexer) c.args.compared.now (rw next.items at so_far)
     c.in_err-take_apply.field-0.0 (subst (λ (sight : Sight). Fails c.in_err-take_apply.field-0.0 (taken_at n sight token held)) seen failed))
 
-pub returns-clause-so_far : goal.returns-clause-so_far
-returns-clause-so_far c = λ n so_far.
+pub returns : goal.returns
+returns c = λ n so_far.
     let apply : Sight = sights.Begins heads.Apply in
     let token = c.in-Some.token in
     let held = c.args.reader.now in
     let next : IsSeenNext c.args.lexer.now apply token c.near_apply.new.lexer = c.in-Some.ensures.seen in
     let seen : apply ≡ sight_of (symbol_at c.args.bytes.now token) = rw c.requires.text at next.seen in
+    let stands = token_stands c.args.lexer.now.text c.args.lexer.now.place token (rest_of c.near_apply.new.lexer) next.items in
     let taken : taken_at n apply token held ≡ Ok c.take_apply.new.self = sym (c.end_stat.ensures.next n token) ∙ c.in_ok-take_apply.ensures n in
-    goes_on c.args.bytes.now (map rule_of c.args.rules.now) n held c.take_apply.new.self token (rest_of c.near_apply.new.lexer) c.args.compared.now c.end_stat.new.compared
-    (rw c.requires.text at next.inside) (rw next.items at so_far) (subst (λ (sight : Sight). taken_at n sight token held ≡ Ok c.take_apply.new.self) seen taken)
-    (subst (λ (sight : Sight). Adds c.args.bytes.now (map rule_of c.args.rules.now) (ended_by held.spot sight held.stat) c.args.compared.now c.end_stat.new.compared) seen c.in_ok-end_stat.ensures.added)
-
-pub returns-clause-inside : goal.returns-clause-inside
-returns-clause-inside c = λ _.
-    let next : IsSeenNext c.args.lexer.now (sights.Begins heads.Apply) c.in-Some.token c.near_apply.new.lexer = c.in-Some.ensures.seen in
-    let stands = token_stands c.args.lexer.now.text c.args.lexer.now.place c.in-Some.token (rest_of c.near_apply.new.lexer) next.items in
-    omega (arith, stands.0, stands.1, next.inside.within)
+    record {
+      text = next.text;
+      inside = omega (arith, stands.0, stands.1, next.inside.within);
+      moved = next.goes_on;
+      so_far =
+          goes_on c.args.bytes.now (map rule_of c.args.rules.now) n held c.take_apply.new.self token (rest_of c.near_apply.new.lexer) c.args.compared.now c.end_stat.new.compared
+          (rw c.requires.text at next.inside) (rw next.items at so_far) (subst (λ (sight : Sight). taken_at n sight token held ≡ Ok c.take_apply.new.self) seen taken)
+          (subst (λ (sight : Sight). Adds c.args.bytes.now (map rule_of c.args.rules.now) (ended_by held.spot sight held.stat) c.args.compared.now c.end_stat.new.compared) seen c.in_ok-end_stat.ensures.added);
+    }

@@ -1,4 +1,4 @@
-use Rattle.std.proofs.Common.{◌≡◌, ℕ, ◌^◌, ◌<◌, Ok, length, ap, arith}
+use Rattle.std.proofs.Common.{◌≡◌, ℕ, ◌^◌, ◌<◌, Ok, length, ap, arith, rules}
 use Rattle.gm_text.specs.Lexing.{IsNumberRead}
 use Rattle.gm_script.specs.Reading.{taken_at}
 use Rattle.gm_script.specs.declared.sight.Sight.TheVariants as sights
@@ -7,7 +7,7 @@ use Rattle.gm_script.proofs.SmallParts.{number_at}
 use Rattle.gm_script.proofs.reading.read_hooks.Goals as goal
 
 pub loop-number-init : goal.loop-number-init
-loop-number-init c = record { spot = c.requires.spot; on = reads_none c.args.reader.now c.args.lexer.now }
+loop-number-init c = record { spot = search rules; on = reads_none c.args.reader.now c.args.lexer.now }
 
 pub loop-number-smaller : goal.loop-number-smaller
 loop-number-smaller c =

@@ -5,8 +5,8 @@ use Rattle.std.specs.HashMap as map
 use Rattle.std.specs.Str.{bytes_eq}
 use Rattle.gm_model.specs.declared.rule.RuleTable.{RuleTable}
 use Rattle.gm_script.proofs.Indices.{at, stays, added, index_is}
-use Rattle.gm_script.proofs.rules.indices_by_name.Goals as goal
-use Rattle.gm_script.proofs.rules.indices_by_name.Goals.{then-not-contains_key+in_ok-insert, else-not-contains_key}
+use Rattle.gm_script.proofs.rules.index_names.Goals as goal
+use Rattle.gm_script.proofs.rules.index_names.Goals.{then-not-contains_key+in_ok-insert, else-not-contains_key}
 
 pub loop-index-preserved : goal.loop-index-preserved
 loop-index-preserved c = λ name.
