@@ -1,5 +1,5 @@
 -- The steps that the table of tested steps leaves out are forced, and it has the others as they are.
-use Rattle.std.proofs.Common.{◌≡◌, ◌≢◌, ℕ, zero, suc, ◌<◌, Bool, true, false, List, [], ◌∷◌, Some, get_or, refl, sym, ap, subst, ◌∙◌, arith}
+use Rattle.std.proofs.Common.{◌≡◌, ◌≢◌, ℕ, zero, suc, ◌<◌, Bool, true, false, List, [], ◌∷◌, Some, get_or, refl, sym, ap, ap₂, subst, ◌∙◌, arith}
 use Rattle.std.proofs.lemmas.Bool.{eqb-true}
 use Rattle.std.proofs.lemmas.List.{get_or_past}
 use Rattle.std.specs.List.{slice_get, list_any}
@@ -43,6 +43,25 @@ module _ (rule : Rule) (x i : ℕ) where
       go : (list_any (is_end x i) links ≡ true → IsForcedStep rule x i) → (b : Bool) → is_end x i link ≡ b → b || list_any (is_end x i) links ≡ true → IsForcedStep rule x i
       go later true here _ = ended link (ends 0 link refl) here
       go later false _ rest = later rest
+
+  -- the step that the table has, by both tests
+  module _ (links : List Link) where
+    tested_by : (w p : Bool) → is_walked rule x (step rule Left x i) ≡ w → list_any (is_end x i) links ≡ p → (if w || p then Absent else step rule Left x i) ≡ tested_step rule links x i
+    tested_by w p e f = ap₂ (λ (w p : Bool). if w || p then Absent else step rule Left x i) (sym e) (sym f)
+
+    absent_by : (w : Bool) (s : Step) → Absent ≡ (if w || true then Absent else s)
+    absent_by true s = refl
+    absent_by false s = refl
+
+    pub tested_on_path : list_any (is_end x i) links ≡ true → Absent ≡ tested_step rule links x i
+    tested_on_path f = absent_by (is_walked rule x (step rule Left x i)) (step rule Left x i) ∙ tested_by (is_walked rule x (step rule Left x i)) true refl f
+
+    module _ (s : Step) (is : s ≡ step rule Left x i) where
+      pub tested_walked : is_walked rule x s ≡ true → Absent ≡ tested_step rule links x i
+      tested_walked e = tested_by true (list_any (is_end x i) links) (subst (λ (t : Step). is_walked rule x t ≡ true) is e) refl
+
+      pub tested_kept : is_walked rule x s ≡ false → list_any (is_end x i) links ≡ false → s ≡ tested_step rule links x i
+      tested_kept e f = is ∙ tested_by false false (subst (λ (t : Step). is_walked rule x t ≡ false) is e) f
 
   module _ (links : List Link) (paths : ArePaths rule links) where
     pub forced_at : tested_step rule links x i ≡ Absent → IsForcedStep rule x i

@@ -17,6 +17,7 @@ pub mod Looked
 pub mod OneFault
 pub mod Orders
 pub mod PathLinks
+pub mod Placing
 pub mod Ranks
 pub mod Rows
 pub mod Search

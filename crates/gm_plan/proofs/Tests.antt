@@ -46,6 +46,19 @@ node_before : (x i q : ℕ) → IsPairBefore x i q 0 → x < q
 node_before x i q (inl less) = less
 node_before x i q (inr (same, less)) = absurd (omega (arith, less))
 
+-- ---- no step
+
+no_pair : (x i : ℕ) → IsPairBefore x i 0 0 → ⊥
+no_pair x i (inl less) = omega (arith, less)
+no_pair x i (inr (same, less)) = omega (arith, less)
+
+pub none_listed : (steps : ℕ → ℕ → Step) (labels : ℕ) (tests : List Test) → tests ≡ [] → AreListed steps labels 0 0 tests
+none_listed steps labels tests none = subst (AreListed steps labels 0 0) (sym none) (record {
+  each = λ t test at. absurd (omega (arith, slice_get_within [] t test at));
+  all = λ x i before low. absurd (no_pair x i before);
+  few = omega arith;
+})
+
 -- ---- one step more
 
 module _ (steps : ℕ → ℕ → Step) (labels : ℕ) where

@@ -1,12 +1,14 @@
 //! The steps of a rule whose arcs an application writes, and the nodes that it removes.
-ghost use Rattle.std.specs.Prelude.{◌≡◌, ℕ, ◌<◌, ◌≤◌, ◌↔◌, length, IsTrue};
+ghost use Rattle.std.specs.Prelude.{◌≡◌, ℕ, ◌<◌, ◌≤◌, ◌↔◌, length, IfOk, IsTrue};
 ghost use Rattle.gm_model.specs.declared.rule.Side.TheVariants.{Left, Right};
 ghost use Rattle.gm_model.specs.Rules.{rule_of, has_word, is_removed};
 ghost use Rattle.gm_plan.specs.Changes.{AreMadeLabels, AreRemovedNodes, MakesNone, freed_step, is_steady, made_step};
 ghost use Rattle.gm_plan.specs.Plans.{AreRows, AreSteps};
 
-use crate::table::{Row, StepAt};
-use gm_model::{MOST_LABELS, Mask, RuleTable, Side, Step};
+use crate::sides::Sides;
+use crate::table::{Row, StepAt, rows_of};
+use gm_model::{MOST_LABELS, Mask, OutOfMemory, RuleTable, Side, Step};
+use std::alloc::Global;
 
 /// The steps that an application frees. The rows have the left steps.
 #[derive(Clone, Copy)]
@@ -74,6 +76,29 @@ fn is_steady(rule: &RuleTable, left: &[Row], right: &[Row], node: u8, label: u8)
 {
     has_word(rule, Side::Left, node)
         && left[node as usize][label as usize] == right[node as usize][label as usize]
+}
+
+/// The steps that an application makes and frees, by node and by label.
+#[derive(Drop)]
+pub struct Changes {
+    pub made: Vec<Row>,
+    pub freed: Vec<Row>,
+}
+
+/// The steps that an application makes and frees, by those of both sides.
+pub fn changes_of(alloc: Global, rule: &RuleTable, sides: &Sides) -> Result<Changes, OutOfMemory>
+    requires few { length (rule_of rule.now).nodes ≤ 32 }
+    requires left { AreSteps (rule_of rule.now) Left (length (rule_of rule.now).nodes) sides.now.left.items }
+    requires right { AreSteps (rule_of rule.now) Right (length (rule_of rule.now).nodes) sides.now.right.items }
+    ensures { IfOk result (λ changes. AreRows (made_step (rule_of rule.now)) (length (rule_of rule.now).nodes) changes.made.items
+        × AreRows (freed_step (rule_of rule.now)) (length (rule_of rule.now).nodes) changes.freed.items) }
+{
+    let nodes = rule.node_count();
+    let left = sides.left.as_slice();
+    let right = sides.right.as_slice();
+    let made = rows_of(alloc, &Made { rule, left, right }, nodes)?;
+    let freed = rows_of(alloc, &Freed { rule, left }, nodes)?;
+    Ok(Changes { made, freed })
 }
 
 /// Which nodes are removed: bit `x` stands for node `x`.

@@ -63,7 +63,10 @@ impl Index {
         if self.by_slot[place] > 0 {
             return Ok(self.by_slot[place].checked_sub(1));
         }
-        self.by_slot[place] = index.checked_add(1).ok_or(OutOfMemory)?;
+        let Some(next) = index.checked_add(1) else {
+            return Err(OutOfMemory);
+        };
+        self.by_slot[place] = next;
         Ok(None)
     }
 

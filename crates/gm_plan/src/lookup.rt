@@ -23,9 +23,7 @@ impl Lookup {
         ensures { IfOk result (IsLookupIn found.now) }
     {
         let mut instances = HashMap::new(alloc);
-        for node in 0..nodes {
-            add_node(&mut instances, found, node)?;
-        }
+        add_nodes(&mut instances, found, nodes)?;
         let instances = Box::new(alloc, instances)?;
         Ok(Lookup { instances })
     }
@@ -41,6 +39,22 @@ impl Lookup {
     {
         self.instances.get(&slot.at).copied()
     }
+}
+
+/// Adds the instances of so many left nodes, where there are none.
+fn add_nodes(
+    instances: &mut HashMap<u32, (u8, u32)>,
+    found: &Instances,
+    nodes: u8,
+) -> Result<(), OutOfMemory>
+    requires nodes { nodes ≡ found.now.nodes }
+    requires none { IsLookupUpTo found.now instances.old 0 0 }
+    ensures { OnOk result (IsLookupUpTo found.now instances.new nodes 0) }
+{
+    for node in 0..nodes {
+        add_node(instances, found, node)?;
+    }
+    Ok(())
 }
 
 /// Adds the instances of a node.

@@ -1,12 +1,12 @@
 ghost use Rattle.std.specs.Prelude.{◌≡◌, ◌≢◌, false, ℕ, ◌<◌, ◌≤◌, ◌↔◌, length, MatchOption, IfOk, IsTrue};
 ghost use Rattle.std.specs.List.{Contains};
 
-use crate::changes::{Freed, Made, labels_made, nodes_removed};
-use crate::paths::{Paths, least_paths, link_to};
-use crate::sides::{count_added, count_left, count_removed, side_steps};
+use crate::changes::{changes_of, labels_made, nodes_removed};
+use crate::paths::{Paths, link_to};
+use crate::sides::{count_added, count_left, count_removed, sides_of};
 use crate::sources::{Sources, sources_of};
-use crate::table::{Row, rows_of};
-use crate::tested::{Test, Tested, has_step, tests_of};
+use crate::table::Row;
+use crate::tested::{Test, has_step, testing_of};
 use gm_model::{Link, Mask, OutOfMemory, RuleTable, Schema, Side, Step};
 use std::alloc::Global;
 use std::marker::Model;
@@ -77,29 +77,21 @@ impl<'b> Plan<'b> {
         requires planned { IsPlanned schema.now (rule_of rule.now) }
         ensures { IfOk result (λ plan. plan ≡ plan_of schema.now rule.now) }
     {
-        let nodes = rule.node_count();
-        let left_rows = side_steps(alloc, rule, Side::Left)?;
-        let right_rows = side_steps(alloc, rule, Side::Right)?;
-        let left = left_rows.as_slice();
-        let right = right_rows.as_slice();
-        let made = rows_of(alloc, &Made { rule, left, right }, nodes)?;
-        let freed = rows_of(alloc, &Freed { rule, left }, nodes)?;
-        let paths = least_paths(alloc, schema, rule, left)?;
-        let links = paths.as_slice();
-        let tested = rows_of(alloc, &Tested { rule, left, links }, nodes)?;
-        let tests = tests_of(alloc, tested.as_slice(), schema.dim.top() + 1)?;
-        let sources = sources_of(alloc, schema, rule, right)?;
-        let made_labels = labels_made(rule, made.as_slice());
+        let sides = sides_of(alloc, rule)?;
+        let changes = changes_of(alloc, rule, &sides)?;
+        let testing = testing_of(alloc, schema, rule, sides.left.as_slice())?;
+        let sources = sources_of(alloc, schema, rule, sides.right.as_slice())?;
+        let made_labels = labels_made(rule, changes.made.as_slice());
         Ok(Plan {
             schema,
             rule,
-            left: left_rows,
-            right: right_rows,
-            made,
-            freed,
-            tested,
-            tests,
-            paths,
+            left: sides.left,
+            right: sides.right,
+            made: changes.made,
+            freed: changes.freed,
+            tested: testing.rows,
+            tests: testing.tests,
+            paths: testing.paths,
             sources,
             left_nodes: count_left(rule),
             added: count_added(rule),

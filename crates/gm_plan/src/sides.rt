@@ -1,5 +1,5 @@
 ghost use Rattle.std.specs.Prelude.{◌≡◌, ℕ, ◌<◌, ◌≤◌, length, IfOk, IsTrue};
-ghost use Rattle.gm_model.specs.declared.rule.Side.TheVariants.{Left};
+ghost use Rattle.gm_model.specs.declared.rule.Side.TheVariants.{Left, Right};
 ghost use Rattle.gm_model.specs.Rules.{rule_of, has_word};
 ghost use Rattle.gm_model.specs.Unfolding.{added_nodes};
 ghost use Rattle.gm_plan.specs.Counts.{removed_nodes};
@@ -10,7 +10,7 @@ use gm_model::{OutOfMemory, RuleTable, Side};
 use std::alloc::Global;
 
 /// The steps of each node on the side.
-pub fn side_steps(alloc: Global, rule: &RuleTable, side: Side) -> Result<Vec<Row>, OutOfMemory>
+fn side_steps(alloc: Global, rule: &RuleTable, side: Side) -> Result<Vec<Row>, OutOfMemory>
     requires { length (rule_of rule.now).nodes ≤ 32 }
     ensures { IfOk result (λ rows. AreSteps (rule_of rule.now) side (length (rule_of rule.now).nodes) rows.items) }
 {
@@ -19,6 +19,24 @@ pub fn side_steps(alloc: Global, rule: &RuleTable, side: Side) -> Result<Vec<Row
         rows.push(rule.steps(side, node))?;
     }
     Ok(rows)
+}
+
+/// The steps of each node, by side.
+#[derive(Drop)]
+pub struct Sides {
+    pub left: Vec<Row>,
+    pub right: Vec<Row>,
+}
+
+/// The steps of each node on both sides.
+pub fn sides_of(alloc: Global, rule: &RuleTable) -> Result<Sides, OutOfMemory>
+    requires { length (rule_of rule.now).nodes ≤ 32 }
+    ensures { IfOk result (λ sides. AreSteps (rule_of rule.now) Left (length (rule_of rule.now).nodes) sides.left.items
+        × AreSteps (rule_of rule.now) Right (length (rule_of rule.now).nodes) sides.right.items) }
+{
+    let left = side_steps(alloc, rule, Side::Left)?;
+    let right = side_steps(alloc, rule, Side::Right)?;
+    Ok(Sides { left, right })
 }
 
 /// How many left nodes the rule has.

@@ -3,12 +3,14 @@ ghost use Rattle.std.specs.Prelude.{◌≡◌, ◌+◌, ◌<◌, ◌≤◌, leng
 ghost use Rattle.std.specs.List.{list_any};
 ghost use Rattle.gm_model.specs.declared.rule.Side.TheVariants.{Left};
 ghost use Rattle.gm_model.specs.Rules.{rule_of};
-ghost use Rattle.gm_plan.specs.Plans.{AreSteps};
+ghost use Rattle.gm_plan.specs.Paths.{ArePaths};
+ghost use Rattle.gm_plan.specs.Plans.{AreRows, AreSteps, IsPlanned};
 ghost use Rattle.gm_plan.specs.Searches.{row_step};
-ghost use Rattle.gm_plan.specs.Tested.{AreListed, is_end, is_step, is_walked, tested_step};
+ghost use Rattle.gm_plan.specs.Tested.{AreListed, AreTests, is_end, is_step, is_walked, tested_step};
 
-use crate::table::{Row, StepAt};
-use gm_model::{Link, OutOfMemory, RuleTable, Step};
+use crate::paths::{Paths, least_paths};
+use crate::table::{Row, StepAt, rows_of};
+use gm_model::{Link, OutOfMemory, RuleTable, Schema, Step};
 use std::alloc::Global;
 
 /// A left step that a match has to test.
@@ -20,7 +22,7 @@ pub struct Test {
 }
 
 /// The steps that the rows have at the first labels, by node and label.
-pub fn tests_of(alloc: Global, rows: &[Row], labels: u8) -> Result<Vec<Test>, OutOfMemory>
+fn tests_of(alloc: Global, rows: &[Row], labels: u8) -> Result<Vec<Test>, OutOfMemory>
     requires few { length rows.now ≤ 32 }
     requires labels { labels ≤ 8 }
     ensures { IfOk result (λ tests. AreListed (row_step rows.now) labels (length rows.now) 0 tests.items) }
@@ -71,6 +73,37 @@ impl<'a> StepAt for Tested<'a> {
             step
         }
     }
+}
+
+/// What a match tests, and by what it needs not test the rest.
+#[derive(Drop)]
+pub struct Testing {
+    /// The last links of the least paths, along which a candidate is made.
+    pub paths: Paths,
+    /// The steps to test, by node and by label.
+    pub rows: Vec<Row>,
+    /// The same, one after another.
+    pub tests: Vec<Test>,
+}
+
+/// What a match tests. The rows have the left steps.
+pub fn testing_of(
+    alloc: Global,
+    schema: &Schema,
+    rule: &RuleTable,
+    left: &[Row],
+) -> Result<Testing, OutOfMemory>
+    requires planned { IsPlanned schema.now (rule_of rule.now) }
+    requires left { AreSteps (rule_of rule.now) Left (length (rule_of rule.now).nodes) left.now }
+    ensures { IfOk result (λ testing. ArePaths (rule_of rule.now) testing.paths.items
+        × AreRows (tested_step (rule_of rule.now) testing.paths.items) (length (rule_of rule.now).nodes) testing.rows.items
+        × AreTests schema.now.dim (rule_of rule.now) testing.tests.items) }
+{
+    let paths = least_paths(alloc, schema, rule, left)?;
+    let links = paths.as_slice();
+    let rows = rows_of(alloc, &Tested { rule, left, links }, rule.node_count())?;
+    let tests = tests_of(alloc, rows.as_slice(), schema.dim.top() + 1)?;
+    Ok(Testing { paths, rows, tests })
 }
 
 /// Whether the node is the first hook and turns at the step, as the walk does.

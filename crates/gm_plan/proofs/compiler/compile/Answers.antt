@@ -18,6 +18,19 @@ returns-in_err-check-3 c =
     let p = err_from_is_err_and c.from_residual-in_err-check-3.result c.from_residual-in_err-check-3.ensures.1 in
     rw (p.1, p.2) (Faulty _ (Embedding c.in_ok-check.ensures c.in_ok-check-2.ensures c.in_err-check-3.ensures))
 
+pub returns : goal.returns
+returns c = (
+  c.in_ok-new.ensures,
+  record {
+    embeds = c.requires.embeds;
+    accepted = record { in_range = c.requires.in_range; typed = c.requires.typed; incidence = c.in_ok-check.ensures; squares = c.in_ok-check-2.ensures; sources = c.in_ok-check-3.ensures };
+    within = c.requires.within;
+  },
+)
+
+pub check-requires-3-clause-incidence : goal.check-requires-3-clause-incidence
+check-requires-3-clause-incidence c = c.in_ok-check.ensures
+
 pub returns-in_err-new : goal.returns-in_err-new
 returns-in_err-new c =
     let p = err_from_is_err_and c.from_residual-in_err-new.result c.from_residual-in_err-new.ensures.1 in

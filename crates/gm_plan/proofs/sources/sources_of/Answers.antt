@@ -1,6 +1,7 @@
 use Rattle.std.proofs.Common.{◌≡◌, ◌+◌, ◌<◌, ◌≤◌, length, get_or, Some, ap, sym, subst, ◌∙◌, arith}
 use Rattle.std.proofs.lemmas.List.{length_push}
 use Rattle.std.proofs.lemmas.Option.{slice_get-get_or}
+use Rattle.std.proofs.lemmas.Result.{IfOk-from_err}
 use Rattle.gm_model.specs.declared.schema.Embed.{Embed}
 use Rattle.gm_model.specs.Labels.{has}
 use Rattle.gm_model.specs.Maps.{IsEmbedAt}
@@ -15,6 +16,12 @@ sources_for-requires-clause-bounds c =
     let few : c.args.schema.now.dim ≤ 7 = (let top = c.top-top.ensures in omega arith) in
     let accepted = c.requires.planned.accepted in
     has_bounds c.args.schema.now (rule_of c.args.rule.now) few accepted.in_range c.requires.planned.within accepted.incidence
+
+pub sources_for-requires-clause-right : goal.sources_for-requires-clause-right
+sources_for-requires-clause-right c = c.requires.right
+
+pub returns-in_err-push : goal.returns-in_err-push
+returns-in_err-push c = IfOk-from_err c.from_residual.result _ c.from_residual.ensures.0
 
 pub loop-embed-preserved : goal.loop-embed-preserved
 loop-embed-preserved c =

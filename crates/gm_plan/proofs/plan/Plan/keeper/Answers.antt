@@ -1,12 +1,25 @@
-use Rattle.std.proofs.Common.{◌<◌, length, None, MatchOption, IsTrue, slice_index_or, sym, subst}
+use Rattle.std.proofs.Common.{◌<◌, length, None, MatchOption, IsTrue, slice_index_or, sym, subst, arith}
 use Rattle.gm_model.specs.declared.rule.Side.TheVariants.{Right}
 use Rattle.gm_model.specs.declared.schema.Embed.{Embed}
 use Rattle.gm_model.specs.Components.{IsKeeper, IsNew}
 use Rattle.gm_model.specs.Maps.{IsEmbedAt, type_of}
 use Rattle.gm_model.specs.Rules.{rule_of, has_word}
+use Rattle.gm_model.proofs.Nodes.{node_below}
 use Rattle.gm_plan.specs.Plans.{PlanOf}
 use Rattle.gm_plan.proofs.EmbedTables.{read_for}
 use Rattle.gm_plan.proofs.plan.Plan.keeper.Goals as goal
+
+pub bounds-index-node : goal.bounds-index-node
+bounds-index-node c =
+    let right = subst (λ (plan : PlanOf). IsTrue (has_word (rule_of plan.table) Right c.args.node)) (sym c.self.view_is) c.requires.right in
+    let below = node_below (rule_of c.self.inside.rule.now) Right c.args.node right in
+    omega (arith, below, c.self.invariant.planned.within.nodes)
+
+pub offset_bounds-index-node : goal.offset_bounds-index-node
+offset_bounds-index-node c =
+    let right = subst (λ (plan : PlanOf). IsTrue (has_word (rule_of plan.table) Right c.args.node)) (sym c.self.view_is) c.requires.right in
+    let below = node_below (rule_of c.self.inside.rule.now) Right c.args.node right in
+    omega (arith, below, c.self.invariant.planned.within.nodes)
 
 pub returns : goal.returns
 returns c =

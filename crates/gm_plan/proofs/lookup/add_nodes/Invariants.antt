@@ -1,5 +1,5 @@
 use Rattle.gm_plan.specs.Lookup.{IsLookupUpTo}
-use Rattle.gm_plan.proofs.lookup.Lookup.build.Given as goal
+use Rattle.gm_plan.proofs.lookup.add_nodes.Given as goal
 
 abbrev pub invariant-loop-node : goal.invariant-loop-node
 invariant-loop-node l = IsLookupUpTo l.found l.instances l.node 0
