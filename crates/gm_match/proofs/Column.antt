@@ -1,17 +1,27 @@
 -- How rows of slots change, one node at a time.
-use Rattle.std.proofs.Common.{◌≡◌, ◌≢◌, ℕ, ◌+◌, ◌*◌, ◌/◌, ◌%◌, ◌<◌, ◌≤◌, ◌⊎◌, inl, inr, List, Some, set, length, refl, sym, ap, subst, ◌∙◌, arith, length-set}
+use Rattle.std.proofs.Common.{◌≡◌, ◌≢◌, ℕ, zero, suc, ◌+◌, ◌*◌, ◌/◌, ◌%◌, ◌<◌, ◌≤◌, ◌⊎◌, inl, inr, List, [], ◌++◌, Some, set, take, replicate, length, refl, sym, ap, subst, ◌∙◌, arith, length-set}
 use Rattle.std.proofs.Math.Nat.{mul-le-mul_left, mul-le-mul_right}
 use Rattle.std.proofs.lemmas.Bool.{cases_eq}
+use Rattle.std.proofs.lemmas.List.Elements.{All-replicate}
 use Rattle.std.proofs.lemmas.Option.{slice_get_within, get_or_from_slice_get}
 use Rattle.std.specs.List.{slice_get}
 use Rattle.std.specs.Prelude.{slice_index}
 use Rattle.gm_model.specs.Rules.{Rule}
 use Rattle.std.proofs.lemmas.Nat.{mul-add-lt, div-mul-add, mod-mul-add}
 use Rattle.gm_arena.specs.declared.slot.Slot.{Slot}
-use Rattle.gm_arena.specs.ArenaMap.{ArenaMap, IsAt, name_at, alpha}
+use Rattle.gm_arena.specs.ArenaMap.{ArenaMap, IsAt, IsLiveSlot, name_at, alpha}
 use Rattle.gm_arena.proofs.MapLemmas.{name_at-is}
+use Rattle.gm_walk.specs.Walks.{AreLive}
 use Rattle.gm_match.specs.Layout.{AreAlongWalk, AreRows, dart_at}
 use Rattle.gm_match.proofs.Paths.{dart_set, dart_stays}
+
+take_nil : (n : ℕ) → take {A = Slot} n [] ≡ []
+take_nil zero = refl
+take_nil (suc n) = refl
+
+-- rows that were made of one live slot have live slots
+pub resized_live : (m : ArenaMap) (slot : Slot) → IsLiveSlot m slot.at → (n k : ℕ) (old new : List Slot) → old ≡ [] → new ≡ take n old ++ replicate k slot → AreLive m new
+resized_live m slot live n k old new none is = subst (AreLive m) (sym (is ∙ ap (λ xs. take n xs ++ replicate k slot) none ∙ ap (λ (xs : List Slot). xs ++ replicate k slot) (take_nil n))) (All-replicate (λ (s : Slot). IsLiveSlot m s.at) k slot live)
 
 -- a place in a row is within the rows
 pub place_within : (rows nodes p x total : ℕ) → rows * nodes ≡ total → p < rows → x < nodes → p * nodes + x < total

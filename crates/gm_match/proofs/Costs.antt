@@ -1,5 +1,5 @@
 -- The steps of the parts of matching, put together.
-use Rattle.std.proofs.Common.{◌≡◌, ℕ, ◌+◌, ◌*◌, ◌<◌, ◌≤◌, arith}
+use Rattle.std.proofs.Common.{◌≡◌, ℕ, ◌+◌, ◌*◌, ◌<◌, ◌≤◌, subst, arith}
 use Rattle.std.proofs.Math.Nat.{mul-le-mul_left, mul-le-mul_right}
 
 -- of the walk, and of a part of what follows it: `labels` is the number of labels, `nodes` that of the rule's nodes
@@ -44,6 +44,13 @@ row_cost start rows nodes some = omega (arith, mul-le-mul_left rows some)
 
 pub row_room : (rows nodes most : ℕ) → rows ≤ 4294967295 → nodes ≤ most → most ≤ 32 → rows * nodes < 18446744073709551616
 row_room rows nodes most few less low = omega (arith, mul-le-mul_right nodes few, less, low)
+
+pub few_slots : (rows nodes most : ℕ) → rows ≤ 4294967295 → nodes ≤ most → most ≤ 32 → rows * nodes ≤ 4294967295 * 32
+few_slots rows nodes most few less low = omega (arith, mul-le-mul_right nodes few, less, low)
+
+-- with one hook
+pub one_each : (rows hooks more start after : ℕ) → hooks ≡ 1 → after + rows * hooks ≤ start + more → after + rows ≤ start + more
+one_each rows hooks more start after one cost = let each : after + rows * 1 ≤ start + more = subst (λ n. after + rows * n ≤ start + more) one cost in omega (arith, each)
 
 -- ---- tests, node by node
 

@@ -142,6 +142,10 @@ module _ (m : ArenaMap) (lawful : IsLawful m) (generalised : IsGeneralised (as_m
   pub edge_turns : (turns : List ℕ) → turns ≡ 1 ∷ 0 ∷ [] → AreCells (IsTurn m word (names_of m (ends from to turns))) (length turns) (length word) turns
   edge_turns turns are = rw are (turns_two m word i one letter (name_at m from.at) (name_at m to.at) apart to_is back_is)
 
+-- a letter has one label
+pub same_label : (i j : ℕ) → At i ≡ At j → i ≡ j
+same_label i j e = cc
+
 -- the label is one of the map's
 pub only_label : (dim : ℕ) (word : List Letter) (i : ℕ) → IsWord dim word → slice_get word 0 ≡ Some (At i) → i ≤ dim
 only_label dim word i is_word letter = subst (IsLabelUpTo dim) (get_or_from_slice_get word 0 (At i) (At i) letter) (is_word 0 (At i) (slice_get_within word 0 (At i) letter))

@@ -16,7 +16,7 @@ use Rattle.gm_arena.specs.declared.slot.Slot.{Slot}
 use Rattle.gm_plan.specs.Plans.{IsLeftCount, IsPlanned}
 use Rattle.gm_match.specs.Layout.{IsTurnAmong}
 use Rattle.gm_theory.proofs.Candidates.{hook_left, hook_letter, letter_low}
-use Rattle.gm_theory.proofs.Lists.{contained_at}
+use Rattle.gm_theory.proofs.Lists.{contained_at, get_contained}
 use Rattle.gm_theory.proofs.RuleSteps.{word_below}
 
 -- the place of a turn that is one of the first rows'
@@ -45,6 +45,24 @@ hook_there table other hooks same is_hooks t within = rw (is_hooks, same) (slice
 
 pub hooks_long : (table other : RuleTable) (hooks : List ℕ) → other ≡ table → hooks ≡ other.hooks → length hooks ≡ length (rule_of table).hooks
 hooks_long table other hooks same is_hooks = rw (is_hooks, same) refl
+
+-- and has, where there are as many darts
+pub some_hook : (table other : RuleTable) (hooks : List ℕ) (darts : ℕ) → other ≡ table → hooks ≡ other.hooks → 0 < darts → darts ≡ length (rule_of table).hooks → 0 < length hooks
+some_hook table other hooks darts same is_hooks some count = subst (λ n. 0 < n) (count ∙ sym (hooks_long table other hooks same is_hooks)) some
+
+-- each of them is one of the rule, and a left node
+module _ (schema : Schema) (table other : RuleTable) (hooks : List ℕ) (planned : IsPlanned schema (rule_of table)) (same : other ≡ table) (is_hooks : hooks ≡ other.hooks) (t : ℕ) (within : t < length hooks) where
+  low : t < length (rule_of table).hooks
+  low = subst (λ n. t < n) (hooks_long table other hooks same is_hooks) within
+
+  pub hook_at : slice_get (rule_of table).hooks t ≡ Some (get_or hooks t 0)
+  hook_at = hook_there table other hooks same is_hooks t low
+
+  pub hook_among : Contains (rule_of table).hooks (get_or hooks t 0)
+  hook_among = get_contained (rule_of table).hooks t (get_or hooks t 0) hook_at
+
+  pub hook_below : (nodes : ℕ) → IsLeftCount (rule_of table) nodes → get_or hooks t 0 < nodes
+  hook_below nodes counts = (counts (get_or hooks t 0)).0 (hook_left schema (rule_of table) planned.accepted.in_range planned.accepted.incidence t (get_or hooks t 0) hook_at)
 
 -- what is read at the turn
 pub record IsTurning (schema : Schema) (rule : Rule) (h : ℕ) (word : List Letter) (turn nodes : ℕ) (slots : List Slot) : Type 0 where

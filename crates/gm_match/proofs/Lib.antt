@@ -11,6 +11,7 @@ pub mod FirstBroken
 pub mod FirstTurns
 pub mod ForcedMet
 pub mod Growing
+pub mod Leading
 pub mod OneNode
 pub mod Placing
 pub mod Stepping

@@ -1,5 +1,5 @@
 -- What the parts of matching have made: the hook darts, and the slots and turns of the candidate.
-use Rattle.std.specs.Prelude.{◌≡◌, ℕ, zero, suc, ◌+◌, ◌*◌, ◌/◌, ◌%◌, ◌<◌, List, [], ◌∷◌, length, take, None, Some, slice_get, slice_index}
+use Rattle.std.specs.Prelude.{◌≡◌, ℕ, zero, suc, ◌+◌, ◌*◌, ◌/◌, ◌%◌, ◌<◌, ◌≤◌, List, [], ◌∷◌, length, take, None, Some, slice_get, slice_index}
 use Rattle.std.specs.FinMap.{get}
 use Rattle.gm_model.specs.declared.rule.Side.TheVariants.{Left}
 use Rattle.gm_model.specs.Maps.{IsGeneralised}
@@ -65,6 +65,17 @@ walk_of zero one walked = walked
 walk_of (suc (suc places)) one walked = walked
 
 -- ---- slots
+
+-- what slots are put for: the hooks of a plan have these darts, and the first of them lies along this walk
+pub record AreWalkedFrom (m : ArenaMap) (plan : PlanOf) (darts walk : List Slot) : Type 0 where
+  pub matchable : AreMatchable m plan
+  pub some : 0 < length darts
+  pub count : length darts ≡ length (rule_of plan.table).hooks
+  pub darts_live : AreLive m darts
+  pub some_position : 0 < length walk
+  pub few : length walk ≤ 4294967295
+  pub walk_live : AreLive m walk
+  pub starts : slice_index (names_of m walk) 0 ≡ slice_index (names_of m darts) 0
 
 -- the dart that a row of slots has for node x
 abbrev pub dart_in : ArenaMap → List Slot → ℕ → ℕ

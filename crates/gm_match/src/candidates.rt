@@ -8,7 +8,7 @@ ghost use Rattle.gm_walk.specs.Cells.{AreCells};
 ghost use Rattle.gm_walk.specs.Room.{Fits};
 ghost use Rattle.gm_walk.specs.Turns.{IsTurn};
 ghost use Rattle.gm_walk.specs.Walks.{AreLive, along, names_of};
-ghost use Rattle.gm_match.specs.Layout.{AreMatchable, AreRows, HaveFirstTurns, IsCandidateAt, LeadBefore, IsFirstTo};
+ghost use Rattle.gm_match.specs.Layout.{AreMatchable, AreRows, AreWalkedFrom, HaveFirstTurns, IsCandidateAt, LeadBefore, IsFirstTo};
 ghost use Rattle.gm_match.specs.Taken.{AreSlotsOf};
 
 use crate::columns::fill_columns;
@@ -114,16 +114,9 @@ fn fill_slots<L: Ledger>(
     slots: &mut Vec<Slot>,
     steps: &mut Steps<L>,
 ) -> Result<(), OutOfMemory>
-    requires matchable { AreMatchable arena.now plan.now }
-    requires some { 0 < length darts.now }
-    requires count { length darts.now ≡ length (rule_of plan.now.table).hooks }
-    requires darts { AreLive arena.now darts.now }
+    requires walked { AreWalkedFrom arena.now plan.now darts.now walk.now }
     requires places { places ≡ width (rule_of plan.now.table) }
     requires short { places ≡ 1 → length walk.now ≤ 2 }
-    requires some_position { 0 < length walk.now }
-    requires few { length walk.now ≤ 4294967295 }
-    requires walk { AreLive arena.now walk.now }
-    requires starts { slice_index (names_of arena.now walk.now) 0 ≡ slice_index (names_of arena.now darts.now) 0 }
     requires turns { HaveFirstTurns turns.now (length walk.now) (width (rule_of plan.now.table)) }
     requires empty { slots.old.items ≡ [] }
     ensures slots { OnOk result ((nodes : ℕ) × IsLeftCount (rule_of plan.now.table) nodes
@@ -155,14 +148,7 @@ fn fill_rows<L: Ledger>(
     slots: &mut Vec<Slot>,
     steps: &mut Steps<L>,
 ) -> Result<(), OutOfMemory>
-    requires matchable { AreMatchable arena.now plan.now }
-    requires some { 0 < length darts.now }
-    requires count { length darts.now ≡ length (rule_of plan.now.table).hooks }
-    requires darts { AreLive arena.now darts.now }
-    requires some_position { 0 < length walk.now }
-    requires few { length walk.now ≤ 4294967295 }
-    requires walk { AreLive arena.now walk.now }
-    requires starts { slice_index (names_of arena.now walk.now) 0 ≡ slice_index (names_of arena.now darts.now) 0 }
+    requires walked { AreWalkedFrom arena.now plan.now darts.now walk.now }
     requires turns { HaveFirstTurns turns.now (length walk.now) (width (rule_of plan.now.table)) }
     requires empty { slots.old.items ≡ [] }
     ensures slots { OnOk result ((nodes : ℕ) × IsLeftCount (rule_of plan.now.table) nodes

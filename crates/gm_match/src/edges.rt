@@ -1,13 +1,13 @@
 //! Slots of a rule whose hooks have one label each, so that their walk is a dart and its neighbour, or
 //! the dart alone.
-ghost use Rattle.std.specs.Prelude.{◌≡◌, ◌≢◌, ℕ, List, ◌+◌, ◌*◌, ◌<◌, ◌≤◌, [], length, slice_get, slice_index, Some, OnOk};
+ghost use Rattle.std.specs.Prelude.{◌≡◌, ◌≢◌, ℕ, List, ◌+◌, ◌*◌, ◌<◌, ◌≤◌, [], length, OnOk};
 ghost use Rattle.std.specs.List.{Contains};
 ghost use Rattle.gm_arena.specs.ArenaMap.{IsLiveSlot, alpha, name_at};
 ghost use Rattle.gm_model.specs.declared.rule.Side.TheVariants.{Left};
 ghost use Rattle.gm_model.specs.Rules.{rule_of, first_hook, label_at, letters, width};
 ghost use Rattle.gm_plan.specs.Plans.{IsLeftCount};
 ghost use Rattle.gm_walk.specs.Walks.{AreLive, names_of};
-ghost use Rattle.gm_match.specs.Layout.{AreHooksLaid, AreMatchable, AreRows, dart_at};
+ghost use Rattle.gm_match.specs.Layout.{AreHooksLaid, AreMatchable, AreRows, AreWalkedFrom, dart_at};
 
 use crate::columns::follow_links;
 use gm_arena::{Arena, Slot, Steps};
@@ -25,15 +25,9 @@ pub(crate) fn fill_edge<L: Ledger>(
     slots: &mut Vec<Slot>,
     steps: &mut Steps<L>,
 ) -> Result<(), OutOfMemory>
-    requires matchable { AreMatchable arena.now plan.now }
-    requires some { 0 < length darts.now }
-    requires count { length darts.now ≡ length (rule_of plan.now.table).hooks }
-    requires darts { AreLive arena.now darts.now }
+    requires walked { AreWalkedFrom arena.now plan.now darts.now walk.now }
     requires one { width (rule_of plan.now.table) ≡ 1 }
-    requires some_position { 0 < length walk.now }
     requires short { length walk.now ≤ 2 }
-    requires walk { AreLive arena.now walk.now }
-    requires starts { slice_index (names_of arena.now walk.now) 0 ≡ slice_index (names_of arena.now darts.now) 0 }
     requires empty { slots.old.items ≡ [] }
     ensures slots { OnOk result ((turns : List ℕ) → (nodes : ℕ) × IsLeftCount (rule_of plan.now.table) nodes
         × AreRows arena.now (rule_of plan.now.table) (names_of arena.now darts.now) (names_of arena.now walk.now) turns nodes (length walk.now) slots.new.items) }
@@ -56,17 +50,11 @@ fn write_edge<L: Ledger>(
     slots: &mut [Slot],
     steps: &mut Steps<L>,
 )
-    requires matchable { AreMatchable arena.now plan.now }
-    requires some { 0 < length darts.now }
-    requires count { length darts.now ≡ length (rule_of plan.now.table).hooks }
-    requires darts { AreLive arena.now darts.now }
+    requires walked { AreWalkedFrom arena.now plan.now darts.now walk.now }
     requires one { width (rule_of plan.now.table) ≡ 1 }
     requires nodes { IsLeftCount (rule_of plan.now.table) nodes }
     requires few { nodes ≤ 32 }
-    requires some_position { 0 < length walk.now }
     requires short { length walk.now ≤ 2 }
-    requires walk { AreLive arena.now walk.now }
-    requires starts { slice_index (names_of arena.now walk.now) 0 ≡ slice_index (names_of arena.now darts.now) 0 }
     requires long { length walk.now * nodes ≡ length slots.old }
     requires live { AreLive arena.now slots.old }
     ensures long { length slots.new ≡ length slots.old }
@@ -88,16 +76,11 @@ fn lay_hooks<L: Ledger>(
     slots: &mut [Slot],
     steps: &mut Steps<L>,
 )
-    requires matchable { AreMatchable arena.now plan.now }
-    requires some { 0 < length darts.now }
-    requires count { length darts.now ≡ length (rule_of plan.now.table).hooks }
-    requires darts { AreLive arena.now darts.now }
+    requires walked { AreWalkedFrom arena.now plan.now darts.now walk.now }
     requires one { width (rule_of plan.now.table) ≡ 1 }
     requires nodes { IsLeftCount (rule_of plan.now.table) nodes }
     requires few { nodes ≤ 32 }
-    requires some_position { 0 < length walk.now }
     requires short { length walk.now ≤ 2 }
-    requires walk { AreLive arena.now walk.now }
     requires long { length walk.now * nodes ≡ length slots.old }
     requires live { AreLive arena.now slots.old }
     ensures long { length slots.new ≡ length slots.old }

@@ -1,9 +1,9 @@
 use Rattle.std.proofs.Common.{ap, arith}
-use Rattle.std.proofs.Math.Nat.{le_trans}
+use Rattle.std.proofs.Math.Nat.{le_trans, le_refl}
 use Rattle.gm_model.specs.declared.schema.Schema.{Schema}
 use Rattle.gm_model.specs.Rules.{rule_of}
 use Rattle.gm_match.proofs.Costs.{label_most}
-use Rattle.gm_match.proofs.FirstBroken.{met_too, broken_too, all_labels, label_steps}
+use Rattle.gm_match.proofs.FirstBroken.{met_too, broken_too, all_labels, label_steps, none_yet}
 use Rattle.gm_match.proofs.Stepping.{node_below}
 use Rattle.gm_match.proofs.arcs.broken_position.Goals.{in-Some, in_default}
 use Rattle.gm_match.proofs.arcs.broken_position.Goals as goal
@@ -26,3 +26,27 @@ returns-clause-first g c = all_labels c.args.arena.now (rule_of c.args.plan.now.
 
 pub tested_step-step-requires-clause-node : goal.tested_step-step-requires-clause-node
 tested_step-step-requires-clause-node g c = node_below c.args.arena.now c.args.plan.now c.requires.matchable c.args.found.now c.requires.candidate.1.laid _ c.requires.node
+
+pub loop-label-init : goal.loop-label-init
+loop-label-init g c = record { so_far = none_yet c.args.arena.now (rule_of c.args.plan.now.table) c.args.found.now c.args.node c.positions-end.result c.positions-end.ensures.value; cost = omega arith; least = le_refl _ }
+
+pub first_broken-requires-clause-matchable : goal.first_broken-requires-clause-matchable
+first_broken-requires-clause-matchable g c = c.requires.matchable
+
+pub first_broken-requires-clause-candidate : goal.first_broken-requires-clause-candidate
+first_broken-requires-clause-candidate g c = c.requires.candidate
+
+pub first_broken-requires-clause-node : goal.first_broken-requires-clause-node
+first_broken-requires-clause-node g c = c.requires.node
+
+pub first_broken-requires-clause-forced : goal.first_broken-requires-clause-forced
+first_broken-requires-clause-forced g c = c.tested_step-step.ensures.forced
+
+pub first_broken-requires-clause-kept : goal.first_broken-requires-clause-kept
+first_broken-requires-clause-kept g c = c.tested_step-step.ensures.kept
+
+pub first_broken-requires-clause-end : goal.first_broken-requires-clause-end
+first_broken-requires-clause-end g c = c.loop-label.invariant.so_far.within
+
+pub returns-clause-least : goal.returns-clause-least
+returns-clause-least g c = c.loop-label.invariant.least

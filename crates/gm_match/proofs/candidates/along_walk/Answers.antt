@@ -16,12 +16,6 @@ use Rattle.gm_match.proofs.Placing.{IsTurned, names_begin, some_position, firsts
 use Rattle.gm_match.proofs.Stepping.{same_count}
 use Rattle.gm_match.proofs.candidates.along_walk.Goals as goal
 
-pub fill_slots-requires-clause-some_position : goal.fill_slots-requires-clause-some_position
-fill_slots-requires-clause-some_position g c = some_position c.args.arena.now (rule_of c.args.plan.now.table) _ c.args.walk.now c.args.word.now c.requires.walk
-
-pub fill_slots-requires-clause-walk : goal.fill_slots-requires-clause-walk
-fill_slots-requires-clause-walk g c = c.requires.walked
-
 pub fill_slots-requires-clause-turns : goal.fill_slots-requires-clause-turns
 fill_slots-requires-clause-turns g c = rw c.deref.ensures.value (firsts_of c.args.arena.now (rule_of c.args.plan.now.table) _ c.args.walk.now c.args.word.now c.args.turns.items c.requires.word c.requires.walk c.requires.turns)
 
@@ -47,24 +41,6 @@ returns-clause-candidate g c =
     let laid = c.in_ok-fill_slots.ensures.slots in
     is_candidate m rule _ walk found (names_of m c.args.darts.now) begin.0 begin.1 (length-map c.args.darts.now (λ (s : Slot). name_at m s.at) ∙ c.requires.count) laid.0 laid.1 (rw (c.with_nodes.ensures.turns, ← c.deref.ensures.value, c.with_nodes.ensures.slots) laid.2)
     c.with_nodes.ensures.positions (rw (c.with_nodes.ensures.slots, c.with_nodes.ensures.positions, c.with_nodes.ensures.nodes, same_count rule _ _ c.left_nodes.ensures.left laid.1) laid.2.along.long) live (subst (IsTurned m rule _ walk found) c.requires.word made)
-
-pub fill_slots-requires-clause-matchable : goal.fill_slots-requires-clause-matchable
-fill_slots-requires-clause-matchable g c = c.requires.matchable
-
-pub fill_slots-requires-clause-some : goal.fill_slots-requires-clause-some
-fill_slots-requires-clause-some g c = c.requires.some
-
-pub fill_slots-requires-clause-count : goal.fill_slots-requires-clause-count
-fill_slots-requires-clause-count g c = c.requires.count
-
-pub fill_slots-requires-clause-darts : goal.fill_slots-requires-clause-darts
-fill_slots-requires-clause-darts g c = c.requires.live
-
-pub fill_slots-requires-clause-few : goal.fill_slots-requires-clause-few
-fill_slots-requires-clause-few g c = c.requires.few
-
-pub fill_slots-requires-clause-starts : goal.fill_slots-requires-clause-starts
-fill_slots-requires-clause-starts g c = get_or_from_slice_get (names_of c.args.arena.now c.args.walk.now) 0 _ 0 c.requires.walk.starts
 
 pub fill_slots-requires-clause-empty : goal.fill_slots-requires-clause-empty
 fill_slots-requires-clause-empty g c = c.requires.no_slots
@@ -119,3 +95,16 @@ fill_slots-requires-clause-places g c = c.len.ensures.value ∙ ap length c.requ
 
 pub fill_slots-requires-clause-short : goal.fill_slots-requires-clause-short
 fill_slots-requires-clause-short g c = λ one. c.requires.short (sym c.len.ensures.value ∙ one)
+
+pub fill_slots-requires-clause-walked : goal.fill_slots-requires-clause-walked
+fill_slots-requires-clause-walked g c =
+    record {
+      matchable = c.requires.matchable;
+      some = c.requires.some;
+      count = c.requires.count;
+      darts_live = c.requires.live;
+      some_position = some_position c.args.arena.now (rule_of c.args.plan.now.table) _ c.args.walk.now c.args.word.now c.requires.walk;
+      few = c.requires.few;
+      walk_live = c.requires.walked;
+      starts = get_or_from_slice_get (names_of c.args.arena.now c.args.walk.now) 0 _ 0 c.requires.walk.starts;
+    }

@@ -19,14 +19,14 @@ use Rattle.gm_match.proofs.candidates.fill_rows.Goals as goal
 pub first_row-requires-clause-row : goal.first_row-requires-clause-row
 first_row-requires-clause-row g c =
     let m = c.args.arena.now in
-    All-replicate (λ (s : Slot). IsLiveSlot m s.at) 32 _ (All-get_or (λ (s : Slot). IsLiveSlot m s.at) c.args.darts.now 0 (record { at = 0 }) c.requires.some c.requires.darts)
+    All-replicate (λ (s : Slot). IsLiveSlot m s.at) 32 _ (All-get_or (λ (s : Slot). IsLiveSlot m s.at) c.args.darts.now 0 (record { at = 0 }) c.requires.walked.some c.requires.walked.darts_live)
 
 pub push_row-requires : goal.push_row-requires
 push_row-requires g c =
     let nodes = c.left_nodes-nodes.result in
     let made = c.first_row.ensures in
-    let wide = wide_row nodes _ c.first_row.new.row c.left_nodes-nodes.ensures.most c.requires.matchable.planned.within.nodes made.row.long in
-    let room = mul-le-mul_right nodes c.requires.some_position in
+    let wide = wide_row nodes _ c.first_row.new.row c.left_nodes-nodes.ensures.most c.requires.walked.matchable.planned.within.nodes made.row.long in
+    let room = mul-le-mul_right nodes c.requires.walked.some_position in
     omega (arith, room, ap length c.reserve.ensures.items, ap length c.requires.empty, length-take-le nodes c.first_row.new.row wide, c.in_ok-reserve.ensures.ok)
 
 pub loop-position-init : goal.loop-position-init
@@ -34,7 +34,7 @@ loop-position-init g c =
     let m = c.args.arena.now in
     let schema = c.args.plan.now.schema in
     let rule = rule_of c.args.plan.now.table in
-    let planned = c.requires.matchable.planned in
+    let planned = c.requires.walked.matchable.planned in
     let hooks = names_of m c.args.darts.now in
     let walk = names_of m c.args.walk.now in
     let turns = c.args.turns.now in
@@ -44,13 +44,13 @@ loop-position-init g c =
     let made = c.first_row.ensures in
     let wide = wide_row nodes _ row c.left_nodes-nodes.ensures.most planned.within.nodes made.row.long in
     let none = none_yet m schema rule planned hooks walk turns nodes counts in
-    let next = first_next m schema rule planned hooks walk turns nodes counts row c.requires.starts made.darts in
+    let next = first_next m schema rule planned hooks walk turns nodes counts row c.requires.walked.starts made.darts in
     record {
       rows = rw (c.push_row.ensures.items, c.reserve.ensures.items, c.requires.empty) (one_more m schema rule planned hooks walk turns nodes counts 0 [] row none made.row wide next);
       row_live = made.row.live;
       capacity = omega (arith, c.push_row.ensures.capacity, c.in_ok-reserve.ensures.ok);
       before = λ j less. absurd (omega (arith, less));
-      cost = omega (arith, made.cost, c.requires.some, c.requires.count);
+      cost = omega (arith, made.cost, c.requires.walked.some, c.requires.walked.count);
       least = made.least;
     }
 
@@ -77,7 +77,7 @@ push_row-requires-in-loop-position g c =
     let nodes = c.left_nodes-nodes.result in
     let i = c.loop-position.invariant in
     let made = c.later_row.ensures in
-    let wide = wide_row nodes _ c.later_row.new.row c.left_nodes-nodes.ensures.most c.requires.matchable.planned.within.nodes made.row.long in
+    let wide = wide_row nodes _ c.later_row.new.row c.left_nodes-nodes.ensures.most c.requires.walked.matchable.planned.within.nodes made.row.long in
     let room = mul-le-mul_right nodes c.loop-position-test.true in
     omega (arith, room, i.rows.along.long, length-take-le nodes c.later_row.new.row wide, i.capacity)
 
@@ -86,7 +86,7 @@ loop-position-preserved g c =
     let m = c.args.arena.now in
     let schema = c.args.plan.now.schema in
     let rule = rule_of c.args.plan.now.table in
-    let planned = c.requires.matchable.planned in
+    let planned = c.requires.walked.matchable.planned in
     let hooks = names_of m c.args.darts.now in
     let walk = names_of m c.args.walk.now in
     let turns = c.args.turns.now in
@@ -114,61 +114,61 @@ loop-position-preserved g c =
 pub returns-clause-slots : goal.returns-clause-slots
 returns-clause-slots g c =
     let m = c.args.arena.now in
-    let end = le_antisymm (c.loop-position.auto.position-end c.requires.some_position) c.loop-position-test.false in (
+    let end = le_antisymm (c.loop-position.auto.position-end c.requires.walked.some_position) c.loop-position-test.false in (
       c.left_nodes-nodes.result,
       c.left_nodes-nodes.ensures.left,
       subst (λ n. AreRows m (rule_of c.args.plan.now.table) (names_of m c.args.darts.now) (names_of m c.args.walk.now) c.args.turns.now c.left_nodes-nodes.result n c.loop-position.slots.items) end c.loop-position.invariant.rows,
     )
 
 pub overflow_mul-walk : goal.overflow_mul-walk
-overflow_mul-walk g c = omega (arith, row_room _ _ _ c.requires.few c.left_nodes-nodes.ensures.most c.requires.matchable.planned.within.nodes)
+overflow_mul-walk g c = omega (arith, row_room _ _ _ c.requires.walked.few c.left_nodes-nodes.ensures.most c.requires.walked.matchable.planned.within.nodes)
 
 pub returns-in_err-reserve-clause-slots : goal.returns-in_err-reserve-clause-slots
 returns-in_err-reserve-clause-slots g c = none_ok c.from_residual.result _ c.from_residual.ensures.0
 
 pub returns-in_err-reserve-clause-cost : goal.returns-in_err-reserve-clause-cost
-returns-in_err-reserve-clause-cost g c = row_cost _ _ _ (some_node c.requires.some c.requires.count (few_hooks c.args.plan.now.schema (rule_of c.args.plan.now.table) c.requires.matchable.planned))
+returns-in_err-reserve-clause-cost g c = row_cost _ _ _ (some_node c.requires.walked.some c.requires.walked.count (few_hooks c.args.plan.now.schema (rule_of c.args.plan.now.table) c.requires.walked.matchable.planned))
 
 pub returns-in_err-reserve-clause-least : goal.returns-in_err-reserve-clause-least
 returns-in_err-reserve-clause-least g c = le_refl _
 
 pub first_row-requires-clause-matchable : goal.first_row-requires-clause-matchable
-first_row-requires-clause-matchable g c = c.requires.matchable
+first_row-requires-clause-matchable g c = c.requires.walked.matchable
 
 pub first_row-requires-clause-count : goal.first_row-requires-clause-count
-first_row-requires-clause-count g c = c.requires.count
+first_row-requires-clause-count g c = c.requires.walked.count
 
 pub first_row-requires-clause-live : goal.first_row-requires-clause-live
-first_row-requires-clause-live g c = c.requires.darts
+first_row-requires-clause-live g c = c.requires.walked.darts_live
 
 pub slice_bounds-row-end : goal.slice_bounds-row-end
-slice_bounds-row-end g c = wide_row c.left_nodes-nodes.result _ c.first_row.new.row c.left_nodes-nodes.ensures.most c.requires.matchable.planned.within.nodes c.first_row.ensures.row.long
+slice_bounds-row-end g c = wide_row c.left_nodes-nodes.result _ c.first_row.new.row c.left_nodes-nodes.ensures.most c.requires.walked.matchable.planned.within.nodes c.first_row.ensures.row.long
 
 pub slice_bounds-push_row-end : goal.slice_bounds-push_row-end
 slice_bounds-push_row-end g c =
-    let wide = wide_row c.left_nodes-nodes.result _ c.first_row.new.row c.left_nodes-nodes.ensures.most c.requires.matchable.planned.within.nodes c.first_row.ensures.row.long in
+    let wide = wide_row c.left_nodes-nodes.result _ c.first_row.new.row c.left_nodes-nodes.ensures.most c.requires.walked.matchable.planned.within.nodes c.first_row.ensures.row.long in
     sym (length-take-le c.left_nodes-nodes.result c.first_row.new.row wide)
 
 pub overflow_cast-position : goal.overflow_cast-position
-overflow_cast-position g c = omega (arith, c.loop-position-test.true, c.requires.few)
+overflow_cast-position g c = omega (arith, c.loop-position-test.true, c.requires.walked.few)
 
 pub next_turn-turn-requires-clause-before : goal.next_turn-turn-requires-clause-before
 next_turn-turn-requires-clause-before g c = c.loop-position.invariant.before
 
 pub offset_bounds-walk-position : goal.offset_bounds-walk-position
-offset_bounds-walk-position g c = omega (arith, c.loop-position-test.true, c.requires.few)
+offset_bounds-walk-position g c = omega (arith, c.loop-position-test.true, c.requires.walked.few)
 
 pub bounds-walk-position : goal.bounds-walk-position
 bounds-walk-position g c = c.loop-position-test.true
 
 pub later_row-requires-clause-matchable : goal.later_row-requires-clause-matchable
-later_row-requires-clause-matchable g c = c.requires.matchable
+later_row-requires-clause-matchable g c = c.requires.walked.matchable
 
 pub later_row-requires-clause-some : goal.later_row-requires-clause-some
-later_row-requires-clause-some g c = subst (λ n. 0 < n) c.requires.count c.requires.some
+later_row-requires-clause-some g c = subst (λ n. 0 < n) c.requires.walked.count c.requires.walked.some
 
 pub later_row-requires-clause-first : goal.later_row-requires-clause-first
-later_row-requires-clause-first g c = c.requires.walk c.loop-position.position (record { at = 0 }) c.loop-position-test.true
+later_row-requires-clause-first g c = c.requires.walked.walk_live c.loop-position.position (record { at = 0 }) c.loop-position-test.true
 
 pub later_row-requires-clause-slots : goal.later_row-requires-clause-slots
 later_row-requires-clause-slots g c = subst (AreLive c.args.arena.now) (sym c.deref.ensures.value) c.loop-position.invariant.rows.along.live
@@ -177,16 +177,16 @@ pub later_row-requires-clause-row : goal.later_row-requires-clause-row
 later_row-requires-clause-row g c = c.loop-position.invariant.row_live
 
 pub slice_bounds-row-end-in-loop-position : goal.slice_bounds-row-end-in-loop-position
-slice_bounds-row-end-in-loop-position g c = wide_row c.left_nodes-nodes.result _ c.later_row.new.row c.left_nodes-nodes.ensures.most c.requires.matchable.planned.within.nodes c.later_row.ensures.row.long
+slice_bounds-row-end-in-loop-position g c = wide_row c.left_nodes-nodes.result _ c.later_row.new.row c.left_nodes-nodes.ensures.most c.requires.walked.matchable.planned.within.nodes c.later_row.ensures.row.long
 
 pub slice_bounds-push_row-end-in-loop-position : goal.slice_bounds-push_row-end-in-loop-position
 slice_bounds-push_row-end-in-loop-position g c =
-    let wide = wide_row c.left_nodes-nodes.result _ c.later_row.new.row c.left_nodes-nodes.ensures.most c.requires.matchable.planned.within.nodes c.later_row.ensures.row.long in
+    let wide = wide_row c.left_nodes-nodes.result _ c.later_row.new.row c.left_nodes-nodes.ensures.most c.requires.walked.matchable.planned.within.nodes c.later_row.ensures.row.long in
     sym (length-take-le c.left_nodes-nodes.result c.later_row.new.row wide)
 
 pub returns-clause-cost : goal.returns-clause-cost
 returns-clause-cost g c =
-    let end = le_antisymm (c.loop-position.auto.position-end c.requires.some_position) c.loop-position-test.false in
+    let end = le_antisymm (c.loop-position.auto.position-end c.requires.walked.some_position) c.loop-position-test.false in
     subst (λ p. c.loop-position.steps + p ≤ c.args.steps.now + p * length (rule_of c.args.plan.now.table).nodes) end c.loop-position.invariant.cost
 
 pub returns-clause-least : goal.returns-clause-least

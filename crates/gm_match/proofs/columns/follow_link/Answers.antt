@@ -1,11 +1,11 @@
 use Rattle.std.proofs.Common.{◌+◌, ◌*◌, inr, length, sym, ◌∙◌, arith}
 use Rattle.std.proofs.Math.Nat.{le_refl}
-use Rattle.std.proofs.lemmas.List.Elements.{All-set}
+use Rattle.std.proofs.lemmas.List.Elements.{All-set, All-get_or}
 use Rattle.gm_arena.specs.declared.slot.Slot.{Slot}
 use Rattle.gm_arena.specs.ArenaMap.{IsLiveSlot, alpha}
 use Rattle.gm_walk.proofs.NameLemmas.{live_at}
 use Rattle.gm_match.specs.Layout.{dart_at}
-use Rattle.gm_match.proofs.Column.{place_within, column_begun, column_next, led_on}
+use Rattle.gm_match.proofs.Column.{place_within, column_begun, column_next, led_on, place_low, start_low}
 use Rattle.gm_match.proofs.Paths.{row_name}
 use Rattle.gm_match.proofs.columns.follow_link.Goals as goal
 
@@ -34,3 +34,27 @@ loop-position-preserved g c =
       live = All-set (λ (s : Slot). IsLiveSlot m s.at) slots (p * nodes + link.to) c.alpha.result (live_at m c.alpha.result.at _ c.alpha.ensures.neighbour) i.live;
       cost = omega (arith, i.cost, c.alpha.ensures.cost);
     }
+
+pub overflow_mul-start : goal.overflow_mul-start
+overflow_mul-start g c = omega (arith, start_low c.args.rows c.args.nodes c.loop-position.position c.requires.few c.loop-position-test.true)
+
+pub overflow_add-from : goal.overflow_add-from
+overflow_add-from g c = omega (arith, place_low c.args.rows c.args.nodes c.loop-position.position c.args.link.from c.requires.few c.loop-position-test.true c.requires.from)
+
+pub overflow_add-start : goal.overflow_add-start
+overflow_add-start g c = omega (arith, place_low c.args.rows c.args.nodes c.loop-position.position c.args.link.to c.requires.few c.loop-position-test.true c.requires.to)
+
+pub bounds-slots-start : goal.bounds-slots-start
+bounds-slots-start g c = place_within c.args.rows c.args.nodes c.loop-position.position c.args.link.to (length c.loop-position.slots) (c.requires.long ∙ sym c.loop-position.invariant.so_far.long) c.loop-position-test.true c.requires.to
+
+pub alpha-requires-clause-live : goal.alpha-requires-clause-live
+alpha-requires-clause-live g c = All-get_or (λ (s : Slot). IsLiveSlot c.args.arena.now s.at) c.loop-position.slots (c.loop-position.position * c.args.nodes + c.args.link.from) (record { at = 0 }) (place_within c.args.rows c.args.nodes c.loop-position.position c.args.link.from (length c.loop-position.slots) (c.requires.long ∙ sym c.loop-position.invariant.so_far.long) c.loop-position-test.true c.requires.from) c.loop-position.invariant.live
+
+pub alpha-requires-clause-label : goal.alpha-requires-clause-label
+alpha-requires-clause-label g c = c.requires.label
+
+pub returns-clause-live : goal.returns-clause-live
+returns-clause-live g c = c.loop-position.invariant.live
+
+pub returns-clause-long : goal.returns-clause-long
+returns-clause-long g c = c.loop-position.invariant.so_far.long

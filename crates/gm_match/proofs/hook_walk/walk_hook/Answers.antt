@@ -1,4 +1,4 @@
-use Rattle.std.proofs.Common.{length, sym, subst, ◌∙◌}
+use Rattle.std.proofs.Common.{length, sym, subst, ◌∙◌, refl}
 use Rattle.gm_arena.specs.ArenaMap.{name_at}
 use Rattle.gm_model.specs.Orbits.{IsWalk}
 use Rattle.gm_walk.specs.Cells.{AreCells}
@@ -6,6 +6,7 @@ use Rattle.gm_walk.specs.Turns.{IsTurn}
 use Rattle.gm_walk.specs.Walks.{AreLive, along, names_of}
 use Rattle.gm_match.specs.Layout.{ends}
 use Rattle.gm_match.proofs.EdgeWalks.{edge_steps, ends_live, ends_long, one_walk, other_walk}
+use Rattle.gm_model.proofs.Exits.{unless_ok}
 use Rattle.gm_match.proofs.hook_walk.walk_hook.Goals as goal
 
 pub returns-then-len-eq1-clause-walk : goal.returns-then-len-eq1-clause-walk
@@ -70,3 +71,48 @@ returns-in_err-to-clause-cost g c = λ walk is_walk. edge_steps c.args.arena.now
 
 pub returns-clause-few : goal.returns-clause-few
 returns-clause-few g c = λ one. absurd (c.if-len-eq1.false (c.len.ensures.value ∙ one))
+
+pub walk_edge-requires-clause-lawful : goal.walk_edge-requires-clause-lawful
+walk_edge-requires-clause-lawful g c = c.requires.lawful
+
+pub walk_edge-requires-clause-generalised : goal.walk_edge-requires-clause-generalised
+walk_edge-requires-clause-generalised g c = c.requires.generalised
+
+pub walk_edge-requires-clause-live : goal.walk_edge-requires-clause-live
+walk_edge-requires-clause-live g c = c.requires.live
+
+pub walk_edge-requires-clause-word : goal.walk_edge-requires-clause-word
+walk_edge-requires-clause-word g c = c.requires.word
+
+pub walk_edge-requires-clause-one : goal.walk_edge-requires-clause-one
+walk_edge-requires-clause-one g c = sym c.len.ensures.value ∙ c.if-len-eq1.true
+
+pub walk_edge-requires-clause-empty : goal.walk_edge-requires-clause-empty
+walk_edge-requires-clause-empty g c = c.requires.empty
+
+pub returns-in_err-to-clause-few : goal.returns-in_err-to-clause-few
+returns-in_err-to-clause-few g c = λ one. unless_ok _ c.from_residual.result c.from_residual.ensures.0
+
+pub returns-in_err-to-clause-walk : goal.returns-in_err-to-clause-walk
+returns-in_err-to-clause-walk g c = unless_ok _ c.from_residual.result c.from_residual.ensures.0
+
+pub returns-in_err-to-clause-live : goal.returns-in_err-to-clause-live
+returns-in_err-to-clause-live g c = unless_ok _ c.from_residual.result c.from_residual.ensures.0
+
+pub returns-in_err-to-clause-turns : goal.returns-in_err-to-clause-turns
+returns-in_err-to-clause-turns g c = unless_ok _ c.from_residual.result c.from_residual.ensures.0
+
+pub returns-in_err-to-clause-least : goal.returns-in_err-to-clause-least
+returns-in_err-to-clause-least g c = c.walk_edge.ensures.least
+
+pub returns-in_err-to-clause-room : goal.returns-in_err-to-clause-room
+returns-in_err-to-clause-room g c = refl
+
+pub returns-then-len-eq1-clause-few : goal.returns-then-len-eq1-clause-few
+returns-then-len-eq1-clause-few g c = λ one. c.in_ok-to.ensures.few
+
+pub returns-then-len-eq1-clause-least : goal.returns-then-len-eq1-clause-least
+returns-then-len-eq1-clause-least g c = c.walk_edge.ensures.least
+
+pub returns-then-len-eq1-clause-room : goal.returns-then-len-eq1-clause-room
+returns-then-len-eq1-clause-room g c = refl

@@ -1,20 +1,17 @@
-use Rattle.std.proofs.Common.{◌≡◌, ℕ, ◌+◌, ◌*◌, ◌/◌, ◌%◌, ◌<◌, get_or, length, sym, ap, ◌∙◌, arith}
+use Rattle.std.proofs.Common.{◌≡◌, ◌+◌, ◌*◌, ◌/◌, ◌%◌, ◌<◌, get_or, length, sym, ap, ◌∙◌, arith}
 use Rattle.std.proofs.lemmas.List.Elements.{All-get_or}
 use Rattle.gm_model.specs.declared.rule.Side.TheVariants.{Left}
-use Rattle.gm_model.specs.declared.word.Letter.TheVariants.{At}
 use Rattle.gm_model.specs.Rules.{rule_of, letters, label_at, width}
 use Rattle.gm_arena.specs.declared.slot.Slot.{Slot}
 use Rattle.gm_arena.specs.ArenaMap.{IsLiveSlot, name_at, alpha}
 use Rattle.gm_walk.proofs.NameLemmas.{at_name, live_at}
 use Rattle.gm_match.specs.Layout.{dart_in}
 use Rattle.gm_theory.proofs.Lists.{some_same}
+use Rattle.gm_match.proofs.EdgeWalks.{same_label}
 use Rattle.gm_match.proofs.Hooks.{turning_by, own_word}
 use Rattle.gm_match.proofs.Paths.{row_name}
 use Rattle.gm_match.proofs.Stepping.{same_count}
 use Rattle.gm_match.proofs.rows.step_hook.Goals as goal
-
-same_label : (i j : ℕ) → At i ≡ At j → i ≡ j
-same_label i j e = cc
 
 pub letter-requires : goal.letter-requires
 letter-requires g c =
