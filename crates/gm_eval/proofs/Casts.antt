@@ -1,5 +1,5 @@
 -- What a number of 64 bits, or one computed from such, is after its casts: itself.
-use Rattle.std.proofs.Common.{◌≡◌, ◌≢◌, ◌≤◌, ◌^◌, unsigned_abs, ℤ, pos, negsuc, ◌*ℤ◌, ◌-ℤ◌, ◌<ℤ◌, ◌≤ℤ◌, neg_ℤ, int_lt, false, FitsSigned, Option, sym, subst, ap, ap₂, ◌∙◌, arith, w64, to_z, of_z}
+use Rattle.std.proofs.Common.{◌≡◌, ◌≢◌, ◌≤◌, ◌^◌, unsigned_abs, ℤ, pos, negsuc, ◌*ℤ◌, ◌-ℤ◌, ◌<ℤ◌, ◌≤ℤ◌, neg_ℤ, int_lt, false, true, FitsSigned, Option, sym, subst, ap, ap₂, ◌∙◌, arith, w64, to_z, of_z}
 use Rattle.std.specs.Int.{w128}
 use Rattle.gm_eval.specs.Made.{IsExact}
 use Rattle.std.proofs.lemmas.Int.{fits_signed_mul, ints, to_z-of_z}
@@ -43,3 +43,14 @@ at_most (negsuc n) fits = omega (arith, ints, fits)
 
 pub product_is : (x y : ℤ) → FitsSigned w64 x → FitsSigned w64 y → kept (wide x *ℤ wide y) ≡ x *ℤ y
 product_is x y fits_x fits_y = ap₂ (λ u v. kept (u *ℤ v)) (wide_is x fits_x) (wide_is y fits_y) ∙ to_z-of_z w128 (x *ℤ y) (fits_signed_mul w128 x y (2 ^ 63) (2 ^ 63) (at_most x fits_x) (at_most y fits_y) (omega arith))
+
+-- what is left of a number of 64 bits by a multiple
+pub without_multiple : (x y q r : ℤ) → FitsSigned w64 x → FitsSigned w64 y → FitsSigned w64 q → FitsSigned w128 r → r ≡ passed y *ℤ passed q → wide x -ℤ kept r ≡ x -ℤ (y *ℤ q)
+without_multiple x y q r fits_x fits_y fits_q fits_r e = ap₂ ◌-ℤ◌ (wide_is x fits_x) (to_z-of_z w128 r fits_r ∙ e ∙ ap₂ ◌*ℤ◌ (to_z-of_z w64 y fits_y) (to_z-of_z w64 q fits_q))
+
+pub quotient_is : (op : ℤ → ℤ → ℤ) (x y q : ℤ) → FitsSigned w64 x → FitsSigned w64 y → q ≡ op (passed x) (passed y) → q ≡ op x y
+quotient_is op x y q fits_x fits_y e = e ∙ ap₂ op (to_z-of_z w64 x fits_x) (to_z-of_z w64 y fits_y)
+
+-- a positive number is so as it is passed
+pub above : (y : ℤ) → FitsSigned w64 y → int_lt (pos 0) (passed y) ≡ true → pos 0 <ℤ y
+above y fits h = let same : int_lt (pos 0) y ≡ true = ap (int_lt (pos 0)) (sym (to_z-of_z w64 y fits)) ∙ h in grind (arith, ints)

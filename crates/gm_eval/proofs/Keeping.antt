@@ -99,6 +99,12 @@ as_count reader forms.Sum mask term e ready = count_ready reader (Sum mask term 
 as_count reader forms.Least mask term e ready = count_ready reader (Least mask term e) ready mask term ready.typed.has_kind.in_range.0 ready.typed.has_kind.in_range.1
 as_count reader forms.Greatest mask term e ready = count_ready reader (Greatest mask term e) ready mask term ready.typed.has_kind.in_range.0 ready.typed.has_kind.in_range.1
 
+-- where a greatest number can be read, so can the least
+pub as_least : (reader : Reader) (mask : Mask) (term : DartTerm) (e : ℕ) → IsReady reader (Greatest mask term e) → IsReady reader (Least mask term e)
+as_least reader mask term e ready =
+    let t = ready.typed in
+    record { here = ready.here; typed = record { rule = t.rule; kind = t.kind; has_kind = record { in_range = t.has_kind.in_range; kind_is = t.has_kind.kind_is }; good_params = t.good_params; nodes_among = t.nodes_among } }
+
 pub node_there : (reader : Reader) (form : Form) (mask : Mask) (term : DartTerm) (e : ℕ) → IsReady reader (collector_at form mask term e) → term.node < reader.found.now.nodes
 node_there reader form mask term e ready =
     let counted = as_count reader form mask term e ready in

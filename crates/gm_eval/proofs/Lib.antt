@@ -9,6 +9,7 @@ pub mod Ready
 pub mod Collected
 pub mod Parts
 pub mod Matched
+pub mod Measures
 pub mod Keeping
 pub mod Sharing
 pub mod Adding

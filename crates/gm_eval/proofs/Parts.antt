@@ -20,7 +20,7 @@ use Rattle.gm_theory.proofs.ReadingsTyped.{then_some, of_two, of_three, typed}
 use Rattle.gm_theory.proofs.ValuesUnique.{one_value, int_same}
 use Rattle.gm_eval.specs.declared.kept.Entry.{Entry}
 use Rattle.gm_eval.specs.declared.reader.Reader.{Reader}
-use Rattle.gm_eval.specs.Readers.{AreLeft, AreNumbersThere, AreValuesThere, IsReady, IsInt, IsValueThere, IsWithin, Read, UnitsBeside, reading_of}
+use Rattle.gm_eval.specs.Readers.{AreLeft, AreNumbersThere, AreValuesThere, IsRead, IsReady, IsInt, IsValueThere, IsWithin, Read, UnitsBeside, reading_of}
 use Rattle.gm_eval.proofs.Operated.{Found, found_as}
 use Rattle.gm_eval.proofs.Ready.{is_reading}
 
@@ -180,6 +180,14 @@ module _ (reader : Reader) where
 
   pub left_as : (expr : Expr) (tree : Tree) (kept : Option (List Entry)) → tree_of expr ≡ tree → AreLeft reader (Read reader tree) kept → AreLeft reader (Read reader (tree_of expr)) kept
   left_as expr tree kept e h = subst (λ x. AreLeft reader (Read reader x) kept) (sym e) h
+
+  pub read_as : (expr : Expr) (tree : Tree) (P Q : Type 0) (old new : Option (List Entry)) (from to bound after : ℕ) → tree_of expr ≡ tree → (Q → P) → IsRead reader tree P old new from to bound after → IsRead reader (tree_of expr) Q old new from to bound after
+  read_as expr tree P Q old new from to bound after e given h =
+      subst (λ x. IsRead reader x Q old new from to bound after) (sym e) (record { cost = h.cost; least = h.least; room = h.room; kept = h.kept; stays = h.stays; adds = h.adds; left = λ q. h.left (given q) })
+
+  -- both parts of an operator are read as those of a vector are
+  pub both_read : (op : BinOp) (a b : Tree) (P Q : Type 0) (old new : Option (List Entry)) (from to bound after : ℕ) → (Q → P) → IsRead reader (MakeVec2 a b) P old new from to bound after → IsRead reader (Binary op a b) Q old new from to bound after
+  both_read op a b P Q old new from to bound after given h = record { cost = h.cost; least = h.least; room = h.room; kept = h.kept; stays = h.stays; adds = h.adds; left = λ q. h.left (given q) }
 
   pub no_values : (a b : Tree) (o : Option (Value × Value)) → o ≡ None → ((v w : Value) → HasValue R a v → HasValue R b w → ⊥) → AreValuesThere reader a b o
   no_values a b o e none = subst (AreValuesThere reader a b) (sym e) none

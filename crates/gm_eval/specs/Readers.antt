@@ -17,7 +17,8 @@ use Rattle.gm_eval.specs.declared.kept.Form.{Form}
 use Rattle.gm_eval.specs.declared.kept.Form.TheVariants as forms
 use Rattle.gm_eval.specs.declared.reader.Reader.{Reader}
 use Rattle.gm_eval.specs.Places.{AreLiveAt, IsTypedFor, reading_in}
-use Rattle.gm_eval.specs.Sharing.{AreKeptOnce, HasOwnUnits, HasRoom, HasUnitsBeside, IsAtHand, IsOwn, IsShared, Reads}
+use Rattle.gm_eval.specs.Keeping.{AreKept}
+use Rattle.gm_eval.specs.Sharing.{AreKeptOnce, HasOwnUnits, HasRoom, HasUnitsBeside, IsAtHand, IsOwn, IsShared, Reads, StillKept, collectors_of}
 
 abbrev pub reading_of : Reader → Reading
 reading_of reader = reading_in reader.arena.now reader.found.now reader.position reader.params.now
@@ -97,3 +98,13 @@ Read reader tree c = Reads (reading_of reader) tree c
 
 abbrev pub IsOfMean : Mask → DartTerm → ℕ → Collector → Type 0
 IsOfMean mask term e c = IsOwn forms.Sum mask term e c ⊎ IsOwn forms.Count mask term 0 c
+
+-- A reading of the expression took the steps from `from` to `to` beside what was kept, and left this. The scratch has the room that it had, and where a value is given, the collectors that were read are kept.
+pub record IsRead (reader : Reader) (tree : Tree) (IsGiven : Type 0) (old new : Option (List Entry)) (from to bound bound_after : ℕ) : Type 0 where
+  pub cost : IsWithin reader (UnitsBeside reader old tree) from to
+  pub least : from ≤ to
+  pub room : bound_after ≡ bound
+  pub kept : AreKept reader.arena.now reader.found.now reader.params.now new
+  pub stays : StillKept old new
+  pub adds : AddsOnly (collectors_of tree) old new
+  pub left : IsGiven → AreLeft reader (Read reader tree) new

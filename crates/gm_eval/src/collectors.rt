@@ -235,9 +235,15 @@ impl Reader<'_> {
     {
         match form {
             Form::Count => self.count(mask, term, scratch, steps),
-            Form::Sum => self.sum(mask, term, embed, scratch, steps),
-            Form::Least => Some(self.least(mask, term, embed, scratch, steps)),
-            Form::Greatest => Some(self.greatest(mask, term, embed, scratch, steps)),
+            Form::Sum => self.sum_and_count(mask, term, embed, scratch, steps).0,
+            Form::Least => {
+                let (least, _) = self.extremes(mask, term, embed, scratch, steps);
+                Some(Value::Int(least))
+            }
+            Form::Greatest => {
+                let (_, greatest) = self.extremes(mask, term, embed, scratch, steps);
+                Some(Value::Int(greatest))
+            }
         }
     }
 
@@ -279,26 +285,6 @@ impl Reader<'_> {
     {
         let walk = self.orbit(mask, term, scratch, steps);
         int(walk.slots().len() as i128)
-    }
-
-    /// The sum of the embedding's values over the orbit of the term's dart.
-    fn sum<L: Ledger>(
-        &self,
-        mask: Mask,
-        term: &DartTerm,
-        embed: u8,
-        scratch: &mut Scratch,
-        steps: &mut Steps<L>,
-    ) -> Option<Value>
-        requires ready { IsReady self.now (Sum mask term.now embed) }
-        requires fits { Fits scratch.old self.now.arena.now }
-        ensures value { MatchOption result (IsNone (HasValue (reading_of self.now) (Sum mask term.now embed))) (HasValue (reading_of self.now) (Sum mask term.now embed)) }
-        ensures cost { IsWithinUnits (reading_of self.now) (Sum mask term.now embed) steps.old steps.new }
-        ensures least { steps.old ≤ steps.new }
-        ensures room { scratch.new.bound ≡ scratch.old.bound }
-        ensures walked { IsOrbit self.now mask term.now scratch.new.walked }
-    {
-        self.sum_and_count(mask, term, embed, scratch, steps).0
     }
 
     /// The sum of the embedding's values over the orbit of the term's dart, and how many darts the
@@ -347,46 +333,6 @@ impl Reader<'_> {
     {
         let walk = self.orbit(mask, term, scratch, steps);
         extremes(self.arena, walk.slots(), embed, steps)
-    }
-
-    /// The least of the embedding's numbers over the orbit of the term's dart.
-    fn least<L: Ledger>(
-        &self,
-        mask: Mask,
-        term: &DartTerm,
-        embed: u8,
-        scratch: &mut Scratch,
-        steps: &mut Steps<L>,
-    ) -> Value
-        requires ready { IsReady self.now (Least mask term.now embed) }
-        requires fits { Fits scratch.old self.now.arena.now }
-        ensures value { HasValue (reading_of self.now) (Least mask term.now embed) result }
-        ensures cost { IsWithinUnits (reading_of self.now) (Least mask term.now embed) steps.old steps.new }
-        ensures least { steps.old ≤ steps.new }
-        ensures room { scratch.new.bound ≡ scratch.old.bound }
-        ensures walked { IsOrbit self.now mask term.now scratch.new.walked }
-    {
-        Value::Int(self.extremes(mask, term, embed, scratch, steps).0)
-    }
-
-    /// The greatest of the embedding's numbers over the orbit of the term's dart.
-    fn greatest<L: Ledger>(
-        &self,
-        mask: Mask,
-        term: &DartTerm,
-        embed: u8,
-        scratch: &mut Scratch,
-        steps: &mut Steps<L>,
-    ) -> Value
-        requires ready { IsReady self.now (Greatest mask term.now embed) }
-        requires fits { Fits scratch.old self.now.arena.now }
-        ensures value { HasValue (reading_of self.now) (Greatest mask term.now embed) result }
-        ensures cost { IsWithinUnits (reading_of self.now) (Greatest mask term.now embed) steps.old steps.new }
-        ensures least { steps.old ≤ steps.new }
-        ensures room { scratch.new.bound ≡ scratch.old.bound }
-        ensures walked { IsOrbit self.now mask term.now scratch.new.walked }
-    {
-        Value::Int(self.extremes(mask, term, embed, scratch, steps).1)
     }
 }
 

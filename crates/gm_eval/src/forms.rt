@@ -1,6 +1,6 @@
 //! The value of an expression, form by form, down its tree.
 
-ghost use Rattle.std.specs.Prelude.{◌≡◌, ◌≢◌, ◌≤◌, ◌⊎◌, ℕ, ℤ, Bool, [], ◌∷◌, IfSome, IsSome, IsTrue, MatchOption, None, Some};
+ghost use Rattle.std.specs.Prelude.{◌≡◌, ◌≢◌, ◌⊎◌, ℕ, ℤ, Bool, [], ◌∷◌, IfSome, IsSome, IsTrue, MatchOption, None, Some};
 ghost use Rattle.gm_model.specs.Expressions.{IsMade};
 ghost use Rattle.gm_model.specs.Trees.{Count, Sum, Unary, Binary, If, MakeVec2, MakeVec3, tree_of};
 ghost use Rattle.gm_model.specs.declared.expr.BinOp.TheVariants.{Add, Sub, Div};
@@ -12,8 +12,7 @@ ghost use Rattle.gm_walk.specs.Room.{Fits};
 ghost use Rattle.gm_eval.specs.Keeping.{AreKept};
 ghost use Rattle.gm_eval.specs.Made.{IsNone};
 ghost use Rattle.gm_eval.specs.Places.{IsWithinUnits};
-ghost use Rattle.gm_eval.specs.Readers.{AddsOnly, AreLeft, AreNumbersThere, AreValuesThere, IsReady, IsValueThere, IsWithin, Read, UnitsBeside, reading_of};
-ghost use Rattle.gm_eval.specs.Sharing.{StillKept, collectors_of};
+ghost use Rattle.gm_eval.specs.Readers.{AreNumbersThere, AreValuesThere, IsRead, IsReady, IsValueThere, reading_of};
 
 use crate::kept::{Entries, Form};
 use crate::numbers::{rgb, vec2, vec3};
@@ -41,13 +40,7 @@ impl Reader<'_> {
         requires fits { Fits scratch.old self.now.arena.now }
         requires kept { AreKept self.now.arena.now self.now.found.now self.now.params.now kept.old }
         ensures value { IsValueThere self.now (tree_of expr.now) result }
-        ensures cost { IsWithin self.now (UnitsBeside self.now kept.old (tree_of expr.now)) steps.old steps.new }
-        ensures least { steps.old ≤ steps.new }
-        ensures room { scratch.new.bound ≡ scratch.old.bound }
-        ensures kept { AreKept self.now.arena.now self.now.found.now self.now.params.now kept.new }
-        ensures stays { StillKept kept.old kept.new }
-        ensures adds { AddsOnly (collectors_of (tree_of expr.now)) kept.old kept.new }
-        ensures left { IsSome result → AreLeft self.now (Read self.now (tree_of expr.now)) kept.new }
+        ensures read { IsRead self.now (tree_of expr.now) (IsSome result) kept.old kept.new steps.old steps.new scratch.old.bound scratch.new.bound }
     {
         match expr {
             Expr::Int(number) => Some(Value::Int(*number)),
@@ -75,13 +68,7 @@ impl Reader<'_> {
         requires fits { Fits scratch.old self.now.arena.now }
         requires kept { AreKept self.now.arena.now self.now.found.now self.now.params.now kept.old }
         ensures value { IsValueThere self.now (tree_of expr.now) result }
-        ensures cost { IsWithin self.now (UnitsBeside self.now kept.old (tree_of expr.now)) steps.old steps.new }
-        ensures least { steps.old ≤ steps.new }
-        ensures room { scratch.new.bound ≡ scratch.old.bound }
-        ensures kept { AreKept self.now.arena.now self.now.found.now self.now.params.now kept.new }
-        ensures stays { StillKept kept.old kept.new }
-        ensures adds { AddsOnly (collectors_of (tree_of expr.now)) kept.old kept.new }
-        ensures left { IsSome result → AreLeft self.now (Read self.now (tree_of expr.now)) kept.new }
+        ensures read { IsRead self.now (tree_of expr.now) (IsSome result) kept.old kept.new steps.old steps.new scratch.old.bound scratch.new.bound }
     {
         match expr {
             Expr::Bool(truth) => Some(Value::Bool(*truth)),
@@ -130,13 +117,7 @@ impl Reader<'_> {
         requires fits { Fits scratch.old self.now.arena.now }
         requires kept { AreKept self.now.arena.now self.now.found.now self.now.params.now kept.old }
         ensures value { IsValueThere self.now (Unary op (tree_of part.now)) result }
-        ensures cost { IsWithin self.now (UnitsBeside self.now kept.old (Unary op (tree_of part.now))) steps.old steps.new }
-        ensures least { steps.old ≤ steps.new }
-        ensures room { scratch.new.bound ≡ scratch.old.bound }
-        ensures kept { AreKept self.now.arena.now self.now.found.now self.now.params.now kept.new }
-        ensures stays { StillKept kept.old kept.new }
-        ensures adds { AddsOnly (collectors_of (Unary op (tree_of part.now))) kept.old kept.new }
-        ensures left { IsSome result → AreLeft self.now (Read self.now (Unary op (tree_of part.now))) kept.new }
+        ensures read { IsRead self.now (Unary op (tree_of part.now)) (IsSome result) kept.old kept.new steps.old steps.new scratch.old.bound scratch.new.bound }
     {
         let part = self.value(part, kept, scratch, steps)?;
         unary(op, part)
@@ -159,13 +140,7 @@ impl Reader<'_> {
         requires fits { Fits scratch.old self.now.arena.now }
         requires kept { AreKept self.now.arena.now self.now.found.now self.now.params.now kept.old }
         ensures value { IsValueThere self.now (Binary op (tree_of left.now) (tree_of right.now)) result }
-        ensures cost { IsWithin self.now (UnitsBeside self.now kept.old (Binary op (tree_of left.now) (tree_of right.now))) steps.old steps.new }
-        ensures least { steps.old ≤ steps.new }
-        ensures room { scratch.new.bound ≡ scratch.old.bound }
-        ensures kept { AreKept self.now.arena.now self.now.found.now self.now.params.now kept.new }
-        ensures stays { StillKept kept.old kept.new }
-        ensures adds { AddsOnly (collectors_of (Binary op (tree_of left.now) (tree_of right.now))) kept.old kept.new }
-        ensures left { IsSome result → AreLeft self.now (Read self.now (Binary op (tree_of left.now) (tree_of right.now))) kept.new }
+        ensures read { IsRead self.now (Binary op (tree_of left.now) (tree_of right.now)) (IsSome result) kept.old kept.new steps.old steps.new scratch.old.bound scratch.new.bound }
     {
         let left = self.first_part(left, kept, scratch, steps)?;
         let right = self.value(right, kept, scratch, steps)?;
@@ -187,13 +162,7 @@ impl Reader<'_> {
         requires fits { Fits scratch.old self.now.arena.now }
         requires kept { AreKept self.now.arena.now self.now.found.now self.now.params.now kept.old }
         ensures value { IsValueThere self.now (tree_of expr.now) result }
-        ensures cost { IsWithin self.now (UnitsBeside self.now kept.old (tree_of expr.now)) steps.old steps.new }
-        ensures least { steps.old ≤ steps.new }
-        ensures room { scratch.new.bound ≡ scratch.old.bound }
-        ensures kept { AreKept self.now.arena.now self.now.found.now self.now.params.now kept.new }
-        ensures stays { StillKept kept.old kept.new }
-        ensures adds { AddsOnly (collectors_of (tree_of expr.now)) kept.old kept.new }
-        ensures left { IsSome result → AreLeft self.now (Read self.now (tree_of expr.now)) kept.new }
+        ensures read { IsRead self.now (tree_of expr.now) (IsSome result) kept.old kept.new steps.old steps.new scratch.old.bound scratch.new.bound }
     {
         match expr {
             Expr::Binary(op, left, right) if is_quick(*op, left) => {
@@ -220,13 +189,7 @@ impl Reader<'_> {
         requires fits { Fits scratch.old self.now.arena.now }
         requires kept { AreKept self.now.arena.now self.now.found.now self.now.params.now kept.old }
         ensures value { IsValueThere self.now (Binary op (tree_of left.now) (tree_of right.now)) result }
-        ensures cost { IsWithin self.now (UnitsBeside self.now kept.old (Binary op (tree_of left.now) (tree_of right.now))) steps.old steps.new }
-        ensures least { steps.old ≤ steps.new }
-        ensures room { scratch.new.bound ≡ scratch.old.bound }
-        ensures kept { AreKept self.now.arena.now self.now.found.now self.now.params.now kept.new }
-        ensures stays { StillKept kept.old kept.new }
-        ensures adds { AddsOnly (collectors_of (Binary op (tree_of left.now) (tree_of right.now))) kept.old kept.new }
-        ensures left { IsSome result → AreLeft self.now (Read self.now (Binary op (tree_of left.now) (tree_of right.now))) kept.new }
+        ensures read { IsRead self.now (Binary op (tree_of left.now) (tree_of right.now)) (IsSome result) kept.old kept.new steps.old steps.new scratch.old.bound scratch.new.bound }
     {
         let (left, right) = self.parts(left, right, kept, scratch, steps)?;
         most_met(op, left, right)
@@ -248,13 +211,7 @@ impl Reader<'_> {
         requires fits { Fits scratch.old self.now.arena.now }
         requires kept { AreKept self.now.arena.now self.now.found.now self.now.params.now kept.old }
         ensures value { IsValueThere self.now (Binary op (tree_of left.now) (tree_of right.now)) result }
-        ensures cost { IsWithin self.now (UnitsBeside self.now kept.old (Binary op (tree_of left.now) (tree_of right.now))) steps.old steps.new }
-        ensures least { steps.old ≤ steps.new }
-        ensures room { scratch.new.bound ≡ scratch.old.bound }
-        ensures kept { AreKept self.now.arena.now self.now.found.now self.now.params.now kept.new }
-        ensures stays { StillKept kept.old kept.new }
-        ensures adds { AddsOnly (collectors_of (Binary op (tree_of left.now) (tree_of right.now))) kept.old kept.new }
-        ensures left { IsSome result → AreLeft self.now (Read self.now (Binary op (tree_of left.now) (tree_of right.now))) kept.new }
+        ensures read { IsRead self.now (Binary op (tree_of left.now) (tree_of right.now)) (IsSome result) kept.old kept.new steps.old steps.new scratch.old.bound scratch.new.bound }
     {
         if let Some((mask, term, embed)) = parts_of_mean(left, right) {
             return self.of_mean(op, mask, term, embed, kept, scratch, steps);
@@ -279,13 +236,7 @@ impl Reader<'_> {
         requires fits { Fits scratch.old self.now.arena.now }
         requires kept { AreKept self.now.arena.now self.now.found.now self.now.params.now kept.old }
         ensures value { AreValuesThere self.now (tree_of first.now) (tree_of second.now) result }
-        ensures cost { IsWithin self.now (UnitsBeside self.now kept.old (MakeVec2 (tree_of first.now) (tree_of second.now))) steps.old steps.new }
-        ensures least { steps.old ≤ steps.new }
-        ensures room { scratch.new.bound ≡ scratch.old.bound }
-        ensures kept { AreKept self.now.arena.now self.now.found.now self.now.params.now kept.new }
-        ensures stays { StillKept kept.old kept.new }
-        ensures adds { AddsOnly (collectors_of (MakeVec2 (tree_of first.now) (tree_of second.now))) kept.old kept.new }
-        ensures left { IsSome result → AreLeft self.now (Read self.now (MakeVec2 (tree_of first.now) (tree_of second.now))) kept.new }
+        ensures read { IsRead self.now (MakeVec2 (tree_of first.now) (tree_of second.now)) (IsSome result) kept.old kept.new steps.old steps.new scratch.old.bound scratch.new.bound }
     {
         let first = self.value(first, kept, scratch, steps)?;
         let second = self.value(second, kept, scratch, steps)?;
@@ -308,14 +259,8 @@ impl Reader<'_> {
         requires fits { Fits scratch.old self.now.arena.now }
         requires kept { AreKept self.now.arena.now self.now.found.now self.now.params.now kept.old }
         ensures value { IsValueThere self.now (Binary op (Sum mask term.now embed) (Count mask term.now)) result }
-        ensures cost { IsWithin self.now (UnitsBeside self.now kept.old (Binary op (Sum mask term.now embed) (Count mask term.now))) steps.old steps.new }
+        ensures read { IsRead self.now (Binary op (Sum mask term.now embed) (Count mask term.now)) (IsSome result) kept.old kept.new steps.old steps.new scratch.old.bound scratch.new.bound }
         ensures once { IsWithinUnits (reading_of self.now) (Sum mask term.now embed) steps.old steps.new }
-        ensures least { steps.old ≤ steps.new }
-        ensures room { scratch.new.bound ≡ scratch.old.bound }
-        ensures kept { AreKept self.now.arena.now self.now.found.now self.now.params.now kept.new }
-        ensures stays { StillKept kept.old kept.new }
-        ensures adds { AddsOnly (collectors_of (Binary op (Sum mask term.now embed) (Count mask term.now))) kept.old kept.new }
-        ensures left { IsSome result → AreLeft self.now (Read self.now (Binary op (Sum mask term.now embed) (Count mask term.now))) kept.new }
     {
         let (sum, count) = self.mean_parts(mask, term, embed, kept, scratch, steps);
         let Some(sum) = sum else { return None };
@@ -339,13 +284,7 @@ impl Reader<'_> {
         requires fits { Fits scratch.old self.now.arena.now }
         requires kept { AreKept self.now.arena.now self.now.found.now self.now.params.now kept.old }
         ensures value { IsValueThere self.now (If (tree_of condition.now) (tree_of chosen.now) (tree_of other.now)) result }
-        ensures cost { IsWithin self.now (UnitsBeside self.now kept.old (If (tree_of condition.now) (tree_of chosen.now) (tree_of other.now))) steps.old steps.new }
-        ensures least { steps.old ≤ steps.new }
-        ensures room { scratch.new.bound ≡ scratch.old.bound }
-        ensures kept { AreKept self.now.arena.now self.now.found.now self.now.params.now kept.new }
-        ensures stays { StillKept kept.old kept.new }
-        ensures adds { AddsOnly (collectors_of (If (tree_of condition.now) (tree_of chosen.now) (tree_of other.now))) kept.old kept.new }
-        ensures left { IsSome result → AreLeft self.now (Read self.now (If (tree_of condition.now) (tree_of chosen.now) (tree_of other.now))) kept.new }
+        ensures read { IsRead self.now (If (tree_of condition.now) (tree_of chosen.now) (tree_of other.now)) (IsSome result) kept.old kept.new steps.old steps.new scratch.old.bound scratch.new.bound }
     {
         if truth(self.value(condition, kept, scratch, steps))? {
             self.value(chosen, kept, scratch, steps)
@@ -369,13 +308,7 @@ impl Reader<'_> {
         requires fits { Fits scratch.old self.now.arena.now }
         requires kept { AreKept self.now.arena.now self.now.found.now self.now.params.now kept.old }
         ensures value { IsValueThere self.now (MakeVec2 (tree_of x.now) (tree_of y.now)) result }
-        ensures cost { IsWithin self.now (UnitsBeside self.now kept.old (MakeVec2 (tree_of x.now) (tree_of y.now))) steps.old steps.new }
-        ensures least { steps.old ≤ steps.new }
-        ensures room { scratch.new.bound ≡ scratch.old.bound }
-        ensures kept { AreKept self.now.arena.now self.now.found.now self.now.params.now kept.new }
-        ensures stays { StillKept kept.old kept.new }
-        ensures adds { AddsOnly (collectors_of (MakeVec2 (tree_of x.now) (tree_of y.now))) kept.old kept.new }
-        ensures left { IsSome result → AreLeft self.now (Read self.now (MakeVec2 (tree_of x.now) (tree_of y.now))) kept.new }
+        ensures read { IsRead self.now (MakeVec2 (tree_of x.now) (tree_of y.now)) (IsSome result) kept.old kept.new steps.old steps.new scratch.old.bound scratch.new.bound }
     {
         let x = number(self.value(x, kept, scratch, steps))?;
         let y = number(self.value(y, kept, scratch, steps))?;
@@ -400,13 +333,7 @@ impl Reader<'_> {
         requires fits { Fits scratch.old self.now.arena.now }
         requires kept { AreKept self.now.arena.now self.now.found.now self.now.params.now kept.old }
         ensures value { AreNumbersThere self.now (tree_of x.now) (tree_of y.now) (tree_of z.now) result }
-        ensures cost { IsWithin self.now (UnitsBeside self.now kept.old (MakeVec3 (tree_of x.now) (tree_of y.now) (tree_of z.now))) steps.old steps.new }
-        ensures least { steps.old ≤ steps.new }
-        ensures room { scratch.new.bound ≡ scratch.old.bound }
-        ensures kept { AreKept self.now.arena.now self.now.found.now self.now.params.now kept.new }
-        ensures stays { StillKept kept.old kept.new }
-        ensures adds { AddsOnly (collectors_of (MakeVec3 (tree_of x.now) (tree_of y.now) (tree_of z.now))) kept.old kept.new }
-        ensures left { IsSome result → AreLeft self.now (Read self.now (MakeVec3 (tree_of x.now) (tree_of y.now) (tree_of z.now))) kept.new }
+        ensures read { IsRead self.now (MakeVec3 (tree_of x.now) (tree_of y.now) (tree_of z.now)) (IsSome result) kept.old kept.new steps.old steps.new scratch.old.bound scratch.new.bound }
     {
         let x = number(self.value(x, kept, scratch, steps))?;
         let y = number(self.value(y, kept, scratch, steps))?;

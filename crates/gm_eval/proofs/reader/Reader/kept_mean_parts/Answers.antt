@@ -1,13 +1,13 @@
-use Rattle.std.proofs.Common.{subst, sym, arith}
+use Rattle.std.proofs.Common.{subst, sym, arith, refl}
 use Rattle.gm_model.specs.Trees.{Count, Sum}
-use Rattle.gm_eval.specs.declared.kept.Form.TheVariants as forms
 use Rattle.gm_eval.specs.Readers.{IsOrbit, IsReady, IsValueThere}
 use Rattle.std.proofs.lemmas.Bool.{false≢true}
-use Rattle.gm_eval.specs.Sharing.{IsAtHand, IsOwn}
+use Rattle.gm_eval.specs.Sharing.{IsAtHand, IsOwn, own_collector}
 use Rattle.gm_eval.proofs.Sharing.{later_kept, mean_within, of_mean_in, same_kept, two_left}
 use Rattle.gm_eval.proofs.Adding.{both_adds, own_adds, same_adds}
-use Rattle.gm_eval.specs.Sharing.{own_collector}
 use Rattle.gm_eval.proofs.Keeping.{as_count, found_there, owned}
+use Rattle.std.proofs.Math.Nat.{le_refl}
+use Rattle.gm_eval.specs.declared.kept.Form.TheVariants as forms
 use Rattle.gm_eval.proofs.reader.Reader.kept_mean_parts.Goals as goal
 
 pub returns-in-Some-clause-sum : goal.returns-in-Some-clause-sum
@@ -78,3 +78,48 @@ keep-requires-2-clause-walked g c = subst (λ term. IsOrbit c.args.self.now c.ar
 
 pub keep-requires-2-clause-value : goal.keep-requires-2-clause-value
 keep-requires-2-clause-value g c = subst (λ term. IsValueThere c.args.self.now (Count c.args.mask term) c.sum_and_count-sum.result.1) (owned c.args.term.now c.requires.own) c.sum_and_count-sum.ensures.count
+
+pub returns-in-Some-clause-least : goal.returns-in-Some-clause-least
+returns-in-Some-clause-least g c = le_refl _
+
+pub returns-in-Some-clause-room : goal.returns-in-Some-clause-room
+returns-in-Some-clause-room g c = refl
+
+pub returns-in-Some-clause-kept : goal.returns-in-Some-clause-kept
+returns-in-Some-clause-kept g c = c.requires.kept
+
+pub sum_and_count-sum-requires-clause-ready : goal.sum_and_count-sum-requires-clause-ready
+sum_and_count-sum-requires-clause-ready g c = c.requires.ready
+
+pub sum_and_count-sum-requires-clause-fits : goal.sum_and_count-sum-requires-clause-fits
+sum_and_count-sum-requires-clause-fits g c = c.requires.fits
+
+pub keep-requires-clause-open : goal.keep-requires-clause-open
+keep-requires-clause-open g c = c.requires.open
+
+pub keep-requires-clause-kept : goal.keep-requires-clause-kept
+keep-requires-clause-kept g c = c.requires.kept
+
+pub keep-requires-2-clause-open : goal.keep-requires-2-clause-open
+keep-requires-2-clause-open g c = c.keep.ensures.open
+
+pub keep-requires-2-clause-kept : goal.keep-requires-2-clause-kept
+keep-requires-2-clause-kept g c = c.keep.ensures.kept
+
+pub returns-clause-sum : goal.returns-clause-sum
+returns-clause-sum g c = c.sum_and_count-sum.ensures.sum
+
+pub returns-clause-count : goal.returns-clause-count
+returns-clause-count g c = c.sum_and_count-sum.ensures.count
+
+pub returns-clause-least : goal.returns-clause-least
+returns-clause-least g c = c.sum_and_count-sum.ensures.least
+
+pub returns-clause-room : goal.returns-clause-room
+returns-clause-room g c = c.sum_and_count-sum.ensures.room
+
+pub returns-clause-once : goal.returns-clause-once
+returns-clause-once g c = c.sum_and_count-sum.ensures.cost
+
+pub returns-clause-kept : goal.returns-clause-kept
+returns-clause-kept g c = c.keep-2.ensures.kept

@@ -1,10 +1,11 @@
-use Rattle.std.proofs.Common.{subst, sym, arith}
+use Rattle.std.proofs.Common.{subst, sym, arith, refl}
 use Rattle.gm_eval.specs.Keeping.{collector_at}
 use Rattle.gm_eval.specs.Readers.{IsOrbit, IsReady, IsValueThere}
 use Rattle.gm_eval.specs.Sharing.{IsAtHand}
 use Rattle.gm_eval.proofs.Adding.{own_adds, same_adds}
 use Rattle.gm_eval.proofs.Keeping.{found_there, owned}
 use Rattle.gm_eval.proofs.Sharing.{not_found, same_kept}
+use Rattle.std.proofs.Math.Nat.{le_refl}
 use Rattle.gm_eval.proofs.reader.Reader.kept_or_computed.Goals as goal
 
 pub returns-in-Some-clause-value : goal.returns-in-Some-clause-value
@@ -48,3 +49,36 @@ keep-requires-clause-walked g c = subst (λ term. IsOrbit c.args.self.now c.args
 
 pub keep-requires-clause-value : goal.keep-requires-clause-value
 keep-requires-clause-value g c = subst (λ term. IsValueThere c.args.self.now (collector_at c.args.form c.args.mask term c.args.embed) c.computed-value.result) (owned c.args.term.now c.requires.own) c.computed-value.ensures.value
+
+pub returns-in-Some-clause-least : goal.returns-in-Some-clause-least
+returns-in-Some-clause-least g c = le_refl _
+
+pub returns-in-Some-clause-room : goal.returns-in-Some-clause-room
+returns-in-Some-clause-room g c = refl
+
+pub returns-in-Some-clause-kept : goal.returns-in-Some-clause-kept
+returns-in-Some-clause-kept g c = c.requires.kept
+
+pub computed-value-requires-clause-ready : goal.computed-value-requires-clause-ready
+computed-value-requires-clause-ready g c = c.requires.ready
+
+pub computed-value-requires-clause-fits : goal.computed-value-requires-clause-fits
+computed-value-requires-clause-fits g c = c.requires.fits
+
+pub keep-requires-clause-open : goal.keep-requires-clause-open
+keep-requires-clause-open g c = c.requires.open
+
+pub keep-requires-clause-kept : goal.keep-requires-clause-kept
+keep-requires-clause-kept g c = c.requires.kept
+
+pub returns-clause-value : goal.returns-clause-value
+returns-clause-value g c = c.computed-value.ensures.value
+
+pub returns-clause-least : goal.returns-clause-least
+returns-clause-least g c = c.computed-value.ensures.least
+
+pub returns-clause-room : goal.returns-clause-room
+returns-clause-room g c = c.computed-value.ensures.room
+
+pub returns-clause-kept : goal.returns-clause-kept
+returns-clause-kept g c = c.keep.ensures.kept

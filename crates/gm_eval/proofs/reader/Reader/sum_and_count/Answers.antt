@@ -1,5 +1,5 @@
 use Rattle.std.proofs.lemmas.Int.{ints}
-use Rattle.std.proofs.Common.{◌≡◌, ◌≤◌, ℕ, ℤ, length, List, Some, get_or, slice_get, ap, subst, sym, ◌∙◌, refl, arith}
+use Rattle.std.proofs.Common.{◌≡◌, ◌≤◌, ◌<◌, ℕ, ℤ, length, List, Some, get_or, slice_get, ap, subst, sym, ◌∙◌, refl, arith}
 use Rattle.gm_arena.specs.declared.slot.Slot.{Slot}
 use Rattle.gm_model.specs.declared.schema.Embed.{Embed}
 use Rattle.gm_model.specs.declared.schema.Schema.{Schema}
@@ -62,3 +62,14 @@ returns-clause-count g c =
     let ready = c.requires.ready in
     let same = ap (λ (slots : List Slot). length slots) c.slots.ensures.value in
     count_found reader c.args.mask c.args.term.now (slots_of c.orbit-walk.result) c.orbit-walk.ensures.orbit _ c.int-count.result (omega (arith, ints, same, c.slots.ensures.most)) c.int-count.ensures
+
+pub orbit-walk-requires-clause-fits : goal.orbit-walk-requires-clause-fits
+orbit-walk-requires-clause-fits g c = c.requires.fits
+
+pub bounds-as_slice-embed : goal.bounds-as_slice-embed
+bounds-as_slice-embed g c =
+    let embeds = c.as_slice.ensures ∙ ap (λ (schema : Schema). schema.embeds) c.schema.ensures in
+    subst (λ (xs : List Embed). c.args.embed < length xs) (sym embeds) c.requires.ready.typed.has_kind.in_range.2
+
+pub returns-clause-least : goal.returns-clause-least
+returns-clause-least g c = omega (arith, c.orbit-walk.ensures.least, c.add_up.ensures.cost)
