@@ -1,5 +1,5 @@
 -- What an application comes to by the match, the precondition, the room for its result, and the edits.
-use Rattle.std.proofs.Common.{◌≡◌, ◌≢◌, ℕ, true, false, refl, ◌+◌, ◌-◌, ◌*◌, ◌<◌, ◌≤◌, inl, inr, List, Some, sym, ap, subst, ◌∙◌, arith}
+use Rattle.std.proofs.Common.{◌≡◌, ◌≢◌, ℕ, true, false, refl, ◌+◌, ◌-◌, ◌*◌, ◌<◌, ◌≤◌, inl, inr, List, None, Some, sym, ap, subst, ◌∙◌, arith}
 use Rattle.std.specs.Option.{option_map}
 use Rattle.gm_model.specs.declared.value.Value.{Value}
 use Rattle.gm_model.specs.declared.value.Kind.TheVariants as kinds
@@ -54,6 +54,10 @@ refused_match app faults.OutOfMemory h = tt
 -- the precondition of a table
 pub pre_is : (table other : RuleTable) (expr : Expr) → other ≡ table → other.pre ≡ Some expr → (rule_of table).pre ≡ Some (tree_of expr)
 pre_is table other expr same is = ap (λ (t : RuleTable). option_map tree_of t.pre) (sym same) ∙ ap (option_map tree_of) is
+
+-- and where it has none
+pub no_pre : (table other : RuleTable) → other ≡ table → other.pre ≡ None → (rule_of table).pre ≡ None
+no_pre table other same is = ap (λ (t : RuleTable). option_map tree_of t.pre) (sym same) ∙ ap (option_map tree_of) is
 
 -- what reading the precondition takes, where there is one
 pub pre_units : (m : ArenaMap) (rule : Rule) (params : List Value) (found : Placed) (hooks : List ℕ) (tree : Tree) → rule.pre ≡ Some tree → (u : ℕ) → IsPreUnits (application_of m rule hooks params) (placement_in m found) u → HasUnits (reading_in m found 0 params) tree u

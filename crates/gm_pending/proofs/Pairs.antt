@@ -18,9 +18,9 @@ use Rattle.gm_walk.specs.declared.mark.Mark.{Mark}
 use Rattle.gm_pending.specs.Marks.{reached_by, HasKey, IsMarkedMore, HasDistinctKeys}
 use Rattle.gm_walk.specs.Keys.{key_of}
 use Rattle.gm_pending.specs.Pairs.{IsPair}
-use Rattle.gm_pending.specs.Reached.{AreResultDarts, HasMark, IsAdded, IsClosed, IsSpreadTo, IsFollowedBut}
+use Rattle.gm_pending.specs.Reached.{AreResultDarts, HasMark, IsAdded, IsClosed, IsSpreadTo, IsFollowedBut, IsFollowedOut, IsGoneOn}
 use Rattle.gm_pending.specs.Results.{PendingOf, IsPrepared, IsResultDart, IsUnfoldedIn, name_of, scene_in}
-use Rattle.gm_pending.proofs.Reached.{get_within, last_at, last_among}
+use Rattle.gm_pending.proofs.Reached.{get_within, key_marked, last_at, last_among}
 use Rattle.gm_pending.proofs.Spread.{same_key, same_name, mark_kept, marked_kept, marked_or_last, after_map, dart_after, label_within, orbit_step, nothing_grown, grown_more, marked_now}
 
 pub pair_turned : (labels : Mask) (one other : ℕ) → IsPair labels one other → IsPair labels other one
@@ -256,3 +256,21 @@ module _ (app : PendingOf) (prepared : IsPrepared app) (e : ℕ) (embed : Embed)
         go i entry t (inl mark) = mark
         go i entry t (inr (inl h)) = absurd (let w : i ≤ app.map.schema.dim = label_within app prepared e embed at_embed result unfolded i t in omega (arith, w, h.1))
         go i entry t (inr (inr h)) = absurd (let w : i ≤ app.map.schema.dim = label_within app prepared e embed at_embed result unfolded i t in omega (arith, w, h.1))
+
+-- ---- one step of the walk
+
+module _ (app : PendingOf) (prepared : IsPrepared app) (k i : ℕ) (start at to : At) (old new : List Mark) (darts : AreResultDarts app old) (dart : IsResultDart app at) (to_dart : IsResultDart app to) (arc : IsArcAfter (scene_in app) (name_of app at) i (name_of app to)) (more : IsMarkedMore old new to k None) where
+  pub gone_on : IsResultDart app start → (HasKey old (key_of to) → ⊥) → IsGoneOn app k start at i old to new
+  gone_on from absent = record {
+    dart = to_dart;
+    here = key_marked old new to k None more;
+    longer = one_longer old new to k None more absent;
+    walked = λ e other m embed result before at_embed pair unfolded so_far. (
+      follow_goes_on app prepared e embed at_embed result unfolded before old new k (name_of app start) i other m at to so_far pair darts dart arc more absent,
+      λ next next_dart on key. by_keys app prepared next start to next_dart from (only_ends app prepared e embed at_embed result unfolded before old new k (name_of app start) i other m at to so_far pair darts dart arc more absent to_dart next next_dart on key),
+    );
+  }
+
+  pub gone_out : HasDistinctKeys old → ((HasKey old (key_of to) → ⊥) → ⊥) → IsFollowedOut app k start at i old new
+  gone_out distinct there e other m embed result before at_embed pair unfolded so_far =
+      follow_ends app prepared e embed at_embed result unfolded before old new k (name_of app start) i other m at to so_far pair darts dart arc more distinct to_dart there

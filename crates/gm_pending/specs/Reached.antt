@@ -1,11 +1,16 @@
 -- Which darts of the result are reached from deciding instances, and how a walk finds them. No public clause cites this module.
-use Rattle.std.specs.Prelude.{◌≡◌, ◌≢◌, ℕ, ◌<◌, ◌≤◌, ◌⊎◌, List, length, Some, None, slice_get, IsTrue}
+use Rattle.std.specs.Prelude.{◌≡◌, ◌≢◌, ℕ, ◌+◌, ◌<◌, ◌≤◌, ◌⊎◌, List, length, Some, None, slice_get, IsTrue}
 use Rattle.std.specs.List.{Contains}
 use Rattle.gm_model.specs.declared.schema.Embed.{Embed}
 use Rattle.gm_model.specs.Components.{IsAssigned}
-use Rattle.gm_model.specs.Maps.{type_of}
+use Rattle.gm_model.specs.Maps.{IsEmbedAt, type_of}
 use Rattle.gm_model.specs.Orbits.{IsInOrbit, IsPairBefore}
+use Rattle.gm_model.specs.Unfolding.{IsArcAfter}
 use Rattle.gm_theory.specs.Theorem.{Unfolded}
+use Rattle.gm_walk.specs.declared.at.At.{At}
+use Rattle.gm_walk.specs.Keys.{key_of}
+use Rattle.gm_pending.specs.Marks.{HasKey}
+use Rattle.gm_pending.specs.Pairs.{IsPair}
 use Rattle.gm_pending.specs.declared.deciding_instance.DecidingInstance.{DecidingInstance}
 use Rattle.gm_walk.specs.declared.mark.Mark.{Mark}
 use Rattle.gm_pending.specs.Results.{PendingOf, IsResultDart, IsUnfoldedIn, IsDecidedIn, IsReachedIn, name_of, rule_in, scene_in}
@@ -90,6 +95,23 @@ module _ (app : PendingOf) where
   -- and some way
   abbrev pub IsGrownAlong : Embed → ℕ → ℕ → ℕ → List Mark → List Mark → Type 0
   IsGrownAlong embed k d i old new = (result : Unfolded) (before : List Mark) (m : ℕ) → IsUnfoldedIn app result → IsFollowedBut embed result before old k d d i m → IsGrown embed result before new k d
+
+  -- The arc of dart `at` along label i leads to a marked dart only where it leads back, or to dart `start`.
+  abbrev pub LeadsBackOnly : List Mark → At → At → ℕ → Type 0
+  LeadsBackOnly reached start at i = (next : At) → IsResultDart app next → IsArcAfter (scene_in app) (name_of app at) i (name_of app next) → HasKey reached (key_of next) → (key_of next ≡ key_of at) ⊎ (key_of next ≡ key_of start)
+
+  -- Whatever was reached before the walk from dart `start`, which had come to dart `at` and its arc along label i: that arc was followed, and the walk ends there.
+  abbrev pub IsFollowedOut : ℕ → At → At → ℕ → List Mark → List Mark → Type 0
+  IsFollowedOut k start at i old new = (e other m : ℕ) (embed : Embed) (result : Unfolded) (before : List Mark) → IsEmbedAt app.map.schema e embed → IsPair embed.mask i other → IsUnfoldedIn app result →
+      IsFollowedBut embed result before old k (name_of app start) (name_of app at) i m → IsFollowedBut embed result before new k (name_of app start) (name_of app start) m m
+
+  -- That arc was followed to dart `to`, which alone was marked. From there the walk goes on along the other label.
+  pub record IsGoneOn (k : ℕ) (start at : At) (i : ℕ) (old : List Mark) (to : At) (new : List Mark) : Type 0 where
+    pub dart : IsResultDart app to
+    pub here : HasKey new (key_of to)
+    pub longer : length new ≡ length old + 1
+    pub walked : (e other m : ℕ) (embed : Embed) (result : Unfolded) (before : List Mark) → IsEmbedAt app.map.schema e embed → IsPair embed.mask i other → IsUnfoldedIn app result →
+        IsFollowedBut embed result before old k (name_of app start) (name_of app at) i m → IsFollowedBut embed result before new k (name_of app start) (name_of app to) other m × LeadsBackOnly new start to other
 
   -- ---- a node whose instances are one orbit
 

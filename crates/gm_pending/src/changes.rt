@@ -1,6 +1,7 @@
 ghost use Rattle.std.specs.Prelude.{◌≡◌, ℕ, ◌+◌, ◌*◌, ◌<◌, ◌≤◌, length, IfOk};
 ghost use Rattle.gm_pending.specs.Collected.{AreAlike, told_by, rewrite_of};
-ghost use Rattle.gm_pending.specs.EditLists.{AllGiven, AreEditsOf, IsReachedSumIn};
+ghost use Rattle.gm_pending.specs.EditLists.{AllGiven, AreEditsOf, AreNewValues, IsReachedSumIn};
+ghost use Rattle.gm_pending.specs.ToldEdits.{values_told};
 ghost use Rattle.gm_pending.specs.Results.{rule_in};
 
 use crate::decided_orbits::OrbitsByEmbed;
@@ -68,6 +69,23 @@ impl<'a> Pending<'a, '_> {
         let rewrite = self.rewrite();
         rewrite.left_slots(self.left_nodes(), new_nodes, &mut slots)?;
         let added_values = self.added_values(added, steps)?;
+        let orbits = self.into_orbits();
+        Ok(Changes {
+            rewrite,
+            added,
+            added_values,
+            orbits,
+            slots,
+        })
+    }
+
+    /// The orbits that instances decide. What else was found is let go of.
+    #[inline(always)]
+    fn into_orbits(self) -> OrbitsByEmbed
+        requires given { AllGiven self }
+        ensures values { AreNewValues self.entry (values_told result.items) }
+        ensures few { length result.items ≤ 255 }
+    {
         let Pending {
             plan: _,
             arena: _,
@@ -79,13 +97,7 @@ impl<'a> Pending<'a, '_> {
             room,
         } = self;
         drop((lookup, room));
-        Ok(Changes {
-            rewrite,
-            added,
-            added_values,
-            orbits,
-            slots,
-        })
+        orbits
     }
 
     fn rewrite(&self) -> Rewrite<'a>

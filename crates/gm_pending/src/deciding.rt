@@ -7,13 +7,14 @@ ghost use Rattle.gm_model.specs.Components.{IsAssigned};
 ghost use Rattle.gm_model.specs.Labels.{has};
 ghost use Rattle.gm_model.specs.Maps.{IsEmbedAt};
 ghost use Rattle.gm_model.specs.Rules.{has_word};
+ghost use Rattle.gm_plan.specs.Changes.{MakesNone};
 ghost use Rattle.gm_theory.specs.Theorem.{Unfolded};
 ghost use Rattle.gm_pending.specs.declared.deciding_instance.DecidingInstance.{DecidingInstance};
 ghost use Rattle.gm_walk.specs.declared.mark.Mark.{Mark};
 ghost use Rattle.gm_pending.specs.Marks.{HasKey};
 ghost use Rattle.gm_walk.specs.Keys.{key_of};
 ghost use Rattle.gm_pending.specs.Pairs.{IsPair};
-ghost use Rattle.gm_pending.specs.Reached.{AreReached, AreResultDarts, AreSomeReached, IsClosed, IsGrown, IsSpreadTo, IsFollowedTo, IsFollowed, IsFollowedAlong, IsFollowedBut, IsGrownAlong, IsDecidedUpTo, IsAlwaysOneOrbit, IsUnmarked, AreMarkedTo, ungiven};
+ghost use Rattle.gm_pending.specs.Reached.{AreReached, AreResultDarts, AreSomeReached, IsClosed, IsGrown, IsSpreadTo, IsFollowedTo, IsFollowed, IsFollowedAlong, IsFollowedBut, IsGrownAlong, IsDecidedUpTo, IsAlwaysOneOrbit, IsUnmarked, AreMarkedTo, IsFollowedOut, IsGoneOn, LeadsBackOnly, ungiven};
 ghost use Rattle.gm_pending.specs.Results.{IsPrepared, AreDecidingInstances, IsAsked, IsResultDart, IsUnfoldedIn, IsWithinReach, instances_of, with_instances, name_of, rule_in};
 
 use crate::decided_orbits::{DecidedOrbits, DecidingInstances};
@@ -61,8 +62,7 @@ impl Pending<'_, '_> {
         requires { embed < length self.old.map.schema.embeds }
         ensures { self.new ≡ self.old }
     {
-        let mask = self.arena.schema().embeds.as_slice()[embed as usize].mask;
-        if self.made_labels().bits & mask.bits == 0 || !self.walks(embed) {
+        if !self.walks_made_arcs(embed) {
             return Ok(());
         }
         let nodes = self.plan.left_nodes();
@@ -72,6 +72,14 @@ impl Pending<'_, '_> {
             self.lookup = Some(Lookup::build(self.alloc, self.found, nodes)?);
         }
         Ok(())
+    }
+
+    /// Whether orbits of the embedding have to be walked over arcs that are made.
+    fn walks_made_arcs(&self, embed: u8) -> bool
+        requires { embed < length self.now.map.schema.embeds }
+    {
+        let mask = self.arena.schema().embeds.as_slice()[embed as usize].mask;
+        self.made_labels().bits & mask.bits != 0 && self.walks(embed)
     }
 
     /// Finds the deciding instances of an embedding and the darts that they reach, which are marked in
@@ -217,6 +225,7 @@ impl Pending<'_, '_> {
         orbits: &mut DecidedOrbits,
         steps: &mut Steps<L>,
     ) -> Result<(), OutOfMemory>
+        requires prepared { IsPrepared self.now }
         requires embed { IsEmbedAt self.now.map.schema embed declared.now }
         requires assigned { IsAssigned (rule_in self.now) embed node }
         requires position { position < self.now.placed.positions }
@@ -227,8 +236,6 @@ impl Pending<'_, '_> {
         ensures cost { steps.new + (self.now.map.schema.dim + 1) * length orbits.old.marks ≤ steps.old + (self.now.map.schema.dim + 1) * length orbits.new.marks }
         ensures least { steps.old ≤ steps.new }
     {
-        // The application tells here what its type keeps.
-        prove!(self.labels() <= 8);
         let at = self.place(node, position);
         if orbits.marks.decided_by(at).is_some() {
             return Ok(());
@@ -247,6 +254,7 @@ impl Pending<'_, '_> {
         marks: &mut Marks,
         steps: &mut Steps<L>,
     ) -> Result<(), OutOfMemory>
+        requires prepared { IsPrepared self.now }
         requires embed { IsEmbedAt self.now.map.schema embed declared.now }
         requires dart { IsResultDart self.now at }
         requires darts { AreResultDarts self.now marks.old }
@@ -258,8 +266,6 @@ impl Pending<'_, '_> {
         ensures cost { steps.new + (self.now.map.schema.dim + 1) * length marks.old ≤ steps.old + (self.now.map.schema.dim + 1) * length marks.new }
         ensures least { steps.old ≤ steps.new }
     {
-        // The application tells here what its type keeps.
-        prove!(self.labels() <= 8);
         let mut next = marks.len();
         marks.mark_first(at, index)?;
         // An orbit over two labels is a path or a ring, of which the dart is one place.
@@ -290,6 +296,7 @@ impl Pending<'_, '_> {
         marks: &mut Marks,
         steps: &mut Steps<L>,
     ) -> Result<(), OutOfMemory>
+        requires prepared { IsPrepared self.now }
         requires embed { IsEmbedAt self.now.map.schema embed declared.now }
         requires pair { IsPair declared.now.mask first second }
         requires from { IsResultDart self.now from }
@@ -304,32 +311,61 @@ impl Pending<'_, '_> {
         ensures longer { length marks.old ≤ length marks.new }
         ensures least { steps.old ≤ steps.new }
     {
-        // The application tells here what its type keeps.
-        prove!(self.labels() <= 8);
         let made = self.made_labels();
         let (makes_first, makes_second) = (made.has(first), made.has(second));
         let mut at = self.neighbour(from, first, makes_first, steps);
         if !marks.mark_beside(from, at, index, None)? {
             return Ok(());
         }
-        // The marks tell here, and below, that they have an end.
-        prove!(marks.len() <= usize::MAX);
-        // Where one label led to, only the other leads on. It leads to a marked dart only where it leads
-        // nowhere or where the walk began, since each other marked dart has both of its neighbours.
         loop {
-            let to = self.neighbour(at, second, makes_second, steps);
-            let is_new = marks.mark_on(from, at, to, index)?;
-            prove!(marks.len() <= usize::MAX);
-            if !is_new {
+            let Some(to) = self.go_on(from, at, second, makes_second, index, marks, steps)? else {
                 return Ok(());
-            }
-            at = self.neighbour(to, first, makes_first, steps);
-            let is_next_new = marks.mark_on(from, to, at, index)?;
-            prove!(marks.len() <= usize::MAX);
-            if !is_next_new {
+            };
+            let Some(next) = self.go_on(from, to, first, makes_first, index, marks, steps)? else {
                 return Ok(());
-            }
+            };
+            at = next;
         }
+    }
+
+    /// Marks the neighbour along a label of the dart to which a walk along two labels has come, and
+    /// answers it; none where it is marked.
+    // Where one label led to, only the other leads on. It leads to a marked dart only where it leads
+    // nowhere or where the walk began, since each other marked dart has both of its neighbours.
+    #[inline(always)]
+    fn go_on<L: Ledger>(
+        &self,
+        start: PackedAt,
+        at: PackedAt,
+        label: u8,
+        made: bool,
+        index: u32,
+        marks: &mut Marks,
+        steps: &mut Steps<L>,
+    ) -> Result<Option<PackedAt>, OutOfMemory>
+        requires prepared { IsPrepared self.now }
+        requires label { label ≤ self.now.map.schema.dim }
+        requires kept { made ≡ false → MakesNone (rule_in self.now) label }
+        requires from { IsResultDart self.now start }
+        requires dart { IsResultDart self.now at }
+        requires darts { AreResultDarts self.now marks.old }
+        requires here { HasKey marks.old (key_of at) }
+        requires begun { HasKey marks.old (key_of start) }
+        requires ends { LeadsBackOnly self.now marks.old start at label }
+        ensures on { IfOk result (λ on. MatchOption on (IsFollowedOut self.now index start at label marks.old marks.new) (λ to. IsGoneOn self.now index start at label marks.old to marks.new)) }
+        ensures darts { AreResultDarts self.now marks.new }
+        ensures begun { HasKey marks.new (key_of start) }
+        ensures err { OnErr result (marks.new ≡ marks.old) }
+        ensures longer { length marks.old ≤ length marks.new }
+        ensures few { OnOk result (length marks.new ≤ 18446744073709551615) }
+        ensures cost { steps.new ≤ steps.old + 1 }
+        ensures least { steps.old ≤ steps.new }
+    {
+        let to = self.neighbour(at, label, made, steps);
+        let is_new = marks.mark_on(start, at, to, index)?;
+        // The marks tell here that they have an end.
+        prove!(marks.len() <= usize::MAX);
+        if is_new { Ok(Some(to)) } else { Ok(None) }
     }
 
     /// Marks the neighbours of a reached dart, but that from which it was reached, which is marked.
@@ -341,6 +377,7 @@ impl Pending<'_, '_> {
         marks: &mut Marks,
         steps: &mut Steps<L>,
     ) -> Result<(), OutOfMemory>
+        requires prepared { IsPrepared self.now }
         requires embed { IsEmbedAt self.now.map.schema embed declared.now }
         requires darts { AreResultDarts self.now marks.old }
         requires from { Contains marks.old from }
@@ -351,8 +388,6 @@ impl Pending<'_, '_> {
         ensures cost { steps.new ≤ steps.old + (self.now.map.schema.dim + 1) }
         ensures least { steps.old ≤ steps.new }
     {
-        // The application tells here what its type keeps.
-        prove!(self.labels() <= 8);
         let made = self.made_labels();
         let mut asked = without(declared.mask, from.over);
         while let Some(label) = lowest(asked) {

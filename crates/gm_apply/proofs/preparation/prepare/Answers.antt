@@ -1,5 +1,7 @@
-use Rattle.std.proofs.Common.{refl, sym, ap}
+use Rattle.std.proofs.Common.{◌≤◌, length, refl, sym, ap, subst, ◌∙◌}
 use Rattle.std.proofs.lemmas.Result.{err_from_is_err_and}
+use Rattle.gm_model.proofs.Exits.{unless_ok}
+use Rattle.gm_model.specs.declared.rule.RuleTable.{RuleTable}
 use Rattle.gm_model.specs.Rules.{rule_of}
 use Rattle.gm_match.specs.Outcome.{application_of}
 use Rattle.gm_apply.specs.Outcomes.{AsBefore, ForResult}
@@ -8,7 +10,7 @@ use Rattle.gm_apply.proofs.Applying.{refused_match, accepted_for, readable_at}
 use Rattle.gm_apply.proofs.Budgets.{find_within}
 use Rattle.gm_apply.proofs.Preparing.{prepared, few_rows, rows_within}
 use Rattle.gm_apply.proofs.Readying.{names_there, edits_there, new_is, old_is, within_ready, within_kept}
-use Rattle.gm_apply.proofs.Sums.{rises_twice, rises_thrice, names_reserved, room_reserved}
+use Rattle.gm_apply.proofs.Sums.{stays, no_less, rises_twice, rises_thrice, names_reserved, room_reserved, still_above}
 use Rattle.gm_apply.proofs.preparation.prepare.Goals as goal
 
 pub returns-in_err-found-clause-outcome : goal.returns-in_err-found-clause-outcome
@@ -105,3 +107,202 @@ returns-in_err-edits-clause-no_more g c = ForResult _ _ _ (c.in_ok-applied.ensur
 
 pub returns-clause-no_more : goal.returns-clause-no_more
 returns-clause-no_more g c = ForResult _ _ _ (c.in_ok-applied.ensures.ready c.args.hooks.now (readable_at _ _ c.requires.sound c.requires.schema c.rule.ensures.planned c.requires.params c.in_ok-found.ensures.answer)).room c.reserve.ensures.spare_most c.reserve.ensures.reserved_most
+
+pub prove-unreachable-requires : goal.prove-unreachable-requires
+prove-unreachable-requires g c = c.if-prove.true (ap length (c.as_slice.ensures ∙ ap (λ (table : RuleTable). table.hooks) c.rule.ensures.rule) ∙ sym c.requires.hooks)
+
+pub find-requires-clause-map : goal.find-requires-clause-map
+find-requires-clause-map g c = c.requires.sound.generalised
+
+pub find-requires-clause-schema : goal.find-requires-clause-schema
+find-requires-clause-schema g c = c.requires.schema
+
+pub find-requires-clause-hooks : goal.find-requires-clause-hooks
+find-requires-clause-hooks g c = c.requires.hooks
+
+pub find-requires-clause-fits : goal.find-requires-clause-fits
+find-requires-clause-fits g c = c.in_ok-fit.ensures.fits
+
+pub ready-requires-clause-readable : goal.ready-requires-clause-readable
+ready-requires-clause-readable g c = (c.args.hooks.now, readable_at _ _ c.requires.sound c.requires.schema c.rule.ensures.planned c.requires.params c.in_ok-found.ensures.answer)
+
+pub ready-requires-clause-fits : goal.ready-requires-clause-fits
+ready-requires-clause-fits g c = subst (λ n. c.args.arena.now.bound ≤ n) (sym c.find.ensures.room) c.in_ok-fit.ensures.fits
+
+pub returns-in_err-fit-clause-outcome : goal.returns-in_err-fit-clause-outcome
+returns-in_err-fit-clause-outcome g c =
+    let p = err_from_is_err_and c.from_residual.result c.from_residual.ensures.1 in
+    rw (p.1, p.2) tt
+
+pub returns-in_err-fit-clause-rows : goal.returns-in_err-fit-clause-rows
+returns-in_err-fit-clause-rows g c = refl
+
+pub returns-in_err-fit-clause-untouched : goal.returns-in_err-fit-clause-untouched
+returns-in_err-fit-clause-untouched g c = rw (err_from_is_err_and c.from_residual.result c.from_residual.ensures.1).1 (λ apart. refl)
+
+pub returns-in_err-fit-clause-most : goal.returns-in_err-fit-clause-most
+returns-in_err-fit-clause-most g c most budget = no_less _ _
+
+pub returns-in_err-fit-clause-left : goal.returns-in_err-fit-clause-left
+returns-in_err-fit-clause-left g c most budget = unless_ok _ c.from_residual.result c.from_residual.ensures.0
+
+pub returns-in_err-fit-clause-few : goal.returns-in_err-fit-clause-few
+returns-in_err-fit-clause-few g c most budget = unless_ok _ c.from_residual.result c.from_residual.ensures.0
+
+pub returns-in_err-fit-clause-rises : goal.returns-in_err-fit-clause-rises
+returns-in_err-fit-clause-rises g c = stays _
+
+pub returns-in_err-fit-clause-room : goal.returns-in_err-fit-clause-room
+returns-in_err-fit-clause-room g c = c.fit.ensures.kept
+
+pub returns-in_err-fit-clause-spare : goal.returns-in_err-fit-clause-spare
+returns-in_err-fit-clause-spare g c = unless_ok _ c.from_residual.result c.from_residual.ensures.0
+
+pub returns-in_err-fit-clause-reserved : goal.returns-in_err-fit-clause-reserved
+returns-in_err-fit-clause-reserved g c = unless_ok _ c.from_residual.result c.from_residual.ensures.0
+
+pub returns-in_err-fit-clause-spare_stays : goal.returns-in_err-fit-clause-spare_stays
+returns-in_err-fit-clause-spare_stays g c = stays _
+
+pub returns-in_err-fit-clause-reserved_stays : goal.returns-in_err-fit-clause-reserved_stays
+returns-in_err-fit-clause-reserved_stays g c = stays _
+
+pub returns-in_err-found-clause-rows : goal.returns-in_err-found-clause-rows
+returns-in_err-found-clause-rows g c = refl
+
+pub returns-in_err-found-clause-untouched : goal.returns-in_err-found-clause-untouched
+returns-in_err-found-clause-untouched g c = rw (err_from_is_err_and c.from_residual-in_err-found.result c.from_residual-in_err-found.ensures.1).1 (λ apart. refl)
+
+pub returns-in_err-found-clause-left : goal.returns-in_err-found-clause-left
+returns-in_err-found-clause-left g c most budget = unless_ok _ c.from_residual-in_err-found.result c.from_residual-in_err-found.ensures.0
+
+pub returns-in_err-found-clause-few : goal.returns-in_err-found-clause-few
+returns-in_err-found-clause-few g c most budget = unless_ok _ c.from_residual-in_err-found.result c.from_residual-in_err-found.ensures.0
+
+pub returns-in_err-found-clause-rises : goal.returns-in_err-found-clause-rises
+returns-in_err-found-clause-rises g c = c.in_err-found.ensures.least
+
+pub returns-in_err-found-clause-room : goal.returns-in_err-found-clause-room
+returns-in_err-found-clause-room g c = still_above _ _ _ c.fit.ensures.kept c.find.ensures.room
+
+pub returns-in_err-found-clause-spare : goal.returns-in_err-found-clause-spare
+returns-in_err-found-clause-spare g c = unless_ok _ c.from_residual-in_err-found.result c.from_residual-in_err-found.ensures.0
+
+pub returns-in_err-found-clause-reserved : goal.returns-in_err-found-clause-reserved
+returns-in_err-found-clause-reserved g c = unless_ok _ c.from_residual-in_err-found.result c.from_residual-in_err-found.ensures.0
+
+pub returns-in_err-found-clause-spare_stays : goal.returns-in_err-found-clause-spare_stays
+returns-in_err-found-clause-spare_stays g c = stays _
+
+pub returns-in_err-found-clause-reserved_stays : goal.returns-in_err-found-clause-reserved_stays
+returns-in_err-found-clause-reserved_stays g c = stays _
+
+pub returns-in_err-applied-clause-rows : goal.returns-in_err-applied-clause-rows
+returns-in_err-applied-clause-rows g c = refl
+
+pub returns-in_err-applied-clause-untouched : goal.returns-in_err-applied-clause-untouched
+returns-in_err-applied-clause-untouched g c = rw (err_from_is_err_and c.from_residual-in_err-applied.result c.from_residual-in_err-applied.ensures.1).1 (λ apart. refl)
+
+pub returns-in_err-applied-clause-left : goal.returns-in_err-applied-clause-left
+returns-in_err-applied-clause-left g c most budget = unless_ok _ c.from_residual-in_err-applied.result c.from_residual-in_err-applied.ensures.0
+
+pub returns-in_err-applied-clause-few : goal.returns-in_err-applied-clause-few
+returns-in_err-applied-clause-few g c most budget = unless_ok _ c.from_residual-in_err-applied.result c.from_residual-in_err-applied.ensures.0
+
+pub returns-in_err-applied-clause-room : goal.returns-in_err-applied-clause-room
+returns-in_err-applied-clause-room g c = still_above _ _ _ c.fit.ensures.kept (c.ready.ensures.room ∙ c.find.ensures.room)
+
+pub returns-in_err-applied-clause-spare : goal.returns-in_err-applied-clause-spare
+returns-in_err-applied-clause-spare g c = unless_ok _ c.from_residual-in_err-applied.result c.from_residual-in_err-applied.ensures.0
+
+pub returns-in_err-applied-clause-reserved : goal.returns-in_err-applied-clause-reserved
+returns-in_err-applied-clause-reserved g c = unless_ok _ c.from_residual-in_err-applied.result c.from_residual-in_err-applied.ensures.0
+
+pub returns-in_err-applied-clause-spare_stays : goal.returns-in_err-applied-clause-spare_stays
+returns-in_err-applied-clause-spare_stays g c = stays _
+
+pub returns-in_err-applied-clause-reserved_stays : goal.returns-in_err-applied-clause-reserved_stays
+returns-in_err-applied-clause-reserved_stays g c = stays _
+
+pub returns-in_err-reserve-clause-outcome : goal.returns-in_err-reserve-clause-outcome
+returns-in_err-reserve-clause-outcome g c =
+    let p = err_from_is_err_and c.from_residual-in_err-reserve.result c.from_residual-in_err-reserve.ensures.1 in
+    rw (p.1, p.2) tt
+
+pub returns-in_err-reserve-clause-rows : goal.returns-in_err-reserve-clause-rows
+returns-in_err-reserve-clause-rows g c = c.reserve.ensures.rows
+
+pub returns-in_err-reserve-clause-untouched : goal.returns-in_err-reserve-clause-untouched
+returns-in_err-reserve-clause-untouched g c =
+    let p = err_from_is_err_and c.from_residual-in_err-reserve.result c.from_residual-in_err-reserve.ensures.1 in
+    rw p.1 (λ apart. absurd (apart p.2))
+
+pub returns-in_err-reserve-clause-left : goal.returns-in_err-reserve-clause-left
+returns-in_err-reserve-clause-left g c most budget = unless_ok _ c.from_residual-in_err-reserve.result c.from_residual-in_err-reserve.ensures.0
+
+pub returns-in_err-reserve-clause-few : goal.returns-in_err-reserve-clause-few
+returns-in_err-reserve-clause-few g c most budget = unless_ok _ c.from_residual-in_err-reserve.result c.from_residual-in_err-reserve.ensures.0
+
+pub returns-in_err-reserve-clause-room : goal.returns-in_err-reserve-clause-room
+returns-in_err-reserve-clause-room g c = still_above _ _ _ c.fit.ensures.kept (c.ready.ensures.room ∙ c.find.ensures.room)
+
+pub returns-in_err-reserve-clause-spare : goal.returns-in_err-reserve-clause-spare
+returns-in_err-reserve-clause-spare g c = unless_ok _ c.from_residual-in_err-reserve.result c.from_residual-in_err-reserve.ensures.0
+
+pub returns-in_err-reserve-clause-reserved : goal.returns-in_err-reserve-clause-reserved
+returns-in_err-reserve-clause-reserved g c = unless_ok _ c.from_residual-in_err-reserve.result c.from_residual-in_err-reserve.ensures.0
+
+pub returns-in_err-reserve-clause-spare_stays : goal.returns-in_err-reserve-clause-spare_stays
+returns-in_err-reserve-clause-spare_stays g c = c.reserve.ensures.spare_stays
+
+pub returns-in_err-reserve-clause-reserved_stays : goal.returns-in_err-reserve-clause-reserved_stays
+returns-in_err-reserve-clause-reserved_stays g c = c.reserve.ensures.reserved_stays
+
+pub returns-in_err-edits-clause-outcome : goal.returns-in_err-edits-clause-outcome
+returns-in_err-edits-clause-outcome g c =
+    let p = err_from_is_err_and c.from_residual-in_err-edits.result c.from_residual-in_err-edits.ensures.1 in
+    rw (p.1, p.2) tt
+
+pub returns-in_err-edits-clause-rows : goal.returns-in_err-edits-clause-rows
+returns-in_err-edits-clause-rows g c = c.reserve.ensures.rows
+
+pub returns-in_err-edits-clause-untouched : goal.returns-in_err-edits-clause-untouched
+returns-in_err-edits-clause-untouched g c =
+    let p = err_from_is_err_and c.from_residual-in_err-edits.result c.from_residual-in_err-edits.ensures.1 in
+    rw p.1 (λ apart. absurd (apart p.2))
+
+pub returns-in_err-edits-clause-left : goal.returns-in_err-edits-clause-left
+returns-in_err-edits-clause-left g c most budget = unless_ok _ c.from_residual-in_err-edits.result c.from_residual-in_err-edits.ensures.0
+
+pub returns-in_err-edits-clause-few : goal.returns-in_err-edits-clause-few
+returns-in_err-edits-clause-few g c most budget = unless_ok _ c.from_residual-in_err-edits.result c.from_residual-in_err-edits.ensures.0
+
+pub returns-in_err-edits-clause-room : goal.returns-in_err-edits-clause-room
+returns-in_err-edits-clause-room g c = rises_twice _ _ _ c.fit.ensures.kept (subst (λ n. n ≤ c.into_edits.new.scratch.bound) (c.ready.ensures.room ∙ c.find.ensures.room) c.into_edits.ensures.room)
+
+pub returns-in_err-edits-clause-spare : goal.returns-in_err-edits-clause-spare
+returns-in_err-edits-clause-spare g c = unless_ok _ c.from_residual-in_err-edits.result c.from_residual-in_err-edits.ensures.0
+
+pub returns-in_err-edits-clause-reserved : goal.returns-in_err-edits-clause-reserved
+returns-in_err-edits-clause-reserved g c = unless_ok _ c.from_residual-in_err-edits.result c.from_residual-in_err-edits.ensures.0
+
+pub returns-in_err-edits-clause-spare_stays : goal.returns-in_err-edits-clause-spare_stays
+returns-in_err-edits-clause-spare_stays g c = c.reserve.ensures.spare_stays
+
+pub returns-in_err-edits-clause-reserved_stays : goal.returns-in_err-edits-clause-reserved_stays
+returns-in_err-edits-clause-reserved_stays g c = c.reserve.ensures.reserved_stays
+
+pub returns-clause-rows : goal.returns-clause-rows
+returns-clause-rows g c = c.reserve.ensures.rows
+
+pub returns-clause-untouched : goal.returns-clause-untouched
+returns-clause-untouched g c = tt
+
+pub returns-clause-room : goal.returns-clause-room
+returns-clause-room g c = still_above _ _ _ (rises_twice _ _ _ c.fit.ensures.kept (subst (λ n. n ≤ c.into_edits.new.scratch.bound) (c.ready.ensures.room ∙ c.find.ensures.room) c.into_edits.ensures.room)) (ap (λ room. room.bound) c.keep_rows.ensures)
+
+pub returns-clause-spare_stays : goal.returns-clause-spare_stays
+returns-clause-spare_stays g c = c.reserve.ensures.spare_stays
+
+pub returns-clause-reserved_stays : goal.returns-clause-reserved_stays
+returns-clause-reserved_stays g c = c.reserve.ensures.reserved_stays

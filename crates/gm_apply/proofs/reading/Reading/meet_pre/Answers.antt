@@ -1,12 +1,16 @@
-use Rattle.std.proofs.Common.{refl, sym, subst}
+use Rattle.std.proofs.Common.{refl, sym, subst, ◌∙◌}
 use Rattle.gm_model.specs.declared.value.Kind.TheVariants as kinds
 use Rattle.gm_model.specs.Kinds.{HasKind}
 use Rattle.gm_model.specs.Rules.{rule_of}
 use Rattle.gm_model.specs.Trees.{tree_of}
+use Rattle.gm_theory.proofs.Lists.{none_some}
 use Rattle.gm_eval.proofs.Matched.{live_there, typed_there}
-use Rattle.gm_apply.proofs.Applying.{pre_is, pre_met, pre_units, pre_valueless, pre_false}
+use Rattle.gm_apply.proofs.Applying.{no_pre, pre_is, pre_met, pre_units, pre_valueless, pre_false}
 use Rattle.gm_apply.proofs.Sums.{stays, no_less}
 use Rattle.gm_apply.proofs.reading.Reading.meet_pre.Goals as goal
+
+pub returns-in_default-clause-pre : goal.returns-in_default-clause-pre
+returns-in_default-clause-pre g c hooks readable tree is = none_some tree (sym (no_pre c.args.self.now.plan.now.table c.rule.result.now c.rule.ensures.rule c.in_default.is) ∙ is)
 
 pub returns-in_default-clause-cost : goal.returns-in_default-clause-cost
 returns-in_default-clause-cost g c hooks u units = no_less _ _

@@ -18,3 +18,15 @@ invariant_of-self c =
     ]) in
     let none : is_some c.self.inside.index ≡ false = ap is_some (c.self.invariant.1.1 few) in
     (rw (c.bit.ensures, c.key-3.ensures) (marked_few {E = Unit {0}} (λ b. index_at b.value) reached c.push_reserved.new.self.items c.self.inside.index c.self.inside.bits mark (Ok tt) none c.self.invariant.0 absent c.push_reserved.ensures.items tt), (rw c.push_reserved.ensures.capacity c.self.invariant.1.0, c.self.invariant.1.1))
+
+pub returns-then-len-self-clause-ok : goal.returns-then-len-self-clause-ok
+returns-then-len-self-clause-ok c = c.mark_slowly.ensures.ok
+
+pub returns-then-len-self-clause-new : goal.returns-then-len-self-clause-new
+returns-then-len-self-clause-new c = c.mark_slowly.ensures.new
+
+pub returns-then-len-self-clause-err : goal.returns-then-len-self-clause-err
+returns-then-len-self-clause-err c = c.mark_slowly.ensures.err
+
+pub returns-then-len-self-clause-distinct : goal.returns-then-len-self-clause-distinct
+returns-then-len-self-clause-distinct c = c.mark_slowly.ensures.distinct

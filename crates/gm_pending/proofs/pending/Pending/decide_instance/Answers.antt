@@ -7,19 +7,19 @@ use Rattle.gm_model.proofs.Exits.{never_ok}
 use Rattle.gm_pending.proofs.pending.Pending.decide_instance.Goals as goal
 
 pub place-at-requires : goal.place-at-requires
-place-at-requires g c = (assigned_right c.args.self.now c.labels.ensures.prepared c.args.embed c.args.declared.now c.requires.embed c.args.node c.requires.assigned, c.requires.position)
+place-at-requires g c = (assigned_right c.args.self.now c.requires.prepared c.args.embed c.args.declared.now c.requires.embed c.args.node c.requires.assigned, c.requires.position)
 
 pub returns-then-is_some-clause-decided : goal.returns-then-is_some-clause-decided
 returns-then-is_some-clause-decided g c =
-    instance_passed c.args.self.now c.labels.ensures.prepared c.args.embed c.args.declared.now c.requires.embed c.args.orbits.now.instances.items c.args.orbits.now.marks c.args.node c.args.position c.place-at.result
+    instance_passed c.args.self.now c.requires.prepared c.args.embed c.args.declared.now c.requires.embed c.args.orbits.now.instances.items c.args.orbits.now.marks c.args.node c.args.position c.place-at.result
     c.requires.earlier (c.requires.assigned, c.requires.position) c.place-at.ensures.dart c.place-at.ensures.name
     (key_there c.args.orbits.now.marks (key_of c.place-at.result) c.decided_by.result c.decided_by.ensures.instance (sym c.is_some.ensures ∙ c.if-is_some.true))
 
 pub returns-then-is_some-clause-reached : goal.returns-then-is_some-clause-reached
-returns-then-is_some-clause-reached g c = decided_reached c.args.self.now c.labels.ensures.prepared c.args.embed c.args.declared.now c.requires.embed c.args.orbits.now.instances.items c.args.orbits.now.marks c.args.node c.args.position c.requires.earlier
+returns-then-is_some-clause-reached g c = decided_reached c.args.self.now c.requires.prepared c.args.embed c.args.declared.now c.requires.embed c.args.orbits.now.instances.items c.args.orbits.now.marks c.args.node c.args.position c.requires.earlier
 
 pub returns-in_err-index-clause-reached : goal.returns-in_err-index-clause-reached
-returns-in_err-index-clause-reached g c = decided_reached c.args.self.now c.labels.ensures.prepared c.args.embed c.args.declared.now c.requires.embed c.args.orbits.now.instances.items c.args.orbits.now.marks c.args.node c.args.position c.requires.earlier
+returns-in_err-index-clause-reached g c = decided_reached c.args.self.now c.requires.prepared c.args.embed c.args.declared.now c.requires.embed c.args.orbits.now.instances.items c.args.orbits.now.marks c.args.node c.args.position c.requires.earlier
 
 pub returns-clause-decided : goal.returns-clause-decided
 returns-clause-decided g c =
@@ -27,7 +27,7 @@ returns-clause-decided g c =
     let marks = c.args.orbits.now.marks in
     let instances = c.args.orbits.now.instances.items in
     on_ok c.reach.result c.reach.ensures.spread (λ spread. rw c.in_ok-index.ensures.added
-    (instance_decides app c.labels.ensures.prepared c.args.embed c.args.declared.now c.requires.embed instances marks c.args.node c.args.position c.place-at.result
+    (instance_decides app c.requires.prepared c.args.embed c.args.declared.now c.requires.embed instances marks c.args.node c.args.position c.place-at.result
     c.requires.earlier (c.requires.assigned, c.requires.position) c.place-at.ensures.dart c.place-at.ensures.name c.reach.new.marks
     (key_absent marks (key_of c.place-at.result) c.decided_by.result c.decided_by.ensures.instance (sym c.is_some.ensures ∙ c.if-is_some.false))
     c.reach.ensures.darts c.in_ok-index.ensures.few
@@ -36,9 +36,9 @@ returns-clause-decided g c =
 pub returns-clause-reached : goal.returns-clause-reached
 returns-clause-reached g c =
     let app = c.args.self.now in
-    some_grown app c.labels.ensures.prepared c.args.embed c.args.declared.now c.requires.embed c.args.orbits.now.marks c.reach.new.marks c.in_ok-index.index c.args.node c.args.position c.place-at.result
+    some_grown app c.requires.prepared c.args.embed c.args.declared.now c.requires.embed c.args.orbits.now.marks c.reach.new.marks c.in_ok-index.index c.args.node c.args.position c.place-at.result
     (c.requires.assigned, c.requires.position) c.place-at.ensures.dart c.place-at.ensures.name c.reach.ensures.darts
-    (decided_reached app c.labels.ensures.prepared c.args.embed c.args.declared.now c.requires.embed c.args.orbits.now.instances.items c.args.orbits.now.marks c.args.node c.args.position c.requires.earlier)
+    (decided_reached app c.requires.prepared c.args.embed c.args.declared.now c.requires.embed c.args.orbits.now.instances.items c.args.orbits.now.marks c.args.node c.args.position c.requires.earlier)
     (λ result unfolded. c.reach.ensures.grown result unfolded (c.requires.earlier.walked result unfolded).closed)
 
 pub returns-then-is_some-clause-darts : goal.returns-then-is_some-clause-darts
@@ -85,3 +85,6 @@ returns-in_err-index-clause-decided g c = never_ok _ c.from_residual.result c.fr
 
 pub reach-requires-clause-closed : goal.reach-requires-clause-closed
 reach-requires-clause-closed g c = λ unfolded is. (c.requires.earlier.walked unfolded is).closed
+
+pub reach-requires-clause-prepared : goal.reach-requires-clause-prepared
+reach-requires-clause-prepared g c = c.requires.prepared

@@ -96,3 +96,6 @@ is_exact-requires-clause-embed g c = subst (λ (s : Schema). c.args.embed < leng
 
 pub is_exact-requires-clause-node : goal.is_exact-requires-clause-node
 is_exact-requires-clause-node g c = subst (λ (a : PendingOf). c.args.node < length (rule_in a).nodes) (sym c.self.view_is) (assigned_within (rule_in c.args.self.now) c.args.embed c.args.node c.requires.assigned)
+
+pub decide_instance-requires-clause-prepared : goal.decide_instance-requires-clause-prepared
+decide_instance-requires-clause-prepared g c = c.positions-position-end.ensures.prepared

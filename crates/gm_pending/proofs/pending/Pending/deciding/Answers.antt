@@ -1,5 +1,7 @@
 use Rattle.std.proofs.Common.{◌<◌, List, Contains, Some, length, set, refl, sym, ◌∙◌, ap, subst, arith}
+use Rattle.std.proofs.lemmas.List.{length-map}
 use Rattle.gm_model.specs.Maps.{IsEmbedAt}
+use Rattle.gm_pending.specs.Answered.{instances_in}
 use Rattle.gm_pending.specs.declared.deciding_instance.DecidingInstance.{DecidingInstance}
 use Rattle.gm_pending.specs.Results.{PendingOf, AreDecidingInstances, IsWithinReach}
 use Rattle.gm_pending.proofs.Answering.{kept_answers, kept_asked, kept_deciders, kept_prepared, good_if_ungiven}
@@ -111,3 +113,19 @@ returns-in_err-orbits-clause-err g c = on_err c.from_residual-in_err-orbits.resu
 
 pub returns-clause-err : goal.returns-clause-err
 returns-clause-err g c = tt
+
+pub look_up-requires : goal.look_up-requires
+look_up-requires g c = subst (λ (a : PendingOf). c.args.embed < length a.map.schema.embeds) (sym c.take_room-room.ensures.stays) c.requires.embed
+
+pub decide-requires-clause-empty : goal.decide-requires-clause-empty
+decide-requires-clause-empty g c = c.take_room-room.ensures.empty
+
+pub overflow_cast-count : goal.overflow_cast-count
+overflow_cast-count g c = omega (arith, c.len-count.ensures, c.in_ok-orbits.ensures.few)
+
+pub index_mut-requires : goal.index_mut-requires
+index_mut-requires g c =
+    let s = c.self.inside in
+    let within = subst (λ (a : PendingOf). c.args.embed < length a.map.schema.embeds) (sym (c.in_ok-look_up.ensures ∙ c.take_room-room.ensures.stays)) c.requires.embed in
+    let here : c.args.embed < length s.arena.now.schema.embeds = subst (λ (a : PendingOf). c.args.embed < length a.map.schema.embeds) (sym c.self.view_is) within in
+    omega (arith, here, c.self.invariant.0.each, length-map s.orbits.items instances_in)

@@ -1,15 +1,11 @@
 use Rattle.std.proofs.Common.{◌≡◌, ℕ, ◌+◌, ◌*◌, ◌<◌, ◌≤◌, length, subst, sym, ap, ap₂, ◌∙◌, arith, mul_comm}
-use Rattle.std.proofs.lemmas.List.{length-map}
 use Rattle.std.proofs.lemmas.Nat.{mul-le}
 use Rattle.gm_model.specs.Unfolding.{added_nodes}
 use Rattle.gm_pending.specs.declared.rewrite.Arcs.TheVariants.{Freed, Made}
 use Rattle.gm_pending.specs.Results.{PendingOf, IsPrepared, rule_in}
 use Rattle.gm_plan.specs.Placed.{Placed}
-use Rattle.gm_pending.specs.Answered.{instances_in}
-use Rattle.gm_pending.specs.EditLists.{AllGiven, AreDistinct, AreNewValues}
-use Rattle.gm_pending.specs.ToldEdits.{values_told}
+use Rattle.gm_pending.specs.EditLists.{AreDistinct}
 use Rattle.gm_pending.proofs.Collected.{are_edits, few_added, left_distinct}
-use Rattle.gm_pending.proofs.ToldValues.{told_new}
 use Rattle.gm_pending.proofs.Told.{same_arcs, same_left, same_removed}
 use Rattle.gm_model.proofs.Exits.{unless_ok}
 use Rattle.gm_pending.proofs.pending.Pending.into_changes.Goals as goal
@@ -52,10 +48,7 @@ returns-clause-edits g c =
     ap₂ (λ a b. a * b) (c.added-new_nodes.ensures ∙ ap (λ (a : PendingOf). added_nodes (rule_in a)) c.self.view_is) (c.positions.ensures.value ∙ ap (λ (a : PendingOf). a.placed.positions) c.self.view_is)
     ∙ mul_comm (added_nodes (rule_in app)) app.placed.positions in
     let alike = c.rewrite-rewrite.ensures in
-    let s = c.self.inside in
-    let values : AreNewValues app (values_told s.orbits.items) = subst (λ a. AreNewValues a (values_told s.orbits.items)) c.self.view_is
-    (told_new s.arena.now s.plan.now.table s.found.now s.orbits.items c.self.invariant.0 c.self.invariant.2 (subst AllGiven (sym c.self.view_is) c.requires.given) (omega (arith, length-map s.orbits.items instances_in, c.self.invariant.0.each))) in
-    are_edits app prepared _ c.in_ok-added_values.ensures.values values (same_left _ _ alike) (same_arcs _ _ alike Freed) (same_removed _ _ alike) (same_arcs _ _ alike Made) added
+    are_edits app prepared _ c.in_ok-added_values.ensures.values c.into_orbits-orbits.ensures.values (same_left _ _ alike) (same_arcs _ _ alike Freed) (same_removed _ _ alike) (same_arcs _ _ alike Made) added
 
 pub returns-in_err-left_slots-clause-edits : goal.returns-in_err-left_slots-clause-edits
 returns-in_err-left_slots-clause-edits g c = unless_ok _ c.from_residual.result c.from_residual.ensures.0
@@ -96,4 +89,7 @@ invariant_of-result g c =
     let app = c.args.self in
     let prepared : IsPrepared app = subst IsPrepared c.self.view_is c.self.invariant.0 in
     let left = c.in_ok-left_slots.ensures.slots ∙ same_left _ _ c.rewrite-rewrite.ensures in
-    (c.in_ok-left_slots.ensures.slots, rw positions c.in_ok-left_slots.ensures.room, subst AreDistinct (sym left) (left_distinct app prepared), omega (arith, length-map c.self.inside.orbits.items instances_in, c.self.invariant.0.each, c.self.invariant.0.lawful.schema.count))
+    (c.in_ok-left_slots.ensures.slots, rw positions c.in_ok-left_slots.ensures.room, subst AreDistinct (sym left) (left_distinct app prepared), c.into_orbits-orbits.ensures.few)
+
+pub into_orbits-orbits-requires : goal.into_orbits-orbits-requires
+into_orbits-orbits-requires g c = record { given = c.requires.given }

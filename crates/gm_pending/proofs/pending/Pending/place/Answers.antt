@@ -9,6 +9,7 @@ use Rattle.gm_plan.specs.Plans.{IsLeftCount}
 use Rattle.gm_theory.proofs.Arcs.{kept_name}
 use Rattle.gm_pending.proofs.Law.{law}
 use Rattle.gm_pending.proofs.Lefts.{right_added}
+use Rattle.gm_pending.proofs.Spread.{few_nodes}
 use Rattle.gm_pending.proofs.pending.Pending.place.Goals as goal
 
 pub returns-then-node-left_nodes-clause-dart : goal.returns-then-node-left_nodes-clause-dart
@@ -41,3 +42,6 @@ pub returns-else-node-left_nodes-clause-dart : goal.returns-else-node-left_nodes
 returns-else-node-left_nodes-clause-dart c =
     let app = c.args.self.now in
     rw c.new.ensures (right_added (rule_in app) c.left_nodes.result c.args.node (subst (λ (a : PendingOf). IsLeftCount (rule_in a) c.left_nodes.result) c.self.view_is c.left_nodes.ensures.left) c.if-node-left_nodes.false c.requires.0, c.requires.1)
+
+pub new-requires : goal.new-requires
+new-requires c = few_nodes c.args.self.now (subst IsPrepared c.self.view_is c.self.invariant.0) c.args.node c.requires.0
