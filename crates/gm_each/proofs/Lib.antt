@@ -1,1 +1,2 @@
 pub mod LeastLemmas
+mod StepLemmas

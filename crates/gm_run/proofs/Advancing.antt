@@ -79,6 +79,9 @@ module _ (rules : List Rule) (m n : ArenaMap) (line : Line) (rule : Rule) (rule_
 
 -- ---- the line's plan
 
+pub no_less : (n more : ℕ) → n ≤ n + more
+no_less n more = omega arith
+
 -- an arena has no more darts than a map may have
 pub never_more : (m : ArenaMap) (n : ℕ) → IsLawful m → n ≡ m.count → most_darts < n → ⊥
 never_more m n lawful same over = let few = lawful.few_darts in omega (arith, few, same, over)

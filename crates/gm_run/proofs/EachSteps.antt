@@ -1,5 +1,5 @@
 -- What an `each` comes to, turn by turn and as a step.
-use Rattle.std.proofs.Common.{◌≡◌, ℕ, zero, suc, ◌+◌, ◌*◌, ◌-◌, ◌<◌, ◌≤◌, ◌⊎◌, inl, inr, Bool, true, false, cond, List, [], ◌∷◌, ◌++◌, length, take, drop, get_or, Option, None, Some, refl, sym, ap, subst, ◌∙◌, arith}
+use Rattle.std.proofs.Common.{◌≡◌, ℕ, zero, suc, ◌+◌, ◌*◌, ◌-◌, ◌<◌, ◌≤◌, ◌^◌, ◌⊎◌, inl, inr, Bool, true, false, cond, List, [], ◌∷◌, ◌++◌, length, take, drop, get_or, Option, None, Some, refl, sym, ap, subst, ◌∙◌, arith}
 use Rattle.std.specs.List.{count_by}
 use Rattle.std.specs.Option.{option_map}
 use Rattle.std.proofs.lemmas.List.{take_more, take_all, length-take-le, take-append-drop, drop_more, length-append}
@@ -11,6 +11,7 @@ use Rattle.gm_model.specs.declared.value.Value.{Value}
 use Rattle.gm_model.specs.declared.word.Mask.{Mask}
 use Rattle.gm_model.specs.Budgets.{Bounds, Entries, HasBounds, OfEach, IsLineBudget, AreTurnCosts, each_entered, entered, group_entered}
 use Rattle.gm_model.specs.Histories.{Group, History, begun_at, changed, done_at, kept, past_behind}
+use Rattle.gm_model.specs.Limits.{most_darts}
 use Rattle.gm_model.specs.Maps.{Map, IsDart, dimension}
 use Rattle.gm_model.specs.Orbits.{HasCount}
 use Rattle.gm_model.specs.Rules.{Rule}
@@ -65,6 +66,10 @@ pub few_leads : (map : Map) (mask : Mask) (leads : List ℕ) (darts : ℕ) → A
 few_leads map mask leads darts are (all, listed, long) =
     let h = no_longer leads all (distinct_list leads are.same.distinct) (λ d i. in_contained all d ((listed.same d).1 ((are.same.same d).0 (contains_in leads d i)).live)) in
     omega (arith, h, long)
+
+-- so their number, and one more, is one of 32 bits
+pub few_turns : (leads : List ℕ) (count spare : ℕ) → length leads ≤ count → count + spare ≤ most_darts → length leads + 1 < 2 ^ 32
+few_turns leads count spare few darts = omega arith
 
 -- ---- what is remembered
 

@@ -2,6 +2,7 @@
 use Rattle.std.proofs.Common.{◌≡◌, ◌≢◌, ℕ, ◌+◌, ◌≤◌, Bool, true, false, List, [], ◌∷◌, Option, None, Some, Result, Ok, Err, refl, sym, ap, subst, ◌∙◌, arith}
 use Rattle.std.specs.Option.{option_map}
 use Rattle.std.specs.Prelude.{is_some, IfErr, IfOk, MatchResult}
+use Rattle.std.proofs.lemmas.Bool.{false≢true}
 use Rattle.gm_model.specs.declared.memory.OutOfMemory.{OutOfMemory}
 use Rattle.gm_model.specs.declared.schema.Schema.{Schema}
 use Rattle.gm_model.specs.Statements.{Line}
@@ -40,11 +41,26 @@ pub entries_then : {T E : Type 0} (result : Result T E) (keeps : Bool) (old new 
 entries_then (Ok x) keeps old new m n entries behind schema ok err costs = λ _. ok
 entries_then (Err x) keeps old new m n entries behind schema ok err costs = λ _. subst (λ h. MayTake h n.schema.dim entries) (sym err) (subst (λ (s : Schema). MayTake old s.dim entries) (sym schema) costs)
 
+-- what is told where a history is kept, of one that is
+pub then_needed : {T E : Type 0} (result : Result T E) (keeps : Bool) (Done Refused : Type 0) → MatchResult result (λ _. Done) (λ _. Refused) → MatchResult result (λ _. keeps ≡ true → Done) (λ _. keeps ≡ true → Refused)
+then_needed (Ok x) keeps Done Refused h = λ _. h
+then_needed (Err x) keeps Done Refused h = λ _. h
+
+-- and where none is
+pub needs_none : {T E : Type 0} (result : Result T E) (keeps : Bool) (Done Refused : Type 0) → keeps ≡ false → MatchResult result (λ _. keeps ≡ true → Done) (λ _. keeps ≡ true → Refused)
+needs_none (Ok x) keeps Done Refused none = λ e. absurd (false≢true (sym none ∙ e))
+needs_none (Err x) keeps Done Refused none = λ e. absurd (false≢true (sym none ∙ e))
+
 -- an application that is refused is none
 pub entries_refused : (result : Result Outcome OutOfMemory) (refusal : Refusal) (May : Entries → Type 0) (group : Option Group) (most : ℕ) (entries : Entries)
     → MatchResult result (λ outcome. (outcome ≡ outcomes.Refused refusal) × (refusal ≢ refusals.OutOfMemory)) (λ _. refusal ≡ refusals.OutOfMemory) → May entries → IfOk result (λ outcome. May (entered_by outcome group most entries))
 entries_refused (Ok outcome) refusal May group most entries told may = subst (λ (o : Outcome). May (entered_by o group most entries)) (sym told.0) may
 entries_refused (Err x) refusal May group most entries told may = tt
+
+pub history_refused : (result : Result Outcome OutOfMemory) (refusal : Refusal) (map : Map) (told : History) → MatchResult result (λ outcome. (outcome ≡ outcomes.Refused refusal) × (refusal ≢ refusals.OutOfMemory)) (λ _. refusal ≡ refusals.OutOfMemory)
+    → (Stands : History → Type 0) → Stands told → IfOk result (λ outcome. Stands (told_behind outcome map told))
+history_refused (Ok outcome) refusal map told is Stands stands = subst (λ (o : Outcome). Stands (told_behind o map told)) (sym is.0) stands
+history_refused (Err x) refusal map told is Stands stands = tt
 
 -- ---- the open group
 

@@ -6,12 +6,13 @@ use Rattle.std.specs.Option.{option_map, unwrap_or}
 use Rattle.std.specs.Prelude.{OnOk}
 use Rattle.std.proofs.lemmas.List.{map-append}
 use Rattle.std.proofs.lemmas.List.Sums.{count_by_more_yes, count_by_more_no, sum_by-append}
-use Rattle.std.proofs.lemmas.Option.{get_or_from_slice_get, slice_get-get_or, slice_get_within}
+use Rattle.std.proofs.lemmas.Option.{get_or_from_slice_get, slice_get-get_or, slice_get-map, slice_get_within}
 use Rattle.std.proofs.lemmas.Result.{on_ok_weaker}
 use Rattle.gm_model.specs.declared.schema.Schema.{Schema}
 use Rattle.gm_model.specs.Statements.{Stat}
-use Rattle.gm_model.specs.Reports.{outcome_words, outcome_line, outcome_lines, counts_line, nodes_of, stat_words, done_in, refused_in}
-use Rattle.gm_model.specs.Rules.{Rule}
+use Rattle.gm_model.specs.declared.rule.RuleTable.{RuleTable}
+use Rattle.gm_model.specs.Reports.{rule_name, outcome_words, outcome_line, outcome_lines, counts_line, nodes_of, stat_words, done_in, refused_in}
+use Rattle.gm_model.specs.Rules.{Rule, rule_of}
 use Rattle.gm_model.specs.Runs as runs
 use Rattle.gm_run.specs.declared.outcome.Outcome.{Outcome}
 use Rattle.gm_run.specs.Lines.{outcome_of, Tells}
@@ -29,6 +30,21 @@ onward result start words more whole first after begun is h = on_ok_weaker resul
 pub name_read : {A : Type 0} (name : A → List ℕ) (xs read : List A) (x : ℕ) (none : A) (bytes : List ℕ) → read ≡ xs → x < length xs → bytes ≡ name (get_or read x none) → bytes ≡ unwrap_or (option_map name (slice_get xs x)) []
 name_read name xs read x none bytes same within is =
     is ∙ sym (ap (λ o. unwrap_or (option_map name o) []) (slice_get-get_or read x none (subst (λ ys. x < length ys) (sym same) within))) ∙ ap (λ ys. unwrap_or (option_map name (slice_get ys x)) []) same
+
+-- the name of a rule of a book, as the code reads it
+pub named_at : (rules : List RuleTable) (k : ℕ) (table : RuleTable) → k < length rules → table ≡ get_or rules k table → table.name ≡ rule_name (map rule_of rules) k
+named_at rules k table within is =
+    sym (ap (λ o. unwrap_or (option_map (λ (r : Rule). r.name) o) []) (slice_get-map rule_of rules k ∙ ap (option_map rule_of) (slice_get-get_or rules k table within ∙ ap Some (sym is))))
+
+-- six pieces, one put behind another
+pub line_put : {T E : Type 0} (result : Result T E) (a b c d e f start first second third fourth fifth last : List ℕ)
+    → first ≡ start ++ a → second ≡ first ++ b → third ≡ second ++ c → fourth ≡ third ++ d → fifth ≡ fourth ++ e → OnOk result (last ≡ fifth ++ f) → OnOk result (last ≡ start ++ (a ++ b ++ c ++ d ++ e ++ f))
+line_put result a b c d e f start first second third fourth fifth last one two three four five h =
+    onward result start (a ++ b ++ c ++ d ++ e) f (a ++ b ++ c ++ d ++ e ++ f) fifth last
+    (more (a ++ b ++ c ++ d) e fourth fifth (more (a ++ b ++ c) d third fourth (more (a ++ b) c second third (more a b first second one two) three) four) five) refl h
+  where
+    more : (words piece now then : List ℕ) → now ≡ start ++ words → then ≡ now ++ piece → then ≡ start ++ (words ++ piece)
+    more words piece now then begun is = onto start words piece (words ++ piece) now then begun refl is
 
 -- ---- lines
 

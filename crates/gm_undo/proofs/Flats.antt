@@ -1,10 +1,11 @@
 -- Rows that are kept in lists of their own: what they are after one is put behind them, is marked, or some are forgotten.
-use Rattle.std.proofs.Common.{◌≡◌, ℕ, ◌+◌, ◌*◌, ◌<◌, ◌≤◌, Bool, true, false, List, [], ◌∷◌, ◌++◌, map, length, take, set, get_or, Some, refl, sym, ap, ◌∙◌, inl, inr, arith}
+use Rattle.std.proofs.Common.{◌≡◌, ℕ, ◌+◌, ◌*◌, ◌<◌, ◌≤◌, Bool, true, false, List, [], ◌∷◌, ◌++◌, map, length, take, set, get_or, suc, Some, refl, sym, ap, append_assoc, ◌∙◌, inl, inr, arith}
 use Rattle.std.specs.List.{range_with_len}
 use Rattle.std.proofs.lemmas.Bool.{cases_eq, cases_lt}
-use Rattle.std.proofs.lemmas.List.{drop_at, get_or_append_left, get_or-append-add, get_or-set_other, get_or-set_same, length-map, length_push, length-set, length-take-le, take_all, take_at, get_or-take}
+use Rattle.std.proofs.lemmas.List.{drop_at, get_or_append_left, get_or-append-add, get_or-set_other, get_or-set_same, length-map, length_push, length-set, length-take-le, map-append, take_all, take_at, get_or-take}
 use Rattle.std.proofs.lemmas.List.FromFn.{fill_by_all, get_or-map-range_with_len, length-map-range_with_len}
 use Rattle.std.proofs.lemmas.Nat.{mul-le}
+use Rattle.std.proofs.Math.Seq.{take-suc}
 use Rattle.gm_model.specs.declared.value.Value.{Value}
 use Rattle.std.specs.FinMap.{get}
 use Rattle.std.proofs.lemmas.Option.{same_Some}
@@ -152,3 +153,19 @@ dart_row m slot name alphas values dart stays at here there =
     let n : name ≡ name_at m slot = sym (name_at-is m slot name at) in
     let d = same_Some (record { alphas = alphas; values = values }) dart (sym here ∙ ap (get m.darts) n ∙ there) in
     λ i. record { name = n i; stays = stays; dart = d i }
+
+-- ---- one item more of a list that is put behind another
+
+module _ {A : Type 0} (xs : List A) (index : ℕ) (none : A) (within : index < length xs) where
+  one_more_taken : take (index + 1) xs ≡ take index xs ++ get_or xs index none ∷ []
+  one_more_taken = ap (λ n. take n xs) (let e : index + 1 ≡ suc index = omega arith in e) ∙ take-suc xs index none within
+
+  pub one_put : (start before after : List A) → before ≡ start ++ take index xs → after ≡ before ++ get_or xs index none ∷ [] → after ≡ start ++ take (index + 1) xs
+  one_put start before after so_far put =
+      put ∙ ap (λ ys. ys ++ get_or xs index none ∷ []) so_far ∙ append_assoc start (take index xs) (get_or xs index none ∷ []) ∙ ap (λ ys. start ++ ys) (sym one_more_taken)
+
+module _ {A : Type 0} (name : A → ℕ) (xs : List A) (index : ℕ) (none : A) (within : index < length xs) where
+  pub one_named : (start before after : List ℕ) (one : ℕ) → before ≡ start ++ map name (take index xs) → one ≡ name (get_or xs index none) → after ≡ before ++ one ∷ [] → after ≡ start ++ map name (take (index + 1) xs)
+  one_named start before after one so_far is put =
+      put ∙ ap (λ n. before ++ n ∷ []) is ∙ ap (λ ys. ys ++ name (get_or xs index none) ∷ []) so_far ∙ append_assoc start (map name (take index xs)) (name (get_or xs index none) ∷ [])
+      ∙ ap (λ ys. start ++ ys) (sym (map-append name (take index xs) (get_or xs index none ∷ [])) ∙ ap (map name) (sym (one_more_taken xs index none within)))

@@ -9,3 +9,4 @@ pub mod Leads
 pub mod Spans
 pub mod Tellings
 pub mod Entering
+mod Sums

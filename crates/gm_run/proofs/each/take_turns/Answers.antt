@@ -1,10 +1,11 @@
-use Rattle.std.proofs.Common.{◌+◌, take, refl, sym, subst, ◌∙◌, arith}
+use Rattle.std.proofs.Common.{◌+◌, take, refl, sym, subst, ◌∙◌}
 use Rattle.std.proofs.lemmas.Result.{err_from_is_err_and}
 use Rattle.gm_model.specs.Histories.{begun_at}
 use Rattle.gm_arena.specs.ArenaAsMap.{as_map}
 use Rattle.gm_run.specs.Progress.{rules_of, ArePlansFor}
 use Rattle.gm_run.specs.Turns.{HaveTurns, told_by}
 use Rattle.gm_run.proofs.EachSteps.{counted_sum, no_turns, stops_at, turns_all, turns_more}
+use Rattle.std.proofs.Math.Nat.{le_refl, le_trans}
 use Rattle.gm_run.proofs.each.take_turns.Goals as goal
 
 pub take_turn-requires-clause-sound : goal.take_turn-requires-clause-sound
@@ -23,8 +24,8 @@ pub loop-lead-init : goal.loop-lead-init
 loop-lead-init g c = record {
   sound = c.requires.sound;
   schema = refl;
-  spare = omega arith;
-  reserved = omega arith;
+  spare = le_refl _;
+  reserved = le_refl _;
   keeps = refl;
   group = refl;
   sum = refl;
@@ -37,15 +38,11 @@ pub loop-lead-preserved : goal.loop-lead-preserved
 loop-lead-preserved g c =
     let before = c.loop-lead.invariant in
     let last = c.in_ok-turn.ensures in
-    let spare = last.spare_stays in
-    let reserved = last.reserved_stays in
-    let so_far = before.spare in
-    let names = before.reserved in
     record {
       sound = last.sound;
       schema = last.schema ∙ before.schema;
-      spare = omega (arith, spare, so_far);
-      reserved = omega (arith, reserved, names);
+      spare = le_trans before.spare last.spare_stays;
+      reserved = le_trans before.reserved last.reserved_stays;
       keeps = last.keeps ∙ before.keeps;
       group = last.group ∙ before.group;
       sum = counted_sum c.loop-lead.counts c.in_ok-turn.turn c.loop-lead.lead-index c.counted-counts.result c.counted-counts.ensures before.sum;
@@ -71,3 +68,39 @@ pub returns-clause-turns : goal.returns-clause-turns
 returns-clause-turns g c told entries stands costs =
     turns_all c.args.arena.now.schema (rules_of c.args.plans.now) c.args.rule c.args.params.now c.requires.rule c.requires.good (as_map c.args.arena.now) told entries c.args.leads.now c.loop-lead.lead-index c.loop-lead.counts c.loop-lead.standing c.loop-lead.arena c.args.steps.now c.loop-lead.steps c.loop-lead-test.false
     (c.loop-lead.invariant.turns told entries stands costs)
+
+pub returns-in_err-turn-clause-keeps : goal.returns-in_err-turn-clause-keeps
+returns-in_err-turn-clause-keeps g c = c.in_err-turn.ensures.keeps ∙ c.loop-lead.invariant.keeps
+
+pub returns-clause-keeps : goal.returns-clause-keeps
+returns-clause-keeps g c = c.loop-lead.invariant.keeps
+
+pub returns-in_err-turn-clause-group : goal.returns-in_err-turn-clause-group
+returns-in_err-turn-clause-group g c = c.in_err-turn.ensures.group ∙ c.loop-lead.invariant.group
+
+pub returns-clause-group : goal.returns-clause-group
+returns-clause-group g c = c.loop-lead.invariant.group
+
+pub returns-in_err-turn-clause-sound : goal.returns-in_err-turn-clause-sound
+returns-in_err-turn-clause-sound g c = c.in_err-turn.ensures.sound
+
+pub returns-clause-sound : goal.returns-clause-sound
+returns-clause-sound g c = c.loop-lead.invariant.sound
+
+pub returns-in_err-turn-clause-schema : goal.returns-in_err-turn-clause-schema
+returns-in_err-turn-clause-schema g c = c.in_err-turn.ensures.schema ∙ c.loop-lead.invariant.schema
+
+pub returns-clause-schema : goal.returns-clause-schema
+returns-clause-schema g c = c.loop-lead.invariant.schema
+
+pub returns-in_err-turn-clause-spare_stays : goal.returns-in_err-turn-clause-spare_stays
+returns-in_err-turn-clause-spare_stays g c = le_trans c.loop-lead.invariant.spare c.in_err-turn.ensures.spare_stays
+
+pub returns-clause-spare_stays : goal.returns-clause-spare_stays
+returns-clause-spare_stays g c = c.loop-lead.invariant.spare
+
+pub returns-in_err-turn-clause-reserved_stays : goal.returns-in_err-turn-clause-reserved_stays
+returns-in_err-turn-clause-reserved_stays g c = le_trans c.loop-lead.invariant.reserved c.in_err-turn.ensures.reserved_stays
+
+pub returns-clause-reserved_stays : goal.returns-clause-reserved_stays
+returns-clause-reserved_stays g c = c.loop-lead.invariant.reserved

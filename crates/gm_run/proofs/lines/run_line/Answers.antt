@@ -8,6 +8,7 @@ use Rattle.gm_model.specs.Statements.{line_of}
 use Rattle.gm_run.specs.Standing.{group_behind}
 use Rattle.gm_run.proofs.Advancing.{named}
 use Rattle.gm_run.proofs.Stepping.{applies, budget_of, skipped, unapplied}
+use Rattle.std.proofs.Math.Nat.{le_refl}
 use Rattle.gm_run.proofs.lines.run_line.Goals as goal
 
 pub accepted-requires-clause-named : goal.accepted-requires-clause-named
@@ -38,3 +39,72 @@ returns-clause-step g c state entries stands =
     (c.in_ok-outcome.ensures.history state.history stands.history)
     (c.in_ok-outcome.ensures.entries state.history entries budget.0 stands.history stands.costs budget.1)
     (c.behind-standing.ensures ∙ ap (group_behind c.in_ok-outcome.outcome) c.in_ok-outcome.ensures.group)
+
+pub apply_rule-requires-clause-sound : goal.apply_rule-requires-clause-sound
+apply_rule-requires-clause-sound g c = c.requires.sound
+
+pub apply_rule-requires-clause-plans : goal.apply_rule-requires-clause-plans
+apply_rule-requires-clause-plans g c = c.requires.plans
+
+pub apply_rule-requires-clause-good : goal.apply_rule-requires-clause-good
+apply_rule-requires-clause-good g c = c.requires.good
+
+pub accepted-requires-clause-plans : goal.accepted-requires-clause-plans
+accepted-requires-clause-plans g c = c.requires.plans
+
+pub apply_rule-requires-clause-stands : goal.apply_rule-requires-clause-stands
+apply_rule-requires-clause-stands g c = (c.requires.stands.0.history, c.requires.stands.2.history)
+
+pub returns-then-is_broken-clause-rule : goal.returns-then-is_broken-clause-rule
+returns-then-is_broken-clause-rule g c = c.accepted.ensures.rule
+
+pub returns-then-is_broken-clause-keeps : goal.returns-then-is_broken-clause-keeps
+returns-then-is_broken-clause-keeps g c = refl
+
+pub returns-then-is_broken-clause-sound : goal.returns-then-is_broken-clause-sound
+returns-then-is_broken-clause-sound g c = c.requires.sound
+
+pub returns-then-is_broken-clause-schema : goal.returns-then-is_broken-clause-schema
+returns-then-is_broken-clause-schema g c = refl
+
+pub returns-then-is_broken-clause-spare_stays : goal.returns-then-is_broken-clause-spare_stays
+returns-then-is_broken-clause-spare_stays g c = le_refl _
+
+pub returns-then-is_broken-clause-reserved_stays : goal.returns-then-is_broken-clause-reserved_stays
+returns-then-is_broken-clause-reserved_stays g c = le_refl _
+
+pub returns-in_err-outcome-clause-rule : goal.returns-in_err-outcome-clause-rule
+returns-in_err-outcome-clause-rule g c = c.accepted.ensures.rule
+
+pub returns-in_err-outcome-clause-keeps : goal.returns-in_err-outcome-clause-keeps
+returns-in_err-outcome-clause-keeps g c = c.in_err-outcome.ensures.keeps
+
+pub returns-in_err-outcome-clause-sound : goal.returns-in_err-outcome-clause-sound
+returns-in_err-outcome-clause-sound g c = c.in_err-outcome.ensures.sound
+
+pub returns-in_err-outcome-clause-schema : goal.returns-in_err-outcome-clause-schema
+returns-in_err-outcome-clause-schema g c = c.in_err-outcome.ensures.schema
+
+pub returns-in_err-outcome-clause-spare_stays : goal.returns-in_err-outcome-clause-spare_stays
+returns-in_err-outcome-clause-spare_stays g c = c.in_err-outcome.ensures.spare_stays
+
+pub returns-in_err-outcome-clause-reserved_stays : goal.returns-in_err-outcome-clause-reserved_stays
+returns-in_err-outcome-clause-reserved_stays g c = c.in_err-outcome.ensures.reserved_stays
+
+pub returns-clause-rule : goal.returns-clause-rule
+returns-clause-rule g c = c.accepted.ensures.rule
+
+pub returns-clause-keeps : goal.returns-clause-keeps
+returns-clause-keeps g c = c.in_ok-outcome.ensures.keeps
+
+pub returns-clause-sound : goal.returns-clause-sound
+returns-clause-sound g c = c.in_ok-outcome.ensures.sound
+
+pub returns-clause-schema : goal.returns-clause-schema
+returns-clause-schema g c = c.in_ok-outcome.ensures.schema
+
+pub returns-clause-spare_stays : goal.returns-clause-spare_stays
+returns-clause-spare_stays g c = c.in_ok-outcome.ensures.spare_stays
+
+pub returns-clause-reserved_stays : goal.returns-clause-reserved_stays
+returns-clause-reserved_stays g c = c.in_ok-outcome.ensures.reserved_stays

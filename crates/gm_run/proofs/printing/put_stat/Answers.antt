@@ -1,18 +1,12 @@
-use Rattle.std.proofs.Common.{◌≡◌, ◌++◌, ◌<◌, ℕ, List, [], length, map, get_or, Some, codes, ap, refl, sym, subst, ◌∙◌}
-use Rattle.std.specs.Option.{option_map, unwrap_or}
+use Rattle.std.proofs.Common.{◌≡◌, ◌++◌, ◌<◌, length, map, codes, ap, refl, sym, subst, ◌∙◌}
 use Rattle.std.specs.Prelude.{OnOk}
-use Rattle.std.proofs.lemmas.Option.{slice_get-get_or, slice_get-map}
 use Rattle.gm_model.specs.declared.rule.RuleTable.{RuleTable}
 use Rattle.gm_model.specs.Reports.{rule_name, stat_words}
-use Rattle.gm_model.specs.Rules.{Rule, rule_of}
+use Rattle.gm_model.specs.Rules.{rule_of}
 use Rattle.gm_model.specs.Statements.{stat_of}
 use Rattle.gm_run.specs.Printing.{IsNamed}
-use Rattle.gm_run.proofs.Told.{onward}
+use Rattle.gm_run.proofs.Told.{named_at, onward}
 use Rattle.gm_run.proofs.printing.put_stat.Goals as goal
-
-named_at : (rules : List RuleTable) (k : ℕ) (table : RuleTable) → k < length rules → table ≡ get_or rules k table → table.name ≡ rule_name (map rule_of rules) k
-named_at rules k table within is =
-    sym (ap (λ o. unwrap_or (option_map (λ (r : Rule). r.name) o) []) (slice_get-map rule_of rules k ∙ ap (option_map rule_of) (slice_get-get_or rules k table within ∙ ap Some (sym is))))
 
 pub returns-in_ok-put-in-Each : goal.returns-in_ok-put-in-Each
 returns-in_ok-put-in-Each c =

@@ -1,4 +1,4 @@
-use Rattle.std.proofs.Common.{true, ltb, drop, ◌+◌, ◌<◌, ◌≤◌, [], length, take, refl, rules, ap, sym, subst, ◌∙◌, arith}
+use Rattle.std.proofs.Common.{true, ltb, drop, ◌+◌, ◌<◌, ◌≤◌, [], length, take, refl, rules, ap, sym, subst, ◌∙◌}
 use Rattle.std.proofs.lemmas.Bool.{false≢true, lt-ltb}
 use Rattle.std.proofs.lemmas.List.{length_push}
 use Rattle.std.proofs.lemmas.Option.{get_or_from_slice_get, slice_get_within}
@@ -19,7 +19,10 @@ use Rattle.gm_run.specs.Progress.{rules_of, ArePlansFor}
 use Rattle.gm_run.proofs.Telling.{behind}
 use Rattle.gm_run.proofs.Sayable.{run_can_be_printed}
 use Rattle.gm_run.proofs.Advancing.{never_more}
+use Rattle.gm_run.proofs.Advancing.{no_less}
 use Rattle.gm_run.proofs.Through.{IsThrough, allowed, cut_first, is_open, keeping, none_through, past_needing, still_kept, through_as, order_on, run_bounds, run_least, run_most, run_only, run_told, stat_cut, stat_through, through_all}
+use Rattle.std.proofs.Math.Nat.{le_refl, le_trans}
+use Rattle.gm_model.proofs.Exits.{unless_ok}
 use Rattle.gm_run.proofs.running.run.Goals as goal
 
 -- ---- the loop
@@ -62,8 +65,8 @@ loop-index-init g c =
     record {
       sound = c.requires.sound;
       schema = refl;
-      spare = omega arith;
-      reserved = omega arith;
+      spare = le_refl _;
+      reserved = le_refl _;
       long = ap length items;
       capacity = search rules;
       kept = λ e. absurd (false≢true (sym e));
@@ -86,10 +89,10 @@ loop-index-preserved g c =
     record {
       sound = c.in_ok-outcome.ensures.sound;
       schema = c.in_ok-outcome.ensures.schema ∙ before.schema;
-      spare = let more = c.in_ok-outcome.ensures.spare_stays in let so_far = before.spare in omega (arith, more, so_far);
-      reserved = let more = c.in_ok-outcome.ensures.reserved_stays in let so_far = before.reserved in omega (arith, more, so_far);
-      long = omega (arith, ap length items, length_push c.loop-index.outcomes.items c.in_ok-outcome.outcome, long);
-      capacity = omega (arith, room, same);
+      spare = le_trans before.spare c.in_ok-outcome.ensures.spare_stays;
+      reserved = le_trans before.reserved c.in_ok-outcome.ensures.reserved_stays;
+      long = ap length items ∙ length_push c.loop-index.outcomes.items c.in_ok-outcome.outcome ∙ ap (λ n. n + 1) long;
+      capacity = subst (λ n. c.len-count.result ≤ n) (sym same) room;
       kept = λ e. past_needing c.loop-index.index c.needing-needing.result (sym c.in_ok-outcome.ensures.keeps ∙ e);
       order = order_on (rules_of c.args.plans.now) (as_map c.args.arena.now) c.requires.sound c.args.script.now.stats c.loop-index.index c.loop-index.outcomes.items (keeping keeps c.loop-index.standing) c.stat_outcome.new.standing c.loop-index.arena c.stat_outcome.new.arena
           c.args.steps.now c.loop-index.steps c.stat_outcome.new.steps through (stat_of c.get-stat.result) c.get-stat.ensures
@@ -185,3 +188,94 @@ returns-clause-printable g c =
     let through = through_all rules before c.requires.sound c.args.script.now.stats c.loop-index.outcomes.items c.new-3.result c.loop-index.index c.loop-index.standing c.loop-index.arena c.args.steps.now c.loop-index.steps past c.new-3.ensures c.loop-index.invariant.through in
     run_can_be_printed c.args.arena.now.schema rules c.args.script.now.stats (start_of before) through.state no_entries c.new-3.result through.told (stands_first before c.requires.sound) through.suited through.tells
     (run_told rules before c.requires.sound c.args.script.now.stats c.new-3.result c.loop-index.standing c.loop-index.arena c.args.steps.now c.loop-index.steps through)
+
+-- ---- what else is owed where memory is wanting
+
+pub returns-in_err-outcomes-clause-run : goal.returns-in_err-outcomes-clause-run
+returns-in_err-outcomes-clause-run g c = unless_ok _ c.from_residual.result c.from_residual.ensures.0
+
+pub returns-in_err-outcomes-clause-only : goal.returns-in_err-outcomes-clause-only
+returns-in_err-outcomes-clause-only g c = unless_ok _ c.from_residual.result c.from_residual.ensures.0
+
+pub returns-in_err-outcomes-clause-least : goal.returns-in_err-outcomes-clause-least
+returns-in_err-outcomes-clause-least g c = unless_ok _ c.from_residual.result c.from_residual.ensures.0
+
+pub returns-in_err-outcomes-clause-bounds : goal.returns-in_err-outcomes-clause-bounds
+returns-in_err-outcomes-clause-bounds g c = unless_ok _ c.from_residual.result c.from_residual.ensures.0
+
+pub returns-in_err-outcomes-clause-darts : goal.returns-in_err-outcomes-clause-darts
+returns-in_err-outcomes-clause-darts g c = unless_ok _ c.from_residual.result c.from_residual.ensures.0
+
+pub returns-in_err-outcomes-clause-next : goal.returns-in_err-outcomes-clause-next
+returns-in_err-outcomes-clause-next g c = unless_ok _ c.from_residual.result c.from_residual.ensures.0
+
+pub returns-in_err-outcomes-clause-printable : goal.returns-in_err-outcomes-clause-printable
+returns-in_err-outcomes-clause-printable g c = unless_ok _ c.from_residual.result c.from_residual.ensures.0
+
+pub returns-in_err-outcomes-clause-most : goal.returns-in_err-outcomes-clause-most
+returns-in_err-outcomes-clause-most g c = λ outcomes after bounds run. no_less c.args.steps.now bounds.most
+
+pub returns-in_err-outcomes-clause-sound : goal.returns-in_err-outcomes-clause-sound
+returns-in_err-outcomes-clause-sound g c = c.requires.sound
+
+pub returns-in_err-outcomes-clause-schema : goal.returns-in_err-outcomes-clause-schema
+returns-in_err-outcomes-clause-schema g c = refl
+
+pub returns-in_err-outcomes-clause-spare_stays : goal.returns-in_err-outcomes-clause-spare_stays
+returns-in_err-outcomes-clause-spare_stays g c = le_refl _
+
+pub returns-in_err-outcomes-clause-reserved_stays : goal.returns-in_err-outcomes-clause-reserved_stays
+returns-in_err-outcomes-clause-reserved_stays g c = le_refl _
+
+pub returns-in_err-outcome-clause-run : goal.returns-in_err-outcome-clause-run
+returns-in_err-outcome-clause-run g c = unless_ok _ c.from_residual-in_err-outcome.result c.from_residual-in_err-outcome.ensures.0
+
+pub returns-in_err-outcome-clause-only : goal.returns-in_err-outcome-clause-only
+returns-in_err-outcome-clause-only g c = unless_ok _ c.from_residual-in_err-outcome.result c.from_residual-in_err-outcome.ensures.0
+
+pub returns-in_err-outcome-clause-least : goal.returns-in_err-outcome-clause-least
+returns-in_err-outcome-clause-least g c = unless_ok _ c.from_residual-in_err-outcome.result c.from_residual-in_err-outcome.ensures.0
+
+pub returns-in_err-outcome-clause-bounds : goal.returns-in_err-outcome-clause-bounds
+returns-in_err-outcome-clause-bounds g c = unless_ok _ c.from_residual-in_err-outcome.result c.from_residual-in_err-outcome.ensures.0
+
+pub returns-in_err-outcome-clause-darts : goal.returns-in_err-outcome-clause-darts
+returns-in_err-outcome-clause-darts g c = unless_ok _ c.from_residual-in_err-outcome.result c.from_residual-in_err-outcome.ensures.0
+
+pub returns-in_err-outcome-clause-next : goal.returns-in_err-outcome-clause-next
+returns-in_err-outcome-clause-next g c = unless_ok _ c.from_residual-in_err-outcome.result c.from_residual-in_err-outcome.ensures.0
+
+pub returns-in_err-outcome-clause-printable : goal.returns-in_err-outcome-clause-printable
+returns-in_err-outcome-clause-printable g c = unless_ok _ c.from_residual-in_err-outcome.result c.from_residual-in_err-outcome.ensures.0
+
+pub returns-in_err-outcome-clause-sound : goal.returns-in_err-outcome-clause-sound
+returns-in_err-outcome-clause-sound g c = c.in_err-outcome.ensures.sound
+
+pub returns-in_err-outcome-clause-schema : goal.returns-in_err-outcome-clause-schema
+returns-in_err-outcome-clause-schema g c = c.in_err-outcome.ensures.schema ∙ c.loop-index.invariant.schema
+
+pub returns-in_err-outcome-clause-spare_stays : goal.returns-in_err-outcome-clause-spare_stays
+returns-in_err-outcome-clause-spare_stays g c = le_trans c.loop-index.invariant.spare c.in_err-outcome.ensures.spare_stays
+
+pub returns-in_err-outcome-clause-reserved_stays : goal.returns-in_err-outcome-clause-reserved_stays
+returns-in_err-outcome-clause-reserved_stays g c = le_trans c.loop-index.invariant.reserved c.in_err-outcome.ensures.reserved_stays
+
+-- ---- and behind the last statement
+
+pub returns-clause-next : goal.returns-clause-next
+returns-clause-next g c = c.next.ensures.next
+
+pub returns-clause-cut : goal.returns-clause-cut
+returns-clause-cut g c = tt
+
+pub returns-clause-sound : goal.returns-clause-sound
+returns-clause-sound g c = c.loop-index.invariant.sound
+
+pub returns-clause-schema : goal.returns-clause-schema
+returns-clause-schema g c = c.loop-index.invariant.schema
+
+pub returns-clause-spare_stays : goal.returns-clause-spare_stays
+returns-clause-spare_stays g c = c.loop-index.invariant.spare
+
+pub returns-clause-reserved_stays : goal.returns-clause-reserved_stays
+returns-clause-reserved_stays g c = c.loop-index.invariant.reserved

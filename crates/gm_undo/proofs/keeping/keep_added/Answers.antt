@@ -1,3 +1,4 @@
+use Rattle.gm_undo.proofs.Sums.{never_more}
 use Rattle.std.proofs.Common.{◌≡◌, ◌+◌, ◌*◌}
 use Rattle.std.proofs.Common.{ap, ◌∙◌, arith, Some}
 use Rattle.gm_arena.specs.ArenaMap.{Dart, name_at}
@@ -25,3 +26,6 @@ loop-number-preserved g c =
       kept = rw (c.push.ensures.row d.0 (ap (get m.darts) name ∙ d.1)) (added_more m c.args.first c.args.rows.now number c.loop-number.rows (name_at m slot) d.0 inv.kept name d.1);
       steps = omega (arith, inv.steps, c.push.ensures.cost, c.in-Some.ensures.cost, next);
     }
+
+pub prove-unreachable-requires : goal.prove-unreachable-requires
+prove-unreachable-requires g c = never_more c.args.arena.now c.count.result c.count.ensures.lawful c.count.ensures.count c.if-prove.true

@@ -1,3 +1,4 @@
+use Rattle.gm_undo.proofs.Sums.{never_more}
 use Rattle.std.proofs.Common.{◌≡◌, ◌+◌, ◌++◌, true, [], ◌∷◌}
 use Rattle.gm_arena.specs.ArenaMap.{IsLiveName}
 use Rattle.std.proofs.Common.{sym, ap, subst, ◌∙◌, arith, Some}
@@ -42,3 +43,6 @@ pub returns-clause-kept : goal.returns-clause-kept
 returns-clause-kept g c =
     let all : c.loop-index.index ≡ c.args.end = omega (arith, c.loop-index-test.false, c.loop-index.auto.index-end c.requires.first) in
     behind_all c.args.arena.now c.args.first c.args.end c.args.rows.now c.loop-index.rows (rw all at c.loop-index.invariant.kept)
+
+pub prove-unreachable-requires : goal.prove-unreachable-requires
+prove-unreachable-requires g c = never_more c.args.arena.now c.count.result c.count.ensures.lawful c.count.ensures.count c.if-prove.true

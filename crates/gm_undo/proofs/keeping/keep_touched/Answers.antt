@@ -1,3 +1,4 @@
+use Rattle.gm_undo.proofs.Sums.{never_more}
 use Rattle.std.proofs.Common.{◌≡◌, ◌+◌, ◌*◌, ◌++◌, [], ◌∷◌}
 use Rattle.std.proofs.Common.{take, suc, get_or, ap, ◌∙◌, arith, Some}
 use Rattle.gm_arena.specs.ArenaMap.{Dart, name_at}
@@ -24,3 +25,6 @@ loop-slot-preserved g c =
       kept = rw more (rw (c.push.ensures.row d.0 d.1) (touched_more m c.args.rows.now (take index slots) slot c.loop-slot.rows d.0 inv.kept d.1));
       steps = omega (arith, inv.steps, c.push.ensures.cost, next);
     }
+
+pub prove-unreachable-requires : goal.prove-unreachable-requires
+prove-unreachable-requires g c = never_more c.args.arena.now c.count.result c.count.ensures.lawful c.count.ensures.count c.if-prove.true

@@ -1,3 +1,4 @@
+use Rattle.gm_undo.proofs.Sums.{never_more}
 use Rattle.std.proofs.Common.{◌≡◌}
 use Rattle.gm_arena.specs.ArenaMap.{name_at}
 use Rattle.std.proofs.Common.{ap, ◌∙◌, arith}
@@ -20,3 +21,6 @@ loop-label-preserved g c =
       freed = free_more c.args.name c.args.arena.now c.loop-label.arena c.set_alpha.new.self c.loop-label.label inv.freed (omega (arith, c.loop-label-test.true, c.requires.labels, dim)) (c.set_alpha.ensures.map ∙ ap (λ n. with_alpha c.loop-label.arena n c.loop-label.label n) is);
       steps = omega (arith, inv.steps, c.set_alpha.ensures.cost);
     }
+
+pub prove-unreachable-requires : goal.prove-unreachable-requires
+prove-unreachable-requires g c = never_more c.args.arena.now c.count.result c.count.ensures.lawful c.count.ensures.count c.if-prove.true

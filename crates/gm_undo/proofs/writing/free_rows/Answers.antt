@@ -1,3 +1,4 @@
+use Rattle.gm_undo.proofs.Sums.{never_more}
 use Rattle.std.proofs.Common.{◌≡◌, ◌≢◌, ℕ, ◌+◌}
 use Rattle.std.specs.FinMap.{get}
 use Rattle.gm_arena.specs.ArenaMap.{IsLiveName, alpha}
@@ -36,3 +37,6 @@ free_row-requires-clause-labels g c =
     let dim : c.loop-index.arena.schema.dim ≡ c.args.arena.now.schema.dim = ap (λ (m : ArenaMap). m.schema.dim) c.loop-index.invariant.frame in
     let top : c.top-labels.result ≡ c.args.arena.now.schema.dim = c.top-labels.ensures.value ∙ ap (λ s. s.dim) c.schema.ensures in
     omega (arith, dim, top)
+
+pub prove-unreachable-requires : goal.prove-unreachable-requires
+prove-unreachable-requires g c = never_more c.args.arena.now c.count.result c.count.ensures.lawful c.count.ensures.count c.if-prove.true

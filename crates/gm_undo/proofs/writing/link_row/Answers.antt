@@ -1,3 +1,4 @@
+use Rattle.gm_undo.proofs.Sums.{never_more}
 use Rattle.std.proofs.Common.{◌≡◌, Some, length}
 use Rattle.std.specs.FinMap.{get}
 use Rattle.gm_arena.specs.ArenaMap.{Dart, name_at}
@@ -20,3 +21,6 @@ returns-clause-own g c =
     let long : length d.0.values ≡ length c.args.values.now = length-values old.schema d.0.values dart.valued ∙ sym (length-values old.schema c.args.values.now c.requires.values) in
     let valued = c.set_values.ensures.own (record { alphas = c.args.neighbours.now; values = d.0.values }) (ap (get c.link.new.arena.darts) same ∙ linked) long in
     ap (get c.set_values.new.arena.darts) (sym (same ∙ name)) ∙ valued
+
+pub prove-unreachable-requires : goal.prove-unreachable-requires
+prove-unreachable-requires g c = never_more c.args.arena.now c.count.result c.count.ensures.lawful c.count.ensures.count c.if-prove.true

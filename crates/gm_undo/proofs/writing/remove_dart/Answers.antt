@@ -1,3 +1,4 @@
+use Rattle.gm_undo.proofs.Sums.{never_more}
 use Rattle.std.proofs.Common.{◌≡◌, ◌+◌, ◌-◌, ◌≤◌}
 use Rattle.std.specs.FinMap.{get}
 use Rattle.gm_arena.specs.ArenaMap.{name_at}
@@ -28,3 +29,6 @@ returns-clause-room g c =
     let counts : c.remove.new.self.count ≡ c.args.arena.now.count - 1 = ap (λ (m : ArenaMap). m.count) map in
     let spares : c.remove.new.self.spare ≡ c.args.arena.now.spare + 1 = ap (λ (m : ArenaMap). m.spare) map in
     record { schema = ap (λ (m : ArenaMap). m.schema) map; reserved = ap (λ (m : ArenaMap). m.reserved) map; total = omega (arith, some, counts, spares) }
+
+pub prove-unreachable-requires : goal.prove-unreachable-requires
+prove-unreachable-requires g c = never_more c.args.arena.now c.count.result c.count.ensures.lawful c.count.ensures.count c.if-prove.true

@@ -1,3 +1,4 @@
+use Rattle.gm_undo.proofs.Sums.{never_more}
 use Rattle.std.proofs.Common.{◌≡◌, ◌+◌, ◌-◌, length}
 use Rattle.gm_undo.specs.Standing.{rows_in}
 use Rattle.std.proofs.Common.{ap, ◌∙◌}
@@ -48,3 +49,6 @@ returns-clause-cost g c =
     let lawful = c.count.ensures.lawful in
     cost_within c.args.arena.now.schema.dim (length c.args.arena.now.schema.embeds) (c.args.from.end - c.args.from.start) (c.args.to.end - c.args.to.start) c.args.steps.now c.free_rows.new.steps c.remove_rows.new.steps c.add_rows.new.steps c.link_rows.new.steps
     lawful.dim.0 lawful.schema.count f.cost c.remove_rows.ensures.cost c.add_rows.ensures.cost (rw schema3 at c.link_rows.ensures.cost)
+
+pub prove-unreachable-requires : goal.prove-unreachable-requires
+prove-unreachable-requires g c = never_more c.args.arena.now c.count.result c.count.ensures.lawful c.count.ensures.count c.if-prove.true

@@ -1,14 +1,16 @@
-use Rattle.std.proofs.Common.{◌≡◌, ℕ, ◌≤◌, is_some, length, refl, sym, ap, ◌∙◌, arith}
+use Rattle.std.proofs.Common.{◌≡◌, ℕ, ◌≤◌, is_some, length, refl, sym, ap, ◌∙◌}
 use Rattle.std.proofs.lemmas.Bool.{false≢true}
 use Rattle.gm_undo.specs.Layout.{changes_in}
 use Rattle.gm_undo.specs.Standing.{IsEntry}
+use Rattle.std.proofs.Math.Nat.{le_trans}
+use Rattle.gm_undo.proofs.Sums.{starts_low}
 use Rattle.gm_undo.proofs.Tellings.{back_takes, last_of, none_back, not_open, sound_held, sound_here, undone}
 use Rattle.gm_undo.proofs.history.History.undo.Goals as goal
 
 pub returns-then-self-eq0-clause-history : goal.returns-then-self-eq0-clause-history
 returns-then-self-eq0-clause-history g c told s =
     let outside = not_open _ c.args.arena.now (rw (← c.self.view_is) at c.requires.stands) in
-    (none_back _ _ _ c.args.arena.now c.self.inside.made (omega (arith, c.if-self-eq0.true)) c.self.inside.group outside told (rw (← c.self.view_is) at s), refl, refl)
+    (none_back _ _ _ c.args.arena.now c.self.inside.made c.if-self-eq0.true c.self.inside.group outside told (rw (← c.self.view_is) at s), refl, refl)
 
 pub returns-then-self-eq0-clause-sound : goal.returns-then-self-eq0-clause-sound
 returns-then-self-eq0-clause-sound g c = sound_held _ c.args.arena.now c.requires.stands.0 c.requires.stands.1
@@ -23,7 +25,7 @@ pub go_back-requires-clause-start : goal.go_back-requires-clause-start
 go_back-requires-clause-start g c =
     let stands = rw (← c.self.view_is) at c.requires.stands in
     let entry = last_of _ _ _ c.args.arena.now c.self.inside.made c.if-self-eq0.false c.self.inside.group (not_open _ c.args.arena.now stands) stands.0 stands.1 in
-    omega (arith, entry.1.some, c.entry_before-start.ensures c.self.inside.rows.rows entry.0 (rw c.deref.ensures.value entry.1))
+    starts_low c.entry_before-start.result entry.0 c.self.inside.made entry.1.some (c.entry_before-start.ensures c.self.inside.rows.rows entry.0 (rw c.deref.ensures.value entry.1))
 
 pub go_back-requires-clause-chained : goal.go_back-requires-clause-chained
 go_back-requires-clause-chained g c =
@@ -36,13 +38,13 @@ invariant_of-self g c =
     let stands = rw (← c.self.view_is) at c.requires.stands in
     let outside = not_open _ c.args.arena.now stands in
     let entry = last_of _ _ _ c.args.arena.now c.self.inside.made c.if-self-eq0.false c.self.inside.group outside stands.0 stands.1 in
-    let low : c.entry_before-start.result ≤ c.self.inside.made = omega (arith, entry.1.some, c.entry_before-start.ensures c.self.inside.rows.rows entry.0 (rw c.deref.ensures.value entry.1)) in
+    let low : c.entry_before-start.result ≤ c.self.inside.made = starts_low c.entry_before-start.result entry.0 c.self.inside.made entry.1.some (c.entry_before-start.ensures c.self.inside.rows.rows entry.0 (rw c.deref.ensures.value entry.1)) in
     record {
       first = laid.first;
       middle = laid.middle;
       end = laid.end;
       ends = laid.ends;
-      within = omega (arith, low, laid.within);
+      within = le_trans low laid.within;
       group_within = λ start e. absurd (false≢true (ap is_some (sym outside ∙ e)));
     }
 
@@ -66,5 +68,5 @@ returns-clause-sound g c =
     let stands = rw (← c.self.view_is) at c.requires.stands in
     let chained = (rw c.deref-2.ensures.value at c.go_back.ensures.chained) stands.1.rows stands.1.held.chained in
     let entry = last_of _ _ _ c.args.arena.now c.self.inside.made c.if-self-eq0.false c.self.inside.group (not_open _ c.args.arena.now stands) stands.0 stands.1 in
-    let low : c.entry_before-start.result ≤ length (changes_in c.self.inside.rows.rows c.self.inside.changes.items) = omega (arith, entry.1.some, c.entry_before-start.ensures c.self.inside.rows.rows entry.0 (rw c.deref.ensures.value entry.1), stands.1.held.within) in
+    let low : c.entry_before-start.result ≤ length (changes_in c.self.inside.rows.rows c.self.inside.changes.items) = le_trans (starts_low c.entry_before-start.result entry.0 c.self.inside.made entry.1.some (c.entry_before-start.ensures c.self.inside.rows.rows entry.0 (rw c.deref.ensures.value entry.1))) stands.1.held.within in
     sound_here _ c.go_back.new.arena stands.1.rows c.entry_before-start.result chained low

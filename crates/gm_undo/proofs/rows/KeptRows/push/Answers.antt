@@ -1,3 +1,4 @@
+use Rattle.gm_undo.proofs.Sums.{never_more}
 use Rattle.std.proofs.Common.{◌≡◌, ◌+◌, ◌<◌, List, [], ◌∷◌, ◌++◌, map, length, sym, ap, subst, ◌∙◌, arith, length-append}
 use Rattle.std.proofs.lemmas.List.{length-map, length_push}
 use Rattle.gm_arena.specs.ArenaMap.{name_at}
@@ -72,3 +73,6 @@ pub returns-clause-cost : goal.returns-clause-cost
 returns-clause-cost g c =
     let whole = row_whole c.args.arena.now c.row-row.result.name c.row-row.result.alphas.now c.row-row.result.values.now c.count.ensures.lawful c.row-row.ensures.dart in
     omega (arith, c.row-row.ensures.cost, c.push_names.ensures.cost, whole.0)
+
+pub prove-unreachable-requires : goal.prove-unreachable-requires
+prove-unreachable-requires g c = never_more c.args.arena.now c.count.result c.count.ensures.lawful c.count.ensures.count c.if-prove.true
