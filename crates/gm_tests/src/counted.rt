@@ -1,7 +1,7 @@
 //! The tests whose calls count steps, over one counter.
 ghost use Rattle.std.specs.Prelude.{◌≡◌, ◌<◌};
 
-use crate::{applying, arena, matching, pending, walks};
+use crate::{arena, matching, pending, walks};
 use gm_arena::Steps;
 use std::alloc::Global;
 use std::marker::Brand;
@@ -14,12 +14,10 @@ fn check_each<L: Ledger>(rt: &impl Abort, alloc: Global, handle: &HostRuntime, b
     requires some { 0 < blank.parts }
 {
     let mut steps: Steps<L> = Steps::start(handle, blank);
-    arena::check_square(rt, alloc, &mut steps);
-    arena::check_values(rt, alloc, &mut steps);
+    arena::check_slots(rt, alloc, &mut steps);
     walks::walk_square(rt, alloc, &mut steps);
     matching::match_each(rt, alloc, &mut steps);
     pending::create_each(rt, alloc, &mut steps);
-    applying::meet_each(rt, alloc, &mut steps);
 }
 
 #[test]

@@ -1,9 +1,7 @@
 //! Tests of calls of the libraries below the commands, and worked examples of the theorem. Rules and maps are
-//! made from rows.
+//! made of texts.
 #![tactic(auto)]
 
-#[cfg(test)]
-mod applying;
 #[cfg(test)]
 mod arena;
 #[cfg(test)]
@@ -15,20 +13,14 @@ mod expect;
 #[cfg(test)]
 mod host;
 #[cfg(test)]
-mod maps;
-#[cfg(test)]
 mod matching;
-#[cfg(test)]
-mod model;
 #[cfg(test)]
 mod pending;
 #[cfg(test)]
 mod planning;
 #[cfg(test)]
-mod rules;
-#[cfg(test)]
-mod schemas;
-#[cfg(test)]
 mod text;
+#[cfg(test)]
+mod texts;
 #[cfg(test)]
 mod walks;

@@ -1,25 +1,23 @@
 //! Walks in a square of eight darts.
-ghost use Rattle.std.specs.Prelude.{◌≡◌, ℕ, ◌<◌, ◌≤◌, false};
-ghost use Rattle.gm_model.specs.Labels.{has};
+ghost use Rattle.std.specs.Prelude.{◌≡◌};
 ghost use Rattle.gm_walk.specs.Lent.{slots_of};
 ghost use Rattle.gm_walk.specs.Room.{Fits};
 ghost use Rattle.gm_walk.specs.Walks.{AreLive, IsWord};
 
 use crate::expect::{expect_number, expect_same};
-use crate::maps::{SQUARE, map_of};
-use crate::rules::word;
+use crate::texts::{SQUARE, map};
 use gm_arena::{Arena, Slot, Steps};
-use gm_model::{Letter, Mask, Word};
-use gm_walk::{Scratch, Walk, walk_mask, walk_word};
+use gm_model::{Letter, Word};
+use gm_walk::{Scratch, Walk, walk_word};
 use std::alloc::Global;
 use std::process::Abort;
 use std::sync::ledger::Ledger;
 
 /// The word of these letters, which are labels of dimension 2.
-fn low_word(rt: &impl Abort, alloc: Global, letters: &str) -> Word
+fn low_word(rt: &impl Abort, letters: &[Letter]) -> Word
     ensures { IsWord 2 result }
 {
-    let word = word(rt, alloc, letters).expect(rt, "a word");
+    let word = Word::new(letters).expect(rt, "a word");
     for place in 0..word.len() {
         match word.letter(place) {
             Letter::At(label) if label <= 2 => {}
@@ -79,73 +77,45 @@ fn expect_place<L: Ledger>(
     expect_same(rt, &walk.place(slot).map(|place| place as usize), &place);
 }
 
-/// A name, a word or a mask, and the names of the walk that starts at the dart of the name.
-type Case<'a, T> = (u32, T, &'a [u32]);
+/// A name, a word, and the names of the walk that starts at the dart of the name.
+type Case<'a> = (u32, &'a [Letter], &'a [u32]);
 
-static WORDS: [Case<&str>; 4] = [
-    (0, "01", &[0, 1, 7, 2, 6, 3, 5, 4]),
-    (0, "", &[0]),
-    (3, "10", &[3, 4, 2, 5, 1, 6, 0, 7]),
-    (6, "02", &[6, 7]),
+static WORDS: [Case; 4] = [
+    (
+        0,
+        &[Letter::At(0), Letter::At(1)],
+        &[0, 1, 7, 2, 6, 3, 5, 4],
+    ),
+    (0, &[], &[0]),
+    (
+        3,
+        &[Letter::At(1), Letter::At(0)],
+        &[3, 4, 2, 5, 1, 6, 0, 7],
+    ),
+    (6, &[Letter::At(0), Letter::At(2)], &[6, 7]),
 ];
 
 fn walk_words<L: Ledger>(
     rt: &impl Abort,
-    alloc: Global,
     arena: &Arena,
     scratch: &mut Scratch,
     steps: &mut Steps<L>,
 )
-    requires dim { arena.now.schema.dim ≡ 2 }
-    requires fits { Fits scratch.old arena.now }
-    ensures { scratch.new.bound ≡ scratch.old.bound }
+    requires { Fits scratch.old arena.now }
 {
+    assert!(rt; arena.schema().dim.top() == 2);
     for (from, letters, names) in &WORDS {
         let from = arena.slot_of(*from, steps).expect(rt, "a dart");
-        let word = low_word(rt, alloc, *letters);
+        let word = low_word(rt, *letters);
         let walk = walk_word(arena, from, &word, scratch, steps);
-        expect_walk(rt, arena, &walk, *names, steps);
-    }
-}
-
-static MASKS: [Case<Mask>; 3] = [
-    (0, Mask { bits: 3 }, &[0, 1, 7, 2, 6, 3, 5, 4]),
-    (3, Mask { bits: 6 }, &[3, 4]),
-    (5, Mask { bits: 0 }, &[5]),
-];
-
-/// The mask has no label above the dimension 2.
-fn expect_low(rt: &impl Abort, mask: Mask)
-    ensures { (label : ℕ) → 3 ≤ label → label < 8 → has mask label ≡ false }
-{
-    for label in 3..8 {
-        assert!(rt; !mask.has(label));
-    }
-}
-
-fn walk_masks<L: Ledger>(
-    rt: &impl Abort,
-    arena: &Arena,
-    scratch: &mut Scratch,
-    steps: &mut Steps<L>,
-)
-    requires dim { arena.now.schema.dim ≡ 2 }
-    requires fits { Fits scratch.old arena.now }
-    ensures { scratch.new.bound ≡ scratch.old.bound }
-{
-    for (from, mask, names) in &MASKS {
-        expect_low(rt, *mask);
-        let from = arena.slot_of(*from, steps).expect(rt, "a dart");
-        let walk = walk_mask(arena, from, *mask, scratch, steps);
         expect_walk(rt, arena, &walk, *names, steps);
     }
 }
 
 /// A square is walked from some of its darts.
 pub(crate) fn walk_square<L: Ledger>(rt: &impl Abort, alloc: Global, steps: &mut Steps<L>) {
-    let arena = map_of(rt, alloc, 2, &SQUARE, steps);
+    let arena = map(rt, alloc, SQUARE, steps);
     let mut scratch = Scratch::new(alloc);
     scratch.fit(&arena).expect(rt, "memory");
-    walk_words(rt, alloc, &arena, &mut scratch, steps);
-    walk_masks(rt, &arena, &mut scratch, steps);
+    walk_words(rt, &arena, &mut scratch, steps);
 }

@@ -1,5 +1,0 @@
-use Rattle.std.proofs.Common.{◌≡◌}
-use Rattle.gm_tests.proofs.maps.link_dart.Given as goal
-
-abbrev pub invariant-loop-label : goal.invariant-loop-label
-invariant-loop-label g l = record { schema : l.arena.schema ≡ l.fn.arena.schema; room : l.arena.spare ≡ l.fn.arena.spare; names : l.arena.reserved ≡ l.fn.arena.reserved }
