@@ -3,7 +3,7 @@ use gm_model::OutOfMemory;
 
 /// Why an application is refused. The map is then as it was. Nodes and embeddings go by their
 /// index.
-#[derive(Clone, Copy, Debug, PartialEq, Eq)]
+#[derive(Clone, Copy, Debug)]
 pub enum Refusal {
     /// The hook at this index names no live dart. It is the first such hook.
     NoDart {

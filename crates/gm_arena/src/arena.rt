@@ -51,7 +51,7 @@ pub struct Arena {
 }
 
 /// A dart as the arena holds it.
-#[derive(Clone, Copy, Debug)]
+#[derive(Clone, Copy)]
 pub struct Row<'a> {
     pub name: u32,
     /// The neighbours, by label.

@@ -8,7 +8,7 @@ use std::alloc::{AllocError, AllocFailed};
 use thiserror::Error;
 
 /// Why a text gives no book. Places are byte indices, and one may be the length of the text.
-#[derive(Clone, Copy, Debug, PartialEq, Eq, Error)]
+#[derive(Clone, Copy, Debug, Error)]
 pub enum BookFault {
     /// No text of a book goes on with what stands at the place.
     #[error("no book's text goes on so")]

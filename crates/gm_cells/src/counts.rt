@@ -19,7 +19,7 @@ use std::alloc::Global;
 use std::sync::ledger::Ledger;
 
 /// What there is in a map, by number.
-#[derive(Debug, Drop)]
+#[derive(Drop)]
 pub struct Counts {
     pub darts: u32,
     /// By label, the cells that the label leaves: the orbits over all other labels.

@@ -3,7 +3,7 @@
 use gm_model::Items;
 
 /// Whether the darts of a map have two colours that differ between neighbours.
-#[derive(Debug, Drop)]
+#[derive(Drop)]
 pub enum Orientation {
     /// They have. These are the darts of the first colour, ascending; each component's least dart is
     /// one of them.

@@ -21,7 +21,7 @@ use std::marker::Model;
 const MOST: usize = 37;
 
 /// What is collected over an orbit.
-#[derive(Clone, Copy, Debug, PartialEq, Eq)]
+#[derive(Clone, Copy, PartialEq, Eq)]
 pub enum Form {
     Count,
     Sum,
@@ -30,7 +30,7 @@ pub enum Form {
 }
 
 /// A collector over the orbit of a node's own dart. A count has the embedding 0.
-#[derive(Clone, Copy, Debug, PartialEq, Eq)]
+#[derive(Clone, Copy, PartialEq, Eq)]
 pub struct Collector {
     pub form: Form,
     pub mask: Mask,

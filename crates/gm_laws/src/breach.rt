@@ -1,7 +1,7 @@
 use gm_model::OutOfMemory;
 
 /// Where a map breaks a law. The darts go by name.
-#[derive(Clone, Copy, Debug, PartialEq, Eq)]
+#[derive(Clone, Copy, Debug)]
 pub enum MapBreach {
     /// The neighbour along the label does not lead back.
     Involution { dart: u32, label: u8 },
@@ -12,7 +12,7 @@ pub enum MapBreach {
 }
 
 /// Why a map was not found lawful.
-#[derive(Clone, Copy, Debug, PartialEq, Eq)]
+#[derive(Clone, Copy, Debug)]
 pub enum LawFault {
     /// It breaks a law, here first.
     Breach(MapBreach),

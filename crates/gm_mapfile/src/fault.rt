@@ -7,7 +7,7 @@ use std::alloc::{AllocError, AllocFailed};
 use thiserror::Error;
 
 /// Why a text gives no map. Places are byte indices, and one may be the length of the text.
-#[derive(Clone, Copy, Debug, PartialEq, Eq, Error)]
+#[derive(Clone, Copy, Debug, Error)]
 pub enum MapFault {
     /// No text of a map goes on with what stands at the place.
     #[error("no map's text goes on so")]

@@ -1,7 +1,7 @@
 //! The versions of a map's text.
 
 /// Which version of the format a text has.
-#[derive(Clone, Copy, Debug, PartialEq, Eq)]
+#[derive(Clone, Copy, PartialEq, Eq)]
 pub enum MapVersion {
     /// The next name is the least above all names.
     One,

@@ -2,7 +2,7 @@ use gm_model::OutOfMemory;
 
 /// Why a rule isn't matched. Nodes go by their index in the rule, and with a position they name an
 /// instance.
-#[derive(Clone, Copy, Debug, PartialEq, Eq)]
+#[derive(Clone, Copy, Debug)]
 pub enum MatchFault {
     /// The hook at this index names no live dart. It is the first such hook.
     NoDart {

@@ -4,7 +4,7 @@ use std::marker::Model;
 
 /// The dimension of a map, 1 to 7: the labels of its involutions are 0 to the dimension.
 /// Contracts see the number.
-#[derive(Clone, Copy, Debug, PartialEq, Eq)]
+#[derive(Clone, Copy, PartialEq, Eq)]
 pub struct Dim {
     top: u8,
 }

@@ -50,7 +50,7 @@ pub struct DartTerm {
 }
 
 /// An operator or function of one part.
-#[derive(Clone, Copy, Debug, PartialEq, Eq)]
+#[derive(Clone, Copy, PartialEq, Eq)]
 pub enum UnOp {
     Neg,
     Not,
@@ -63,7 +63,7 @@ pub enum UnOp {
 }
 
 /// An operator of two parts.
-#[derive(Clone, Copy, Debug, PartialEq, Eq)]
+#[derive(Clone, Copy, PartialEq, Eq)]
 pub enum BinOp {
     Add,
     Sub,

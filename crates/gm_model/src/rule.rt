@@ -6,7 +6,7 @@ use crate::value::Kind;
 use crate::word::Word;
 
 /// A parameter of a rule.
-#[derive(Clone, Copy, Debug, PartialEq, Eq)]
+#[derive(Clone, Copy, PartialEq, Eq)]
 pub struct Param {
     pub name: Name,
     pub kind: Kind,
@@ -30,7 +30,7 @@ pub struct Node {
 }
 
 /// An arc between two nodes of one side, or from a node to itself.
-#[derive(Clone, Copy, Debug, Default, PartialEq, Eq)]
+#[derive(Clone, Copy, Default, PartialEq, Eq)]
 pub struct Link {
     pub from: u8,
     pub label: u8,
@@ -68,7 +68,7 @@ pub enum Side {
 }
 
 /// The first fault of a rule that isn't accepted. Nodes and embeddings go by their index.
-#[derive(Clone, Copy, Debug, PartialEq, Eq)]
+#[derive(Clone, Copy, Debug)]
 pub enum RuleFault {
     /// A rule with left nodes has no hook, or a rule without has one.
     Hooks,

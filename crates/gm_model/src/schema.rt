@@ -5,7 +5,7 @@ use crate::value::Kind;
 use crate::word::Mask;
 
 /// An embedding: each orbit over the labels of `mask` has one value, of this kind.
-#[derive(Clone, Copy, Debug, PartialEq, Eq)]
+#[derive(Clone, Copy, PartialEq, Eq)]
 pub struct Embed {
     pub name: Name,
     pub mask: Mask,
@@ -13,7 +13,7 @@ pub struct Embed {
 }
 
 /// The dimension of a map and its embeddings, in order. A number of an embedding is its index here.
-#[derive(Debug, Drop)]
+#[derive(Drop)]
 pub struct Schema {
     pub dim: Dim,
     pub embeds: Items<Embed>,

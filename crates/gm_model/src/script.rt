@@ -11,7 +11,7 @@ use std::marker::Model;
 
 /// An application that a script asks for: of the rule with this index in the book, at darts by name,
 /// one for each hook, with a value for each parameter.
-#[derive(Clone, Copy, Debug)]
+#[derive(Clone, Copy)]
 pub struct LineRef<'a> {
     pub rule: u16,
     pub hooks: &'a [u32],
@@ -19,7 +19,7 @@ pub struct LineRef<'a> {
 }
 
 /// A statement of a script, as the script lends it. Each is one line of the report.
-#[derive(Clone, Copy, Debug)]
+#[derive(Clone, Copy)]
 pub enum StatRef<'a> {
     Apply(LineRef<'a>),
     /// Goes back to the map before the last application, group or `Each` that was done.
@@ -39,7 +39,7 @@ pub enum StatRef<'a> {
 }
 
 /// What a statement is, apart from what it speaks of.
-#[derive(Clone, Copy, Debug)]
+#[derive(Clone, Copy)]
 enum What {
     Apply,
     Undo,
@@ -50,7 +50,7 @@ enum What {
 }
 
 /// Where a statement's items stand among those of all: from a place up to another.
-#[derive(Clone, Copy, Debug)]
+#[derive(Clone, Copy)]
 struct Part {
     start: u32,
     end: u32,
@@ -104,7 +104,7 @@ fn put_behind<T: Copy>(all: &mut Vec<T>, items: &[T]) -> Result<Part, OutOfMemor
 }
 
 /// A statement, as a script keeps it.
-#[derive(Clone, Copy, Debug)]
+#[derive(Clone, Copy)]
 struct Entry {
     what: What,
     mask: Mask,
@@ -169,7 +169,7 @@ fn entry_of(
 
 /// A script: its statements, in order. A statement takes no memory of its own, and its hooks and values
 /// stand behind those of the earlier ones.
-#[derive(Debug, Drop)]
+#[derive(Drop)]
 pub struct Script {
     entries: Vec<Entry>,
     hooks: Vec<u32>,

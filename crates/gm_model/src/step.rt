@@ -1,5 +1,5 @@
 /// What a node has at a label on one side of a rule.
-#[derive(Clone, Copy, Debug, PartialEq, Eq)]
+#[derive(Clone, Copy, PartialEq, Eq)]
 pub enum Step {
     /// Nothing.
     Absent,

@@ -4,7 +4,7 @@ ghost use Rattle.gm_model.specs.Labels.{has};
 use std::marker::Model;
 
 /// A set of labels: bit `i` stands for label `i`.
-#[derive(Clone, Copy, Debug, PartialEq, Eq)]
+#[derive(Clone, Copy, PartialEq, Eq)]
 pub struct Mask {
     pub bits: u8,
 }
@@ -20,7 +20,7 @@ impl Mask {
 }
 
 /// What stands at one place of a word.
-#[derive(Clone, Copy, Debug, PartialEq, Eq)]
+#[derive(Clone, Copy, PartialEq, Eq)]
 pub enum Letter {
     /// A label.
     At(u8),
@@ -31,7 +31,7 @@ pub enum Letter {
 const MOST_LETTERS: usize = 8;
 
 /// The word of a node: at most 8 letters, whose places are counted from 0. Contracts see their list.
-#[derive(Clone, Copy, Debug, PartialEq, Eq)]
+#[derive(Clone, Copy, PartialEq, Eq)]
 pub struct Word {
     letters: [Letter; MOST_LETTERS],
     used: u8,

@@ -4,7 +4,7 @@ use std::alloc::{AllocError, AllocFailed};
 
 /// Why no expression stands where a lexer is. Places are byte indices, and one may be the length of
 /// the text.
-#[derive(Clone, Copy, Debug, PartialEq, Eq)]
+#[derive(Clone, Copy, Debug)]
 pub enum SyntaxFault {
     /// No expression goes on with what stands at the place.
     Text { place: usize },
@@ -13,7 +13,7 @@ pub enum SyntaxFault {
 }
 
 /// Why an expression has no meaning.
-#[derive(Clone, Copy, Debug, PartialEq, Eq)]
+#[derive(Clone, Copy, Debug)]
 pub enum ExprFault {
     /// The name at the place is none of what its place asks for: a parameter, a left node, an
     /// embedding, or a function with so many arguments.

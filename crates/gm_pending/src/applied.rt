@@ -1,5 +1,5 @@
 /// How many darts an application adds and removes.
-#[derive(Clone, Copy, Debug, PartialEq, Eq)]
+#[derive(Clone, Copy, PartialEq, Eq)]
 pub struct Applied {
     pub added: u32,
     pub removed: u32,

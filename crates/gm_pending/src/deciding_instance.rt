@@ -2,7 +2,7 @@
 use gm_model::Value;
 
 /// An instance that decides the value of an orbit, and the value that was given to it.
-#[derive(Clone, Copy, Debug, Default)]
+#[derive(Clone, Copy, Default)]
 pub(crate) struct DecidingInstance {
     pub(crate) node: u8,
     pub(crate) position: u32,

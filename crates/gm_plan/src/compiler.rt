@@ -10,7 +10,7 @@ use gm_model::{OutOfMemory, RuleFault, RuleTable, Schema};
 use std::alloc::Global;
 
 /// Why a rule has no plan.
-#[derive(Clone, Copy, Debug, PartialEq, Eq)]
+#[derive(Clone, Copy, Debug)]
 pub enum PlanFault {
     /// The rule isn't accepted. This is its first fault.
     Rule(RuleFault),

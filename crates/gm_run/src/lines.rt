@@ -107,10 +107,10 @@ fn refused(refusal: Refusal) -> Result<Outcome, OutOfMemory>
         (λ outcome. (outcome ≡ outcomes.Refused refusal) × (refusal ≢ refusals.OutOfMemory))
         (λ _. refusal ≡ refusals.OutOfMemory) }
 {
-    if refusal == Refusal::OutOfMemory {
-        return Err(OutOfMemory);
+    match refusal {
+        Refusal::OutOfMemory => Err(OutOfMemory),
+        refusal => Ok(Outcome::Refused(refusal)),
     }
-    Ok(Outcome::Refused(refusal))
 }
 
 /// The rule of this number is accepted for the maps that the arena may have. The facts are the

@@ -2,7 +2,7 @@ use gm_apply::{Applied, Refusal};
 use gm_model::Items;
 
 /// What became of a statement of a script.
-#[derive(Clone, Copy, Debug, PartialEq, Eq)]
+#[derive(Clone, Copy)]
 pub enum Outcome {
     /// The rule was applied, and changed the map.
     Done(Applied),
@@ -31,7 +31,7 @@ pub enum Outcome {
 
 /// What a run did: the outcome of each statement, in order, and the number of darts and the next
 /// name of the map after them.
-#[derive(Debug, Drop)]
+#[derive(Drop)]
 pub struct Report {
     pub lines: Items<Outcome>,
     pub darts: u32,

@@ -7,7 +7,7 @@ use thiserror::Error;
 
 /// Why a text gives no script under a book. Places are byte indices, and one may be the length of
 /// the text.
-#[derive(Clone, Copy, Debug, PartialEq, Eq, Error)]
+#[derive(Clone, Copy, Debug, Error)]
 pub enum ScriptFault {
     /// No script goes on with what stands at the place.
     #[error("no script goes on so")]

@@ -5,7 +5,7 @@ use std::marker::Model;
 
 /// How many digits a number is guessed to have: as many as the one before it had. Nothing rests on
 /// a guess, since it is compared with what was found.
-#[derive(Clone, Copy, Debug)]
+#[derive(Clone, Copy)]
 pub struct Guess {
     digits: usize,
 }

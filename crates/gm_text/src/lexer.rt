@@ -25,7 +25,7 @@ pub struct SmallNumber {
 
 /// Reads a text from left to right, one token at a time. Nothing is copied. Contracts see the
 /// text and the place that the lexer has come to.
-#[derive(Debug, Drop)]
+#[derive(Drop)]
 pub struct Lexer<'a> {
     source: &'a [u8],
     at: usize,

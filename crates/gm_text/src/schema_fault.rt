@@ -3,7 +3,7 @@ use gm_model::LimitKind;
 use std::alloc::{AllocError, AllocFailed};
 
 /// Why a schema can't be read. Places are byte indices, and one may be the length of the text.
-#[derive(Clone, Copy, Debug, PartialEq, Eq)]
+#[derive(Clone, Copy, Debug)]
 pub enum SchemaFault {
     /// No schema goes on with what stands at the place.
     Text { place: usize },
