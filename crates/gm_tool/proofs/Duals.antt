@@ -1,7 +1,7 @@
 -- The duals of a map and of a book that were read: their texts, what is put of them, and why there is none.
 use Rattle.std.proofs.Common.{◌≡◌, ◌⊎◌, ℕ, ◌+◌, ◌*◌, ◌<◌, ◌≤◌, List, [], ◌∷◌, length, map, All, inl, inr, Some, None, Option, Result, Ok, Err, refl, sym, ap, subst, ◌∙◌, arith}
 use Rattle.std.specs.Global.{Vec}
-use Rattle.std.specs.Prelude.{IfOk, IfSome}
+use Rattle.std.specs.Prelude.{IfOk, IfErr, IfSome}
 use Rattle.std.specs.List.{AllByRecursion}
 use Rattle.std.specs.Option.{option_map}
 use Rattle.std.proofs.Math.Nat.{mul_assoc}
@@ -42,7 +42,7 @@ use Rattle.gm_tool.specs.Refusals.{refusal_answer}
 use Rattle.gm_tool.specs.Replies.{IsPlainStatus, IsWithinLimit}
 use Rattle.gm_tool.specs.RunAnswer.{IsBadMap, IsBadBookText}
 use Rattle.gm_tool.specs.StepBounds.{turning}
-use Rattle.gm_tool.specs.Stops.{IsFrom, IsReadBook, IsReadMap, IsRoleStop, reply_of}
+use Rattle.gm_tool.specs.Stops.{IsFrom, IsReadBook, IsReadMap, IsRoleStop, IsSoundStop, reply_of}
 use Rattle.gm_tool.specs.declared.refusal.NoText.{NoText}
 use Rattle.gm_tool.specs.declared.refusal.NoText.TheVariants as nothing
 use Rattle.gm_tool.specs.declared.refusal.Refusal.TheVariants as refusals
@@ -216,6 +216,17 @@ module _ (named : DualNames) (load_fails : ℕ → Type 0) where
 pub no_memory_made : (named : DualNames) (load_fails : ℕ → Type 0) (contents : Contents) → Makes named load_fails contents (Err (stops.NoText nothing.OutOfMemory))
 no_memory_made named load_fails None = tt
 no_memory_made named load_fails (Some files) = tt
+
+-- the texts of what was read, or want of memory
+pub at_texts : (named : DualNames) (load_fails : ℕ → Type 0) (contents : Contents) (read : MapRead) (book : Book) (one two : Type 0) (made : Result (Vec ℕ) Stop) → IsFrom contents TheMap named.map IsReadMap IsBadMap one (Ok read)
+    → IsFrom contents TheBook named.book IsReadBook IsBadBookText two (Ok book) → IfErr made (λ stop. stop ≡ stops.NoText nothing.OutOfMemory)
+    → IfOk made (λ text. IsDualText (dual_inputs_of read.version read.arena book) text.items) → Makes named load_fails contents made
+at_texts named load_fails contents read book one two (Ok text) f g none is = at_end named load_fails contents read book one two text f g is
+at_texts named load_fails contents read book one two (Err stop) f g none is = rw none (no_memory_made named load_fails contents)
+
+pub sound_without_memory : (failing : refusing.Role → Type 0) (made : Result (Vec ℕ) Stop) → IfErr made (λ stop. stop ≡ stops.NoText nothing.OutOfMemory) → IfErr made (λ stop. IsSoundStop stop failing)
+sound_without_memory failing (Ok text) none = tt
+sound_without_memory failing (Err stop) none = rw none tt
 
 -- ---- loads, in their order
 

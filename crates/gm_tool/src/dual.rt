@@ -14,6 +14,8 @@ ghost use Rattle.gm_tool.specs.MadeRuns.{IsSoundReply};
 ghost use Rattle.gm_tool.specs.Replies.{IsPlainStatus};
 ghost use Rattle.gm_tool.specs.StepBounds.{FileDualsWithin, turning};
 ghost use Rattle.gm_tool.specs.Stops.{IsReadBook, IsReadMap, IsSoundStop};
+ghost use Rattle.gm_tool.specs.declared.refusal.NoText.TheVariants as nothing;
+ghost use Rattle.gm_tool.specs.declared.refusal.Stop.TheVariants as stops;
 
 use crate::command::DualFiles;
 use crate::refusal::{NoText, Stop};
@@ -62,11 +64,12 @@ fn texts<L: Ledger>(
     read: &MapRead,
     book: &Book,
     steps: &mut Steps<L>,
-) -> Result<Vec<u8>, OutOfMemory>
+) -> Result<Vec<u8>, Stop>
     requires map { (bytes : List ℕ) × IsReadMap bytes read.now }
     requires book { (bytes : List ℕ) × IsReadBook bytes book.now }
     requires declared { IsSchema book.now.schema }
     ensures text { IfOk result (λ text. IsDualText (dual_inputs_of read.now.version read.now.arena book.now) text.items) }
+    ensures no_memory { IfErr result (λ stop. stop ≡ stops.NoText nothing.OutOfMemory) }
     ensures lawful { IsLawful read.now.arena }
     ensures most { steps.new ≤ steps.old + turning read.now.arena.schema.dim read.now.arena.count }
 {
@@ -95,7 +98,7 @@ fn texts_of<S: Store, L: Ledger>(
     // Only the map is kept: the bytes of its file go before the book is loaded.
     let read = load_map(alloc, files.map, store, steps)?.map;
     let book = load_book(alloc, files.book, store)?;
-    Ok(texts(alloc, &read, &book, steps)?)
+    texts(alloc, &read, &book, steps)
 }
 
 /// The texts of the duals, or the line that refuses one of the files. Map and book needn't agree, and

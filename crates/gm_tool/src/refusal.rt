@@ -2,7 +2,7 @@ ghost use Rattle.std.specs.Prelude.{◌≡◌};
 ghost use Rattle.gm_tool.specs.Refusals.{status_of, line_of};
 
 use gm_model::OutOfMemory;
-use std::alloc::AllocFailed;
+use std::alloc::{AllocError, AllocFailed};
 
 /// What a file is for.
 #[derive(Clone, Copy)]
@@ -120,6 +120,17 @@ impl From<OutOfMemory> for Stop {
     ghost from_gives = { λ _ stop. stop ≡ stops.NoText nothing.OutOfMemory };
 
     fn from(_error: OutOfMemory) -> Stop {
+        Stop::NoText(NoText::OutOfMemory)
+    }
+}
+
+impl From<AllocError> for Stop {
+    ghost use Rattle.gm_tool.specs.declared.refusal.NoText.TheVariants as nothing;
+    ghost use Rattle.gm_tool.specs.declared.refusal.Stop.TheVariants as stops;
+
+    ghost from_gives = { λ _ stop. stop ≡ stops.NoText nothing.OutOfMemory };
+
+    fn from(_error: AllocError) -> Stop {
         Stop::NoText(NoText::OutOfMemory)
     }
 }

@@ -1,10 +1,10 @@
-use Rattle.std.proofs.Common.{Ok, ap, ◌∙◌}
+use Rattle.std.proofs.Common.{ap, ◌∙◌}
 use Rattle.std.proofs.lemmas.Result.{err_from_is_err_and}
 use Rattle.gm_host.specs.Count.{counted, Rises}
 use Rattle.gm_lines.specs.Refusing.{TheMap, TheBook}
 use Rattle.gm_tool.specs.DualAnswer.{dual_names_of}
 use Rattle.gm_tool.specs.Loads.{FailsAt}
-use Rattle.gm_tool.proofs.Duals.{passes_map, passes_book, unloaded_dual, at_map, at_book, at_end, no_memory_made, behind_map, behind_book}
+use Rattle.gm_tool.proofs.Duals.{passes_map, passes_book, unloaded_dual, at_map, at_book, at_texts, behind_map, behind_book, sound_without_memory}
 use Rattle.gm_tool.proofs.RunStops.{rises_later}
 use Rattle.gm_tool.proofs.StepWords.{read_dual, turned_dual}
 use Rattle.gm_tool.proofs.Stopping.{sound_to}
@@ -70,40 +70,21 @@ returns-in_err-book-clause-sound g c =
 pub returns-in_err-book-clause-in_order : goal.returns-in_err-book-clause-in_order
 returns-in_err-book-clause-in_order g c = (TheBook, passes_book (g.S.Store.holds c.args.store.now) (dual_names_of c.args.files) c.in_ok-read.field-0.map (Unit {0}) c.in_ok-read.ensures.from, c.load_book.ensures.once ∙ ap counted c.load_map.ensures.once)
 
--- ---- memory was wanting
-
-pub returns-in_err-texts-clause-made : goal.returns-in_err-texts-clause-made
-returns-in_err-texts-clause-made g c =
-    let p = err_from_is_err_and c.from_residual-in_err-texts.result c.from_residual-in_err-texts.ensures.1 in
-    rw (p.1, p.2) (no_memory_made (dual_names_of c.args.files) (FailsAt (g.S.Store.load_faults c.args.store.now) (g.S.Store.load_faults c.load_book.new.store) (g.S.Store.loads c.args.store.now) (g.S.Store.loads c.load_book.new.store)) (g.S.Store.holds c.args.store.now))
-
-pub returns-in_err-texts-clause-counted_loads : goal.returns-in_err-texts-clause-counted_loads
-returns-in_err-texts-clause-counted_loads g c =
-    behind_book (dual_names_of c.args.files) (Rises (g.S.Store.load_faults c.args.store.now) (g.S.Store.load_faults c.load_book.new.store)) (g.S.Store.loads c.args.store.now) (g.S.Store.loads c.load_book.new.store) (g.S.Store.holds c.args.store.now) c.in_ok-read.field-0.map (Unit {0}) _ (c.load_book.ensures.once ∙ ap counted c.load_map.ensures.once) c.in_ok-read.ensures.from
-
-pub returns-in_err-texts-clause-most : goal.returns-in_err-texts-clause-most
-returns-in_err-texts-clause-most g c = turned_dual (g.S.Store.holds c.args.store.now) c.args.files.map.now (Unit {0}) c.in_ok-read.field-0.map _ _ _ c.texts.ensures.lawful c.in_ok-read.ensures.from c.in_ok-read.ensures.most c.texts.ensures.most
-
-pub returns-in_err-texts-clause-sound : goal.returns-in_err-texts-clause-sound
-returns-in_err-texts-clause-sound g c =
-    let p = err_from_is_err_and c.from_residual-in_err-texts.result c.from_residual-in_err-texts.ensures.1 in
-    rw (p.1, p.2) tt
-
-pub returns-in_err-texts-clause-in_order : goal.returns-in_err-texts-clause-in_order
-returns-in_err-texts-clause-in_order g c = (TheBook, passes_book (g.S.Store.holds c.args.store.now) (dual_names_of c.args.files) c.in_ok-read.field-0.map (Unit {0}) c.in_ok-read.ensures.from, c.load_book.ensures.once ∙ ap counted c.load_map.ensures.once)
-
--- ---- the texts
+-- ---- the texts, or want of memory
 
 pub returns-clause-made : goal.returns-clause-made
 returns-clause-made g c =
-    at_end (dual_names_of c.args.files) (FailsAt (g.S.Store.load_faults c.args.store.now) (g.S.Store.load_faults c.load_book.new.store) (g.S.Store.loads c.args.store.now) (g.S.Store.loads c.load_book.new.store)) (g.S.Store.holds c.args.store.now) c.in_ok-read.field-0.map c.in_ok-book.book (Unit {0}) (Unit {0}) c.in_ok-texts.field-0 c.in_ok-read.ensures.from (rw c.load_map.ensures.held at c.in_ok-book.ensures.from) c.in_ok-texts.ensures.text
+    at_texts (dual_names_of c.args.files) (FailsAt (g.S.Store.load_faults c.args.store.now) (g.S.Store.load_faults c.load_book.new.store) (g.S.Store.loads c.args.store.now) (g.S.Store.loads c.load_book.new.store)) (g.S.Store.holds c.args.store.now) c.in_ok-read.field-0.map c.in_ok-book.book (Unit {0}) (Unit {0}) c.texts.result c.in_ok-read.ensures.from (rw c.load_map.ensures.held at c.in_ok-book.ensures.from) c.texts.ensures.no_memory c.texts.ensures.text
 
 pub returns-clause-counted_loads : goal.returns-clause-counted_loads
 returns-clause-counted_loads g c =
-    behind_book (dual_names_of c.args.files) (Rises (g.S.Store.load_faults c.args.store.now) (g.S.Store.load_faults c.load_book.new.store)) (g.S.Store.loads c.args.store.now) (g.S.Store.loads c.load_book.new.store) (g.S.Store.holds c.args.store.now) c.in_ok-read.field-0.map (Unit {0}) (Ok c.in_ok-texts.field-0) (c.load_book.ensures.once ∙ ap counted c.load_map.ensures.once) c.in_ok-read.ensures.from
+    behind_book (dual_names_of c.args.files) (Rises (g.S.Store.load_faults c.args.store.now) (g.S.Store.load_faults c.load_book.new.store)) (g.S.Store.loads c.args.store.now) (g.S.Store.loads c.load_book.new.store) (g.S.Store.holds c.args.store.now) c.in_ok-read.field-0.map (Unit {0}) c.texts.result (c.load_book.ensures.once ∙ ap counted c.load_map.ensures.once) c.in_ok-read.ensures.from
 
 pub returns-clause-most : goal.returns-clause-most
 returns-clause-most g c = turned_dual (g.S.Store.holds c.args.store.now) c.args.files.map.now (Unit {0}) c.in_ok-read.field-0.map _ _ _ c.texts.ensures.lawful c.in_ok-read.ensures.from c.in_ok-read.ensures.most c.texts.ensures.most
 
 pub returns-clause-in_order : goal.returns-clause-in_order
 returns-clause-in_order g c = (TheBook, passes_book (g.S.Store.holds c.args.store.now) (dual_names_of c.args.files) c.in_ok-read.field-0.map (Unit {0}) c.in_ok-read.ensures.from, c.load_book.ensures.once ∙ ap counted c.load_map.ensures.once)
+
+pub returns-clause-sound : goal.returns-clause-sound
+returns-clause-sound g c = sound_without_memory _ c.texts.result c.texts.ensures.no_memory
