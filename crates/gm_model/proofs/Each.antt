@@ -1,5 +1,5 @@
 -- What holds of each element of a list, or of each two, as one more element is read.
-use Rattle.std.proofs.Common.{◌≡◌, ℕ, ◌+◌, ◌<◌, ◌≤◌, inl, inr, List, length, take, Some, sym, subst, ◌∙◌, ap, arith}
+use Rattle.std.proofs.Common.{◌≡◌, ℕ, ◌+◌, ◌<◌, ◌≤◌, inl, inr, List, length, get_or, take, Some, sym, subst, ◌∙◌, ap, arith}
 use Rattle.std.specs.List.{slice_get}
 use Rattle.std.proofs.lemmas.Bool.{cases_lt}
 use Rattle.std.proofs.lemmas.List.{get_or-take, length-take-le}
@@ -8,6 +8,10 @@ use Rattle.std.proofs.lemmas.Option.{slice_get-get_or, get_or_from_slice_get}
 -- what holds of each of the first elements
 abbrev pub EachBelow : {X : Type 0} → (X → Type 0) → List X → ℕ → Type 0
 EachBelow {X} P xs count = (k : ℕ) (x : X) → k < count → slice_get xs k ≡ Some x → P x
+
+-- an element of a list is one of the list that it equals
+pub here_in : {X : Type 0} (xs ys : List X) (n : ℕ) (d : X) → xs ≡ ys → n < length xs → slice_get ys n ≡ Some (get_or xs n d)
+here_in xs ys n d same b = rw (← same) (slice_get-get_or xs n d b)
 
 module _ {X : Type 0} (xs : List X) (n : ℕ) (x : X) (here : slice_get xs n ≡ Some x) where
   same_here : (k : ℕ) (y : X) → k ≡ n → slice_get xs k ≡ Some y → x ≡ y

@@ -1,8 +1,9 @@
 -- Items that are put behind the others leave the parts of the earlier entries as they are.
-use Rattle.std.specs.Prelude.{◌≡◌, refl, ℕ, ◌-◌, ◌≤◌, List, [], ◌∷◌, ◌++◌, length, drop}
+use Rattle.std.specs.Prelude.{◌≡◌, refl, ℕ, ◌+◌, ◌-◌, ◌≤◌, Bool, true, false, if◌then◌else◌, List, [], ◌∷◌, ◌++◌, length, drop}
 use Rattle.std.specs.List.{AllByRecursion}
-use Rattle.std.proofs.Common.{arith, sym, append-nil, length-append}
-use Rattle.std.proofs.lemmas.List.{take-append-le, drop-append-le, length-drop, map-append}
+use Rattle.std.proofs.Common.{arith, ap, sym, ◌∙◌, append-nil, append_assoc, length-append}
+use Rattle.std.proofs.lemmas.List.{take-append-le, drop-append-le, length-drop, map-append, take_all}
+use Rattle.std.proofs.Math.Seq.{drop-append_seam}
 use Rattle.gm_model.specs.declared.script.Entry.{Entry}
 use Rattle.gm_model.specs.declared.script.Part.{Part}
 use Rattle.gm_model.specs.declared.value.Value.{Value}
@@ -11,8 +12,24 @@ use Rattle.gm_model.specs.Entries.{Grows, IsPartOf, IsEntryOf, AreEntriesOf, ite
 pub grows_none : {A : Type 0} (xs : List A) → Grows xs xs
 grows_none xs = ([], sym (append-nil xs))
 
+pub grows_by : {A : Type 0} (done : Bool) (xs ys zs : List A) → zs ≡ (if done then xs ++ ys else xs) → Grows xs zs
+grows_by true xs ys zs is = (ys, is)
+grows_by false xs ys zs is = rw is (grows_none xs)
+
+pub grows_twice : {A : Type 0} (xs ys zs : List A) → Grows xs ys → Grows ys zs → Grows xs zs
+grows_twice xs ys zs (more, is) (more', is') = (more ++ more', is' ∙ ap (λ front. front ++ more') is ∙ append_assoc xs more more')
+
 pub grows_longer : {A : Type 0} (xs ys : List A) → Grows xs ys → length xs ≤ length ys
 grows_longer xs ys (more, is) = rw (is, length-append xs more) (omega arith)
+
+-- where the items stand that were put behind the others
+pub behind_within : {A : Type 0} (old items all : List A) (start : ℕ) → all ≡ old ++ items → start ≡ length old → IsPartOf (length all) (record { start = start; end = start + length items })
+behind_within old items all start is here = record { order = omega arith; within = rw (is, length-append old items, here) (omega arith) }
+
+pub behind_items : {A : Type 0} (old items all : List A) (start : ℕ) → all ≡ old ++ items → start ≡ length old → items_at all (record { start = start; end = start + length items }) ≡ items
+behind_items old items all start is here =
+    let count : length items ≤ start + length items - start = omega arith in
+    rw (is, here, drop-append_seam old items) (take_all (length old + length items - length old) items (rw here at count))
 
 pub part_kept : {A : Type 0} (xs ys : List A) (part : Part) → Grows xs ys → IsPartOf (length xs) part → items_at ys part ≡ items_at xs part
 part_kept xs ys part (more, is) within =

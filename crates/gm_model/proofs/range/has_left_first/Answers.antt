@@ -18,3 +18,14 @@ loop-node-preserved c =
 
 pub returns : goal.returns
 returns c = ((λ _ x y b h. c.loop-node.invariant x y b (let w = node_below (rule_of c.args.rule.now) Left y h in omega arith) h), (λ _. refl))
+
+pub loop-node-init : goal.loop-node-init
+loop-node-init c = λ x y b w h. absurd (omega arith)
+
+pub returns-then-is_none : goal.returns-then-is_none
+returns-then-is_none c =
+    let rule = rule_of c.args.rule.now in
+    let n = c.loop-node.node in
+    let here : has_word rule Left n ≡ true = ap is_some (sym c.word.ensures) ∙ sym c.is_some.ensures ∙ c.if-is_some.true in
+    let none : has_word rule Left (n - 1) ≡ false = ap is_some (sym c.word-then-is_some.ensures) ∙ c.if-is_none.ensures in
+    ((λ f. cc), (λ h. absurd (let before : has_word rule Left (n - 1) ≡ true = h (n - 1) n (omega arith) here in cc)))
