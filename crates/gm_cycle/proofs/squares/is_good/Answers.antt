@@ -1,5 +1,5 @@
 use Rattle.std.proofs.Common.{◌≡◌, get_or, true, false, sym, ◌∙◌}
-use Rattle.std.proofs.lemmas.Bool.{true_from_ne_false}
+use Rattle.std.proofs.lemmas.Bool.{false≢true, true_from_ne_false}
 use Rattle.gm_model.specs.Rules.{rule_of}
 use Rattle.gm_cycle.proofs.Closing.{good_excused, good_closed, not_good}
 use Rattle.gm_cycle.proofs.squares.is_good.Goals as goal
@@ -12,7 +12,7 @@ returns-then-is_excused c =
       (λ p. elim c.if-stays-i.branch [
         | then-stays-i w ↦ good_excused rule c.args.right.now h.right h.ends c.args.node c.args.i c.args.j h.node h.i h.j c.args.stays.now h.stays h.on_right
             w.if-stays-i.true (sym w.is_excused-is ∙ p)
-        | else-stays-i w ↦ absurd (let e = w.is_excused-is in cc)
+        | else-stays-i w ↦ absurd (false≢true (sym w.if-stays-i.false ∙ sym w.is_excused-is ∙ p))
       ]),
       (λ p. c.if-is_excused.true),
     )
@@ -24,10 +24,10 @@ returns-else-is_excused c =
     let h = c.requires in
     let stays = c.args.stays.now in
     let apart : get_or stays c.args.i false ≡ true → get_or stays c.args.j false ≡ true → ⊥ = (λ p q. elim c.if-stays-i.branch [
-      | then-stays-i w ↦ (let e = w.is_excused-is in let f = c.if-is_excused.false in cc)
-      | else-stays-i w ↦ (let f = w.if-stays-i.false in cc)
+      | then-stays-i w ↦ false≢true (sym c.if-is_excused.false ∙ w.is_excused-is ∙ q)
+      | else-stays-i w ↦ false≢true (sym w.if-stays-i.false ∙ p)
     ]) in (
       (λ p. good_closed rule rows h.right h.ends c.args.node c.args.i c.args.j h.node h.i h.j stays h.stays h.on_right (c.closes.ensures.0 p)),
       (λ p. true_from_ne_false c.closes.result (λ f. not_good rule rows h.right h.ends c.args.node c.args.i c.args.j h.node h.i h.j stays h.stays h.on_right
-          apart (λ q. let t : c.closes.result ≡ true = c.closes.ensures.1 q in cc) p)),
+          apart (λ q. false≢true (sym f ∙ c.closes.ensures.1 q)) p)),
     )
