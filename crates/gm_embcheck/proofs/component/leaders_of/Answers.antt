@@ -1,4 +1,5 @@
-use Rattle.std.proofs.Common.{◌≡◌, ◌<◌, inl, true, length, get_or}
+use Rattle.std.proofs.Common.{◌≡◌, ◌<◌, inl, true, length, get_or, sym, ◌∙◌}
+use Rattle.std.proofs.lemmas.Bool.{false≢true}
 use Rattle.std.proofs.lemmas.List.{take_all}
 use Rattle.std.proofs.lemmas.List.Elements.{All-more, Contains-get_or}
 use Rattle.gm_model.specs.declared.rule.Link.{Link}
@@ -30,7 +31,7 @@ loop-link-preserved c =
       | else-has w ↦ rw w.leaders-is record {
         joined = c.loop-link.invariant.joined;
         closed = All-more (IsClosed old o) links k record { from = 0; label = 0; to = 0 } b c.loop-link.invariant.closed
-            (λ h. let t : o link.label ≡ true = h in let e = c.has.ensures in let f = w.if-has.false in cc);
+            (λ h. absurd (false≢true (sym w.if-has.false ∙ c.has.ensures ∙ h)));
       }
     ]
 

@@ -1,6 +1,7 @@
 use Rattle.std.proofs.Common.{◌≡◌, ◌<◌, List, [], length, Some, ap, sym, ◌∙◌, arith}
 use Rattle.std.specs.List.{slice_get}
 use Rattle.std.specs.Option.{unwrap_or}
+use Rattle.std.proofs.lemmas.Bool.{false≢true}
 use Rattle.std.proofs.lemmas.Option.{slice_get_within}
 use Rattle.gm_model.specs.declared.word.Letter.{Letter}
 use Rattle.gm_model.specs.declared.word.Letter.TheVariants.{At}
@@ -20,7 +21,7 @@ returns-in_default c =
     let rule = rule_of c.args.rule.now in
     let none : List Letter = [] in
     let word : letters rule c.args.side c.args.node ≡ c.in-Some.word = ap (λ w. unwrap_or w none) (sym c.word.ensures ∙ c.in-Some.is) in (
-      (λ f. cc),
+      (λ f. absurd (false≢true f)),
       (λ h.
           let here : slice_get c.in-Some.word c.args.place ≡ Some (At h.0) = ap (λ w. slice_get w c.args.place) (sym word) ∙ h.1 in
           let within : c.args.place < length c.in-Some.word = slice_get_within c.in-Some.word c.args.place (At h.0) here in
