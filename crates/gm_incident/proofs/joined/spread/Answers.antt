@@ -1,4 +1,5 @@
-use Rattle.std.proofs.Common.{◌≢◌, ◌<◌, ◌≤◌, inl, true, length, get_or, set, arith}
+use Rattle.std.proofs.Common.{◌≢◌, ◌<◌, ◌≤◌, inl, true, length, get_or, set, sym, arith}
+use Rattle.std.proofs.lemmas.Bool.{false≢true}
 use Rattle.std.proofs.lemmas.List.{take_all, length-set}
 use Rattle.std.proofs.lemmas.List.Elements.{All-more, Contains-get_or}
 use Rattle.gm_model.specs.declared.rule.Link.{Link}
@@ -28,7 +29,7 @@ loop-link-preserved c =
             spread = spread_more links c.args.reached.now r link.from link.label link.to bf bt c.loop-link.invariant.spread linked ne;
             more = λ _. omega arith;
             no_more = omega arith;
-            done = λ e. cc;
+            done = λ e. absurd (false≢true (sym e));
           })
       | else-reached-link w ↦ rw (w.reached-is, w.has_spread-is) record {
         len = c.loop-link.invariant.len;
