@@ -1,4 +1,5 @@
-use Rattle.std.proofs.Common.{◌≡◌, true, refl, arith}
+use Rattle.std.proofs.Common.{sym, ◌∙◌, refl, arith}
+use Rattle.std.proofs.lemmas.Bool.{false≢true}
 use Rattle.std.proofs.lemmas.Option.{slice_get_within}
 use Rattle.gm_model.specs.Rules.{rule_of}
 use Rattle.gm_model.specs.Structure.{IsLinkInRange}
@@ -10,8 +11,8 @@ loop-link-init c = λ k link b e. absurd (omega arith)
 
 pub returns-then-not-is_link_in_range : goal.returns-then-not-is_link_in_range
 returns-then-not-is_link_in_range c = (
-  (λ f. cc),
-  (λ h. absurd (let good : c.is_link_in_range.result ≡ true = c.is_link_in_range.ensures.1 (h c.loop-link.link-index _ (here_in c.links-link-items.result.now _ c.loop-link.link-index _ c.links-link-items.ensures c.loop-link-test.true)) in cc)),
+  (λ f. absurd (false≢true f)),
+  (λ h. absurd (false≢true (sym c.if-not-is_link_in_range.true ∙ c.is_link_in_range.ensures.1 (h c.loop-link.link-index _ (here_in c.links-link-items.result.now _ c.loop-link.link-index _ c.links-link-items.ensures c.loop-link-test.true))))),
 )
 
 pub loop-link-preserved : goal.loop-link-preserved

@@ -1,5 +1,6 @@
 use Rattle.std.proofs.Common.{◌≡◌, ◌≢◌, Some, refl, ap, sym, ◌∙◌, arith}
 use Rattle.std.specs.List.{slice_get}
+use Rattle.std.proofs.lemmas.Bool.{false≢true}
 use Rattle.std.proofs.lemmas.Option.{slice_get-get_or, slice_get_within}
 use Rattle.gm_model.specs.declared.rule.Set.{Set}
 use Rattle.gm_model.proofs.Each.{each_more}
@@ -22,6 +23,6 @@ loop-set-preserved c =
 
 pub returns : goal.returns
 returns c = (
-  (λ f. cc),
+  (λ f. absurd (false≢true f)),
   (λ h. absurd (c.loop-set.invariant h.0 h.1 (let b = slice_get_within c.args.sets.now h.0 h.1 h.2 in omega (arith, b, c.loop-set-test.false)) h.2 h.3)),
 )
