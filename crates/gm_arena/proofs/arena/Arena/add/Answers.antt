@@ -1,4 +1,4 @@
-use Rattle.std.proofs.Common.{◌≡◌, length, sym, ◌∙◌, arith, vec_capacity}
+use Rattle.std.proofs.Common.{◌≡◌, length, sym, ◌∙◌, arith, vec_capacity, ◌<◌}
 use Rattle.std.proofs.lemmas.Bool.{and_parts, eqb-true}
 use Rattle.gm_arena.specs.Lawful.{AreGoodValues}
 use Rattle.gm_arena.proofs.ValueLemmas.{length-values, stretch}
@@ -63,3 +63,39 @@ returns-clause-map g c =
     _ c.free.ensures.written c.free.ensures.reaches
     _ own kinds (rw wide at c.write_values.ensures.written) (rw wide at c.write_values.ensures.reaches)
     c.max-self-inside.result c.max-self-inside-2.result c.max-self-inside.ensures c.max-self-inside-2.ensures)
+
+pub insert_reserved-key-requires : goal.insert_reserved-key-requires
+insert_reserved-key-requires g c =
+    let room : 0 < c.self.inside.spare = rw (← c.self.view_is) at c.requires.room in
+    omega (arith, room, c.self.invariant.0.room)
+
+pub overflow_cast-own : goal.overflow_cast-own
+overflow_cast-own g c = omega (arith, c.insert_reserved-key.ensures.key_in_range, c.insert_reserved-key.ensures.capacity, c.self.invariant.0.fits)
+
+pub set-requires-clause-reserved : goal.set-requires-clause-reserved
+set-requires-clause-reserved g c = rw (← c.self.view_is) at c.requires.reserved
+
+pub set-requires-clause-few : goal.set-requires-clause-few
+set-requires-clause-few g c = c.self.invariant.0.few_reserved
+
+pub overflow_add-name : goal.overflow_add-name
+overflow_add-name g c =
+    let reserved : c.args.name < length c.self.inside.table = rw (← c.self.view_is) at c.requires.reserved in
+    omega (arith, reserved, c.self.invariant.0.few_reserved)
+
+pub max-self-inside-requires : goal.max-self-inside-requires
+max-self-inside-requires g c = tt
+
+pub overflow_sub-self : goal.overflow_sub-self
+overflow_sub-self g c =
+    let room : 0 < c.self.inside.spare = rw (← c.self.view_is) at c.requires.room in
+    omega (arith, room)
+
+pub overflow_add-key : goal.overflow_add-key
+overflow_add-key g c = omega (arith, c.insert_reserved-key.ensures.key_in_range, c.insert_reserved-key.ensures.capacity, c.self.invariant.0.fits)
+
+pub max-self-inside-requires-2 : goal.max-self-inside-requires-2
+max-self-inside-requires-2 g c = tt
+
+pub returns-clause-cost : goal.returns-clause-cost
+returns-clause-cost g c = c.tick.ensures

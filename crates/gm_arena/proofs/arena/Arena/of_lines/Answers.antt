@@ -55,3 +55,39 @@ returns-in_err-put_lines-clause-cost g c = cost_lines c.args.schema c.args.lines
 
 pub returns-clause-cost : goal.returns-clause-cost
 returns-clause-cost g c = cost_lines c.args.schema c.args.lines.items _ _ c.top.ensures.value (c.len.ensures ∙ c.args.lines.ok.0) _ _ c.tick_times.ensures
+
+pub top-requires : goal.top-requires
+top-requires g c = tt
+
+pub overflow_cast-labels : goal.overflow_cast-labels
+overflow_cast-labels g c = omega (arith, c.top.ensures.greatest)
+
+pub overflow_add-labels : goal.overflow_add-labels
+overflow_add-labels g c = omega (arith, c.top.ensures.greatest)
+
+pub overflow_add-count : goal.overflow_add-count
+overflow_add-count g c = omega (arith, c.top.ensures.greatest)
+
+pub nonzero_div-count : goal.nonzero_div-count
+nonzero_div-count g c = omega arith
+
+pub overflow_mul-labels : goal.overflow_mul-labels
+overflow_mul-labels g c = omega (arith, c.top.ensures.greatest)
+
+pub overflow_add-labels-2 : goal.overflow_add-labels-2
+overflow_add-labels-2 g c = omega (arith, c.top.ensures.greatest)
+
+pub put_lines-requires-clause-places : goal.put_lines-requires-clause-places
+put_lines-requires-clause-places g c = c.new-places.ensures.empty
+
+pub put_lines-requires-clause-capacity : goal.put_lines-requires-clause-capacity
+put_lines-requires-clause-capacity g c = c.new-places.ensures.capacity
+
+pub put_lines-requires-clause-neighbours : goal.put_lines-requires-clause-neighbours
+put_lines-requires-clause-neighbours g c = c.new-neighbours.ensures.items
+
+pub put_lines-requires-clause-labels : goal.put_lines-requires-clause-labels
+put_lines-requires-clause-labels g c = omega (arith, c.top.ensures.greatest)
+
+pub put_lines-requires-clause-width : goal.put_lines-requires-clause-width
+put_lines-requires-clause-width g c = rw c.as_slice-width.ensures c.requires.schema.count

@@ -1,10 +1,11 @@
-use Rattle.std.proofs.Common.{◌≡◌, length, Some, ap, arith}
+use Rattle.std.proofs.Common.{◌≡◌, length, Some, ap, arith, refl}
 use Rattle.slab.specs.Slab.{get, slab_len}
 use Rattle.slab.proofs.SlabLemmas.{ContainsKey-within}
 use Rattle.gm_arena.specs.declared.arena.Place.{Place}
 use Rattle.gm_arena.proofs.InsideLemmas.{some_of}
 use Rattle.gm_arena.proofs.SlotNameLemmas.{slots_named_same}
 use Rattle.gm_arena.proofs.ReserveLemmas.{entries_padded, sound_more, map_more}
+use Rattle.gm_model.proofs.Exits.{never_ok}
 use Rattle.gm_arena.proofs.arena.Arena.reserve.Goals as goal
 
 pub invariant_of-self-in_err-reserve_places : goal.invariant_of-self-in_err-reserve_places
@@ -45,3 +46,85 @@ pub returns-clause-map : goal.returns-clause-map
 returns-clause-map c =
     let entries = entries_padded c.self.inside.table c.pad.new.self _ c.in_ok-pad.ensures.ok in
     rw (← c.self.view_is, c.in_ok-reserve_places.ensures.neighbours, c.in_ok-reserve_places.ensures.values) (map_more _ _ _ _ _ _ _ _ _ _ c.self.invariant.0 c.reserve_places.new.places c.pad.new.self c.in_ok-reserve_places.ensures.slots entries c.max-room.result)
+
+pub pad-requires : goal.pad-requires
+pad-requires c = tt
+
+pub invariant_of-self : goal.invariant_of-self
+invariant_of-self c = rw c.in_err-pad.ensures.err c.self.invariant
+
+pub returns-in_err-pad-clause-darts : goal.returns-in_err-pad-clause-darts
+returns-in_err-pad-clause-darts c = never_ok _ c.from_residual.result c.from_residual.ensures.0
+
+pub returns-in_err-pad-clause-names : goal.returns-in_err-pad-clause-names
+returns-in_err-pad-clause-names c = never_ok _ c.from_residual.result c.from_residual.ensures.0
+
+pub returns-in_err-pad-clause-spare_stays : goal.returns-in_err-pad-clause-spare_stays
+returns-in_err-pad-clause-spare_stays c =
+    let spare : c.self.inside.spare ≡ c.args.self.now.spare = ap (λ m. m.spare) c.self.view_is in
+    omega (arith, spare)
+
+pub returns-in_err-pad-clause-spare_most : goal.returns-in_err-pad-clause-spare_most
+returns-in_err-pad-clause-spare_most c =
+    let spare : c.self.inside.spare ≡ c.args.self.now.spare = ap (λ m. m.spare) c.self.view_is in
+    omega (arith, spare)
+
+pub returns-in_err-pad-clause-reserved_stays : goal.returns-in_err-pad-clause-reserved_stays
+returns-in_err-pad-clause-reserved_stays c =
+    let reserved : length c.self.inside.table ≡ c.args.self.now.reserved = ap (λ m. m.reserved) c.self.view_is in
+    rw c.in_err-pad.ensures.err (omega (arith, reserved))
+
+pub returns-in_err-pad-clause-reserved_most : goal.returns-in_err-pad-clause-reserved_most
+returns-in_err-pad-clause-reserved_most c =
+    let reserved : length c.self.inside.table ≡ c.args.self.now.reserved = ap (λ m. m.reserved) c.self.view_is in
+    rw c.in_err-pad.ensures.err (omega (arith, reserved))
+
+pub returns-in_err-pad-clause-map : goal.returns-in_err-pad-clause-map
+returns-in_err-pad-clause-map c = rw (← c.self.view_is, c.in_err-pad.ensures.err) refl
+
+pub max-room-requires : goal.max-room-requires
+max-room-requires c = tt
+
+pub overflow_cast-room : goal.overflow_cast-room
+overflow_cast-room c = omega (arith, c.max-room.type_inv)
+
+pub reserve_places-requires-clause-fits : goal.reserve_places-requires-clause-fits
+reserve_places-requires-clause-fits c = c.self.invariant.0.fits
+
+pub reserve_places-requires-clause-few : goal.reserve_places-requires-clause-few
+reserve_places-requires-clause-few c =
+    let count : slab_len c.self.inside.places ≡ c.args.self.now.count = ap (λ m. m.count) c.self.view_is in
+    omega (arith, count, c.max-room.ensures, c.self.invariant.0.few_darts, c.requires.darts)
+
+pub reserve_places-requires-clause-labels : goal.reserve_places-requires-clause-labels
+reserve_places-requires-clause-labels c = c.self.invariant.0.sized.few
+
+pub reserve_places-requires-clause-width : goal.reserve_places-requires-clause-width
+reserve_places-requires-clause-width c = omega (arith, c.self.invariant.0.sized.wide, c.self.invariant.0.sized.lawful.count)
+
+pub reserve_places-requires-clause-parts : goal.reserve_places-requires-clause-parts
+reserve_places-requires-clause-parts c = c.self.invariant.1
+
+pub returns-in_err-reserve_places-clause-darts : goal.returns-in_err-reserve_places-clause-darts
+returns-in_err-reserve_places-clause-darts c = never_ok _ c.from_residual-in_err-reserve_places.result c.from_residual-in_err-reserve_places.ensures.0
+
+pub returns-in_err-reserve_places-clause-names : goal.returns-in_err-reserve_places-clause-names
+returns-in_err-reserve_places-clause-names c = never_ok _ c.from_residual-in_err-reserve_places.result c.from_residual-in_err-reserve_places.ensures.0
+
+pub returns-clause-darts : goal.returns-clause-darts
+returns-clause-darts c = rw (← c.self.view_is) c.max-room.ensures
+
+pub returns-clause-names : goal.returns-clause-names
+returns-clause-names c = rw (← c.self.view_is) c.in_ok-pad.ensures.len
+
+pub returns-clause-spare_stays : goal.returns-clause-spare_stays
+returns-clause-spare_stays c = rw (← c.self.view_is) (omega (arith, c.max-room.ensures))
+
+pub returns-clause-spare_most : goal.returns-clause-spare_most
+returns-clause-spare_most c = rw (← c.self.view_is) (omega (arith, c.max-room.ensures))
+
+pub returns-clause-reserved_stays : goal.returns-clause-reserved_stays
+returns-clause-reserved_stays c = rw (← c.self.view_is) (omega (arith, c.in_ok-pad.ensures.len))
+
+pub returns-clause-reserved_most : goal.returns-clause-reserved_most
+returns-clause-reserved_most c = rw (← c.self.view_is) (omega (arith, c.in_ok-pad.ensures.len))

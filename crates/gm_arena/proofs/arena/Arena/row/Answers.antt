@@ -57,3 +57,6 @@ returns-clause-live g c =
     let place = live_place c.self.inside.places c.args.slot.at (rw (← c.self.view_is) at c.requires) in
     let placed = c.self.invariant.0.placed c.args.slot.at place.0 place.1 in
     rw (← c.self.view_is, back, c.deref.ensures.value) (λ k d h. live_at c.self.inside.places _ (placed.live k d h))
+
+pub read_name-requires-clause-named : goal.read_name-requires-clause-named
+read_name-requires-clause-named g c = c.self.invariant.2

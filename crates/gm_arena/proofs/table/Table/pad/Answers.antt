@@ -1,8 +1,10 @@
 use Rattle.std.proofs.Common.{◌≡◌, ℕ, ◌-◌, ◌≤◌, ◌++◌, Bool, false, List, sym, ap, ◌∙◌, arith, length, replicate, vec_capacity}
+use Rattle.std.proofs.lemmas.Bool.{false≢true}
 use Rattle.std.proofs.lemmas.List.{append-nil, length-append, length-replicate}
 use Rattle.gm_arena.specs.Inside.{no_slot}
 use Rattle.gm_arena.specs.Listing.{even, listing}
 use Rattle.gm_arena.proofs.ListingLemmas.{even_padded, length-listing}
+use Rattle.gm_model.proofs.Exits.{never_ok, on_err}
 use Rattle.gm_arena.proofs.table.Table.pad.Goals as goal
 use Rattle.gm_arena.proofs.table.Table.pad.Goals.{then-self+in_ok-pad_slots, else-self+in_ok-reserve}
 
@@ -43,3 +45,67 @@ returns-clause-ok c =
 
 pub returns-clause-len : goal.returns-clause-len
 returns-clause-len c = ap length (returns-clause-ok c) ∙ omega (arith, length-append c.args.self.now (replicate (c.args.names - length c.args.self.now) no_slot), length-replicate (c.args.names - length c.args.self.now) no_slot)
+
+pub returns-then-names-self-clause-err : goal.returns-then-names-self-clause-err
+returns-then-names-self-clause-err c = tt
+
+pub returns-in_err-pad_slots-clause-ok : goal.returns-in_err-pad_slots-clause-ok
+returns-in_err-pad_slots-clause-ok c = never_ok _ c.from_residual.result c.from_residual.ensures.0
+
+pub returns-in_err-pad_slots-clause-len : goal.returns-in_err-pad_slots-clause-len
+returns-in_err-pad_slots-clause-len c = never_ok _ c.from_residual.result c.from_residual.ensures.0
+
+pub returns-in_err-reserve-clause-ok : goal.returns-in_err-reserve-clause-ok
+returns-in_err-reserve-clause-ok c = never_ok _ c.from_residual-in_err-reserve.result c.from_residual-in_err-reserve.ensures.0
+
+pub returns-in_err-reserve-clause-len : goal.returns-in_err-reserve-clause-len
+returns-in_err-reserve-clause-len c = never_ok _ c.from_residual-in_err-reserve.result c.from_residual-in_err-reserve.ensures.0
+
+pub returns-clause-err : goal.returns-clause-err
+returns-clause-err c = tt
+
+pub invariant_of-self : goal.invariant_of-self
+invariant_of-self c =
+    let same = c.in_err-pad_slots.ensures.err in
+    record {
+      long = λ e. ap length same ∙ c.self.invariant.long e;
+      none = λ e. absurd (false≢true (sym e ∙ c.if-self.true));
+      few = c.self.invariant.few;
+      room = λ e. absurd (false≢true (sym e ∙ c.if-self.true));
+    }
+
+pub invariant_of-self-in_err-reserve : goal.invariant_of-self-in_err-reserve
+invariant_of-self-in_err-reserve c =
+    let kept = c.in_err-reserve.ensures in
+    record {
+      long = λ e. ap length kept.items ∙ c.self.invariant.long e;
+      none = λ e. kept.items ∙ c.self.invariant.none e;
+      few = c.self.invariant.few;
+      room = λ e. omega (arith, kept.err, c.self.invariant.room e);
+    }
+
+pub invariant_of-self-2 : goal.invariant_of-self-2
+invariant_of-self-2 c =
+    elim c.if-self.branch [
+      | then-self+in_ok-pad_slots w ↦ rw w.self-inside-is (record {
+        long = λ e.
+            let old = c.self.inside.slots.items in
+            let more = replicate (c.args.names - length old) no_slot in
+            omega (arith, ap length w.in_ok-pad_slots.ensures.ok, length-append old more, length-replicate (c.args.names - length old) no_slot, c.self.invariant.long e, c.if-names-self.false);
+        none = λ e. absurd (false≢true (sym e ∙ w.if-self.true));
+        few = λ e. absurd (false≢true (sym e ∙ w.if-self.true));
+        room = λ e. absurd (false≢true (sym e ∙ w.if-self.true));
+      })
+      | else-self+in_ok-reserve w ↦ rw w.self-inside-is (record {
+        long = λ e. absurd (false≢true (sym w.if-self.false ∙ e));
+        none = λ e. w.in_ok-reserve.ensures.items ∙ c.self.invariant.none e;
+        few = λ e. omega (arith, c.self.invariant.few e, c.if-names-self.false);
+        room = λ e. omega (arith, w.in_ok-reserve.ensures.ok);
+      })
+    ]
+
+pub returns-in_err-pad_slots-clause-err : goal.returns-in_err-pad_slots-clause-err
+returns-in_err-pad_slots-clause-err c = on_err c.from_residual.result (rw c.in_err-pad_slots.ensures.err c.self.view_is)
+
+pub returns-in_err-reserve-clause-err : goal.returns-in_err-reserve-clause-err
+returns-in_err-reserve-clause-err c = on_err c.from_residual-in_err-reserve.result (rw c.in_err-reserve.ensures.items c.self.view_is)
