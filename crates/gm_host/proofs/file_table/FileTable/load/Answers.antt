@@ -1,3 +1,4 @@
+use Rattle.std.proofs.Common.{rules}
 use Rattle.std.proofs.lemmas.Result.{err_from_is_err_and}
 use Rattle.gm_host.proofs.file_table.FileTable.load.Goals as goal
 
@@ -30,3 +31,42 @@ returns-in_err-seen c =
       seen_held = tt;
       longer = λ _. tt;
     })
+
+pub returns-in_default : goal.returns-in_default
+returns-in_default c =
+    record {
+      within_limit = search rules;
+      bytes_held = search rules;
+      absent = search rules;
+      lacking = search rules;
+      failed = search rules;
+      seen_length = search rules;
+      seen_held = search rules;
+      longer = search rules;
+    }
+
+pub returns-then-held-limit : goal.returns-then-held-limit
+returns-then-held-limit c =
+    record {
+      within_limit = search rules;
+      bytes_held = search rules;
+      absent = search rules;
+      lacking = search rules;
+      failed = search rules;
+      seen_length = search rules;
+      seen_held = search rules;
+      longer = search rules;
+    }
+
+pub returns : goal.returns
+returns c =
+    record {
+      within_limit = search rules;
+      bytes_held = search rules;
+      absent = search rules;
+      lacking = search rules;
+      failed = search rules;
+      seen_length = search rules;
+      seen_held = search rules;
+      longer = search rules;
+    }

@@ -1,4 +1,4 @@
-use Rattle.std.proofs.Common.{sym, ap, ◌∙◌, ◌≡◌, Some, None, arith}
+use Rattle.std.proofs.Common.{sym, ap, ◌∙◌, ◌≡◌, Some, None, arith, rules}
 use Rattle.std.proofs.lemmas.Bool.{false≢true}
 use Rattle.std.proofs.lemmas.Result.{err_from_is_err_and}
 use Rattle.std.specs.FinMap.{get, from_entries}
@@ -8,20 +8,6 @@ use Rattle.gm_host.specs.MemSink.{SinkState}
 use Rattle.gm_host.proofs.Lookups.{get-from_tree}
 use Rattle.gm_host.proofs.Saving.{unmade_put}
 use Rattle.gm_host.proofs.mem_sink.MemSinkSink.put.Goals as goal
-
-pub returns-in_ok-extend_from_slice-in-Some-clause-as_planned :
-    goal.returns-in_ok-extend_from_slice-in-Some-clause-as_planned
-returns-in_ok-extend_from_slice-in-Some-clause-as_planned c =
-    let planned : get (from_entries {R = nat_cmp} c.self.inside.planned.entries) c.self.inside.puts ≡ Some c.in-Some.kept =
-    get-from_tree _ c.self.inside.planned ∙ sym c.get.ensures.value ∙ sym c.in-Some.ensures in
-    rw (← c.self.view_is, planned, c.in_ok-extend_from_slice-in-Some.ensures.items, c.first.ensures, c.saturating_add-self-inside.ensures, c.saturating_add-self-inside-in-Some.ensures)
-
-pub returns-in_ok-extend_from_slice-in-None-clause-as_planned :
-    goal.returns-in_ok-extend_from_slice-in-None-clause-as_planned
-returns-in_ok-extend_from_slice-in-None-clause-as_planned c =
-    let planned : get (from_entries {R = nat_cmp} c.self.inside.planned.entries) c.self.inside.puts ≡ None =
-    get-from_tree _ c.self.inside.planned ∙ sym c.get.ensures.value ∙ sym c.in-None.ensures in
-    rw (← c.self.view_is, planned, c.in_ok-extend_from_slice-in-None.ensures.items, c.saturating_add-self-inside.ensures)
 
 pub returns-in_err-extend_from_slice-in-None : goal.returns-in_err-extend_from_slice-in-None
 returns-in_err-extend_from_slice-in-None c =
@@ -60,3 +46,37 @@ returns-in_err-extend_from_slice-in-Some c =
       ok_no_fault = tt;
       as_planned = unmade_put c.self.view_is c.args.bytes.now c.extend_from_slice.new.self.items c.saturating_add-self-inside.result c.saturating_add-self-inside.ensures plan c.in_err-extend_from_slice-in-Some.ensures.items;
     })
+
+pub returns-in_ok-extend_from_slice-in-Some : goal.returns-in_ok-extend_from_slice-in-Some
+returns-in_ok-extend_from_slice-in-Some c =
+    record {
+      each_put_counts = search rules;
+      faults_never_fall = search rules;
+      ok = search rules;
+      failed = search rules;
+      kept = search rules;
+      out_of_memory = search rules;
+      no_fault = search rules;
+      enough_memory = search rules;
+      ok_no_fault = search rules;
+      as_planned = let planned : get (from_entries {R = nat_cmp} c.self.inside.planned.entries) c.self.inside.puts ≡ Some c.in-Some.kept =
+          get-from_tree _ c.self.inside.planned ∙ sym c.get.ensures.value ∙ sym c.in-Some.ensures in
+          rw (← c.self.view_is, planned, c.in_ok-extend_from_slice-in-Some.ensures.items, c.first.ensures, c.saturating_add-self-inside.ensures, c.saturating_add-self-inside-in-Some.ensures);
+    }
+
+pub returns-in_ok-extend_from_slice-in-None : goal.returns-in_ok-extend_from_slice-in-None
+returns-in_ok-extend_from_slice-in-None c =
+    record {
+      each_put_counts = search rules;
+      faults_never_fall = search rules;
+      ok = search rules;
+      failed = search rules;
+      kept = search rules;
+      out_of_memory = search rules;
+      no_fault = search rules;
+      enough_memory = search rules;
+      ok_no_fault = search rules;
+      as_planned = let planned : get (from_entries {R = nat_cmp} c.self.inside.planned.entries) c.self.inside.puts ≡ None =
+          get-from_tree _ c.self.inside.planned ∙ sym c.get.ensures.value ∙ sym c.in-None.ensures in
+          rw (← c.self.view_is, planned, c.in_ok-extend_from_slice-in-None.ensures.items, c.saturating_add-self-inside.ensures);
+    }

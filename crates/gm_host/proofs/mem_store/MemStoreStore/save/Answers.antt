@@ -1,4 +1,4 @@
-use Rattle.std.proofs.Common.{sym, ap, subst, ◌∙◌, ◌≡◌, Some, None, arith}
+use Rattle.std.proofs.Common.{sym, ap, subst, ◌∙◌, ◌≡◌, Some, None, arith, rules}
 use Rattle.std.proofs.lemmas.Result.{err_from_is_err_and}
 use Rattle.std.specs.FinMap.{get}
 use Rattle.gm_host.specs.Count.{counted}
@@ -8,35 +8,6 @@ use Rattle.gm_host.specs.Saves.{IsSaved, IsSavedInPart}
 use Rattle.gm_host.proofs.Lookups.{get-from_tree}
 use Rattle.gm_host.proofs.Saving.{saved-insert, saved_in_part, planned_save, planned_fault, unmade_save}
 use Rattle.gm_host.proofs.mem_store.MemStoreStore.save.Goals as goal
-
-pub returns-in_ok-hold_part-in-Some-clause-kept : goal.returns-in_ok-hold_part-in-Some-clause-kept
-returns-in_ok-hold_part-in-Some-clause-kept c =
-    let name = c.args.name.now in
-    let bytes = c.args.bytes.now in
-    let part = subst (λ (later : Files). IsSavedInPart (told c.self.inside.files) name bytes (told later)) (sym c.in_ok-hold_part-in-Some.ensures.ok) (saved_in_part c.self.inside.files name bytes c.in-Some.kept) in
-    subst (λ (state : StoreState). IsSavedInPart (told state.files) name bytes (told c.hold_part.new.self)) c.self.view_is part
-
-pub returns-in_ok-hold_part-in-Some-clause-as_planned : goal.returns-in_ok-hold_part-in-Some-clause-as_planned
-returns-in_ok-hold_part-in-Some-clause-as_planned c =
-    let now = c.args.self.now in
-    let plan = get now.failing_saves now.saves in
-    let planned : plan ≡ Some c.in-Some.kept = ap (λ (state : StoreState). get state.failing_saves state.saves) (sym c.self.view_is) ∙ get-from_tree _ c.self.inside.failing_saves ∙ sym c.get.ensures.value ∙ sym c.in-Some.ensures in
-    planned_fault c.self.view_is c.args.name.now c.args.bytes.now c.hold_part.new.self c.saturating_add-self-inside.result c.saturating_add-self-inside.ensures plan c.in-Some.kept c.saturating_add-self-inside-in-Some.result planned c.in_ok-hold_part-in-Some.ensures.ok
-    c.saturating_add-self-inside-in-Some.ensures
-
-pub returns-in_ok-hold-in-None-clause-ok : goal.returns-in_ok-hold-in-None-clause-ok
-returns-in_ok-hold-in-None-clause-ok c =
-    let name = c.args.name.now in
-    let bytes = c.args.bytes.now in
-    let held = subst (λ (later : Files). IsSaved (told c.self.inside.files) name bytes (told later)) (sym c.in_ok-hold-in-None.ensures.ok) (saved-insert c.self.inside.files name bytes) in
-    subst (λ (state : StoreState). IsSaved (told state.files) name bytes (told c.hold.new.self)) c.self.view_is held
-
-pub returns-in_ok-hold-in-None-clause-as_planned : goal.returns-in_ok-hold-in-None-clause-as_planned
-returns-in_ok-hold-in-None-clause-as_planned c =
-    let now = c.args.self.now in
-    let plan = get now.failing_saves now.saves in
-    let planned : plan ≡ None = ap (λ (state : StoreState). get state.failing_saves state.saves) (sym c.self.view_is) ∙ get-from_tree _ c.self.inside.failing_saves ∙ sym c.get.ensures.value ∙ sym c.in-None.ensures in
-    planned_save c.self.view_is c.args.name.now c.args.bytes.now c.hold.new.self c.saturating_add-self-inside.result c.saturating_add-self-inside.ensures plan planned c.in_ok-hold-in-None.ensures.ok
 
 pub returns-in_err-hold-in-None : goal.returns-in_err-hold-in-None
 returns-in_err-hold-in-None c =
@@ -77,3 +48,48 @@ returns-in_err-hold_part-in-Some c =
       ok_no_fault = tt;
       as_planned = unmade_save c.self.view_is c.args.name.now c.args.bytes.now c.hold_part.new.self c.saturating_add-self-inside.result c.saturating_add-self-inside.ensures (get now.failing_saves now.saves) c.in_err-hold_part-in-Some.ensures.err;
     })
+
+pub returns-in_ok-hold_part-in-Some : goal.returns-in_ok-hold_part-in-Some
+returns-in_ok-hold_part-in-Some c =
+    let name = c.args.name.now in
+    let bytes = c.args.bytes.now in
+    let part = subst (λ (later : Files). IsSavedInPart (told c.self.inside.files) name bytes (told later)) (sym c.in_ok-hold_part-in-Some.ensures.ok) (saved_in_part c.self.inside.files name bytes c.in-Some.kept) in
+    let now = c.args.self.now in
+    let plan = get now.failing_saves now.saves in
+    let planned : plan ≡ Some c.in-Some.kept = ap (λ (state : StoreState). get state.failing_saves state.saves) (sym c.self.view_is) ∙ get-from_tree _ c.self.inside.failing_saves ∙ sym c.get.ensures.value ∙ sym c.in-Some.ensures in
+    record {
+      each_save_counts = search rules;
+      no_load = search rules;
+      no_load_fault = search rules;
+      faults_never_fall = search rules;
+      ok = search rules;
+      failed = search rules;
+      kept = subst (λ (state : StoreState). IsSavedInPart (told state.files) name bytes (told c.hold_part.new.self)) c.self.view_is part;
+      out_of_memory = search rules;
+      no_fault = search rules;
+      ok_no_fault = search rules;
+      as_planned = planned_fault c.self.view_is c.args.name.now c.args.bytes.now c.hold_part.new.self c.saturating_add-self-inside.result c.saturating_add-self-inside.ensures plan c.in-Some.kept c.saturating_add-self-inside-in-Some.result planned c.in_ok-hold_part-in-Some.ensures.ok
+          c.saturating_add-self-inside-in-Some.ensures;
+    }
+
+pub returns-in_ok-hold-in-None : goal.returns-in_ok-hold-in-None
+returns-in_ok-hold-in-None c =
+    let name = c.args.name.now in
+    let bytes = c.args.bytes.now in
+    let held = subst (λ (later : Files). IsSaved (told c.self.inside.files) name bytes (told later)) (sym c.in_ok-hold-in-None.ensures.ok) (saved-insert c.self.inside.files name bytes) in
+    let now = c.args.self.now in
+    let plan = get now.failing_saves now.saves in
+    let planned : plan ≡ None = ap (λ (state : StoreState). get state.failing_saves state.saves) (sym c.self.view_is) ∙ get-from_tree _ c.self.inside.failing_saves ∙ sym c.get.ensures.value ∙ sym c.in-None.ensures in
+    record {
+      each_save_counts = search rules;
+      no_load = search rules;
+      no_load_fault = search rules;
+      faults_never_fall = search rules;
+      ok = subst (λ (state : StoreState). IsSaved (told state.files) name bytes (told c.hold.new.self)) c.self.view_is held;
+      failed = search rules;
+      kept = search rules;
+      out_of_memory = search rules;
+      no_fault = search rules;
+      ok_no_fault = search rules;
+      as_planned = planned_save c.self.view_is c.args.name.now c.args.bytes.now c.hold.new.self c.saturating_add-self-inside.result c.saturating_add-self-inside.ensures plan planned c.in_ok-hold-in-None.ensures.ok;
+    }

@@ -1,13 +1,10 @@
-use Rattle.std.proofs.Common.{refl, ap, ◌∙◌, arith}
+use Rattle.std.proofs.Common.{refl, ap, ◌∙◌, arith, rules}
 use Rattle.std.proofs.lemmas.Result.{err_from_is_err_and}
 use Rattle.gm_host.specs.Count.{counted}
 use Rattle.gm_host.specs.Files.{told}
 use Rattle.gm_host.specs.SureStore.{StoreState}
 use Rattle.gm_host.proofs.Saving.{saved-insert}
 use Rattle.gm_host.proofs.sure_store.SureStoreStore.save.Goals as goal
-
-pub returns-clause-ok : goal.returns-clause-ok
-returns-clause-ok c = rw (c.in_ok-hold.ensures.ok, ← c.self.view_is) (saved-insert c.self.inside.files c.args.name.now c.args.bytes.now)
 
 pub returns-in_err-hold : goal.returns-in_err-hold
 returns-in_err-hold c =
@@ -30,3 +27,21 @@ returns-in_err-hold c =
           ∙ ap (λ saves. record { files = c.self.inside.files; loads = c.self.inside.loads; saves = saves }) c.saturating_add-self-inside.ensures
           ∙ ap (λ (state : StoreState). record { files = state.files; loads = state.loads; saves = counted state.saves }) c.self.view_is;
     })
+
+pub returns : goal.returns
+returns c =
+    record {
+      each_save_counts = search rules;
+      no_load = search rules;
+      no_load_fault = search rules;
+      faults_never_fall = search rules;
+      ok = rw (c.in_ok-hold.ensures.ok, ← c.self.view_is) (saved-insert c.self.inside.files c.args.name.now c.args.bytes.now);
+      failed = search rules;
+      kept = search rules;
+      out_of_memory = search rules;
+      no_fault = search rules;
+      ok_no_fault = search rules;
+      never_fails = search rules;
+      after = search rules;
+      unmade = search rules;
+    }
