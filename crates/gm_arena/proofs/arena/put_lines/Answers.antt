@@ -20,69 +20,6 @@ grown-requires-clause-few c =
     let none : slab_len c.args.places.now ≡ 0 = rw c.requires.places refl in
     rw (none, long) (omega (arith, c.requires.few))
 
-pub returns-in_err-places-clause-numbered : goal.returns-in_err-places-clause-numbered
-returns-in_err-places-clause-numbered c = never_ok _ c.from_residual.result c.from_residual.ensures.0
-
-pub returns-in_err-places-clause-len : goal.returns-in_err-places-clause-len
-returns-in_err-places-clause-len c = never_ok _ c.from_residual.result c.from_residual.ensures.0
-
-pub returns-in_err-places-clause-fits : goal.returns-in_err-places-clause-fits
-returns-in_err-places-clause-fits c = never_ok _ c.from_residual.result c.from_residual.ensures.0
-
-pub returns-in_err-places-clause-room : goal.returns-in_err-places-clause-room
-returns-in_err-places-clause-room c = never_ok _ c.from_residual.result c.from_residual.ensures.0
-
-pub returns-in_err-places-clause-parts : goal.returns-in_err-places-clause-parts
-returns-in_err-places-clause-parts c = never_ok _ c.from_residual.result c.from_residual.ensures.0
-
-pub returns-in_err-places-clause-neighbours : goal.returns-in_err-places-clause-neighbours
-returns-in_err-places-clause-neighbours c = never_ok _ c.from_residual.result c.from_residual.ensures.0
-
-pub returns-in_err-places-clause-values : goal.returns-in_err-places-clause-values
-returns-in_err-places-clause-values c = refl
-
-pub returns-in_err-widen-clause-numbered : goal.returns-in_err-widen-clause-numbered
-returns-in_err-widen-clause-numbered c = never_ok _ c.from_residual-in_err-widen.result c.from_residual-in_err-widen.ensures.0
-
-pub returns-in_err-widen-clause-len : goal.returns-in_err-widen-clause-len
-returns-in_err-widen-clause-len c = never_ok _ c.from_residual-in_err-widen.result c.from_residual-in_err-widen.ensures.0
-
-pub returns-in_err-widen-clause-fits : goal.returns-in_err-widen-clause-fits
-returns-in_err-widen-clause-fits c = never_ok _ c.from_residual-in_err-widen.result c.from_residual-in_err-widen.ensures.0
-
-pub returns-in_err-widen-clause-room : goal.returns-in_err-widen-clause-room
-returns-in_err-widen-clause-room c = never_ok _ c.from_residual-in_err-widen.result c.from_residual-in_err-widen.ensures.0
-
-pub returns-in_err-widen-clause-parts : goal.returns-in_err-widen-clause-parts
-returns-in_err-widen-clause-parts c = never_ok _ c.from_residual-in_err-widen.result c.from_residual-in_err-widen.ensures.0
-
-pub returns-in_err-widen-clause-neighbours : goal.returns-in_err-widen-clause-neighbours
-returns-in_err-widen-clause-neighbours c = never_ok _ c.from_residual-in_err-widen.result c.from_residual-in_err-widen.ensures.0
-
-pub returns-in_err-widen-clause-values : goal.returns-in_err-widen-clause-values
-returns-in_err-widen-clause-values c = refl
-
-pub returns-in_err-widen-2-clause-numbered : goal.returns-in_err-widen-2-clause-numbered
-returns-in_err-widen-2-clause-numbered c = never_ok _ c.from_residual-in_err-widen-2.result c.from_residual-in_err-widen-2.ensures.0
-
-pub returns-in_err-widen-2-clause-len : goal.returns-in_err-widen-2-clause-len
-returns-in_err-widen-2-clause-len c = never_ok _ c.from_residual-in_err-widen-2.result c.from_residual-in_err-widen-2.ensures.0
-
-pub returns-in_err-widen-2-clause-fits : goal.returns-in_err-widen-2-clause-fits
-returns-in_err-widen-2-clause-fits c = never_ok _ c.from_residual-in_err-widen-2.result c.from_residual-in_err-widen-2.ensures.0
-
-pub returns-in_err-widen-2-clause-room : goal.returns-in_err-widen-2-clause-room
-returns-in_err-widen-2-clause-room c = never_ok _ c.from_residual-in_err-widen-2.result c.from_residual-in_err-widen-2.ensures.0
-
-pub returns-in_err-widen-2-clause-parts : goal.returns-in_err-widen-2-clause-parts
-returns-in_err-widen-2-clause-parts c = never_ok _ c.from_residual-in_err-widen-2.result c.from_residual-in_err-widen-2.ensures.0
-
-pub returns-in_err-widen-2-clause-neighbours : goal.returns-in_err-widen-2-clause-neighbours
-returns-in_err-widen-2-clause-neighbours c = never_ok _ c.from_residual-in_err-widen-2.result c.from_residual-in_err-widen-2.ensures.0
-
-pub returns-in_err-widen-2-clause-values : goal.returns-in_err-widen-2-clause-values
-returns-in_err-widen-2-clause-values c = c.in_err-widen-2.ensures.items
-
 pub overflow_mul-capacity : goal.overflow_mul-capacity
 overflow_mul-capacity c = parts_fit c.capacity.result c.args.labels (omega (arith, c.capacity.ensures.value, c.in_ok-places.ensures.fits)) c.requires.labels
 
@@ -110,33 +47,54 @@ number_places-requires-clause-few c =
     let long : c.len.result ≡ length c.args.lines.items = omega (arith, c.len.ensures, c.args.lines.ok.0) in
     rw long c.requires.few
 
-pub returns-clause-numbered : goal.returns-clause-numbered
-returns-clause-numbered c =
+pub returns-in_err-places : goal.returns-in_err-places
+returns-in_err-places c =
+    record {
+      numbered = never_ok _ c.from_residual.result c.from_residual.ensures.0;
+      len = never_ok _ c.from_residual.result c.from_residual.ensures.0;
+      fits = never_ok _ c.from_residual.result c.from_residual.ensures.0;
+      room = never_ok _ c.from_residual.result c.from_residual.ensures.0;
+      parts = never_ok _ c.from_residual.result c.from_residual.ensures.0;
+      neighbours = never_ok _ c.from_residual.result c.from_residual.ensures.0;
+      values = refl;
+    }
+
+pub returns-in_err-widen : goal.returns-in_err-widen
+returns-in_err-widen c =
+    record {
+      numbered = never_ok _ c.from_residual-in_err-widen.result c.from_residual-in_err-widen.ensures.0;
+      len = never_ok _ c.from_residual-in_err-widen.result c.from_residual-in_err-widen.ensures.0;
+      fits = never_ok _ c.from_residual-in_err-widen.result c.from_residual-in_err-widen.ensures.0;
+      room = never_ok _ c.from_residual-in_err-widen.result c.from_residual-in_err-widen.ensures.0;
+      parts = never_ok _ c.from_residual-in_err-widen.result c.from_residual-in_err-widen.ensures.0;
+      neighbours = never_ok _ c.from_residual-in_err-widen.result c.from_residual-in_err-widen.ensures.0;
+      values = refl;
+    }
+
+pub returns-in_err-widen-2 : goal.returns-in_err-widen-2
+returns-in_err-widen-2 c =
+    record {
+      numbered = never_ok _ c.from_residual-in_err-widen-2.result c.from_residual-in_err-widen-2.ensures.0;
+      len = never_ok _ c.from_residual-in_err-widen-2.result c.from_residual-in_err-widen-2.ensures.0;
+      fits = never_ok _ c.from_residual-in_err-widen-2.result c.from_residual-in_err-widen-2.ensures.0;
+      room = never_ok _ c.from_residual-in_err-widen-2.result c.from_residual-in_err-widen-2.ensures.0;
+      parts = never_ok _ c.from_residual-in_err-widen-2.result c.from_residual-in_err-widen-2.ensures.0;
+      neighbours = never_ok _ c.from_residual-in_err-widen-2.result c.from_residual-in_err-widen-2.ensures.0;
+      values = c.in_err-widen-2.ensures.items;
+    }
+
+pub returns : goal.returns
+returns c =
     let long : c.len.result ≡ length c.args.lines.items = omega (arith, c.len.ensures, c.args.lines.ok.0) in
-    rw (← long) c.number_places.ensures.numbered
-
-pub returns-clause-len : goal.returns-clause-len
-returns-clause-len c =
-    let long : c.len.result ≡ length c.args.lines.items = omega (arith, c.len.ensures, c.args.lines.ok.0) in
-    rw (← long) c.number_places.ensures.len
-
-pub returns-clause-fits : goal.returns-clause-fits
-returns-clause-fits c = on_ok_weaker c.number_places.result (λ _. rw c.number_places.ensures.capacity c.in_ok-places.ensures.fits) c.number_places.ensures.len
-
-pub returns-clause-room : goal.returns-clause-room
-returns-clause-room c =
-    let long : c.len.result ≡ length c.args.lines.items = omega (arith, c.len.ensures, c.args.lines.ok.0) in
-    on_ok_weaker c.number_places.result (λ _. rw (← long, c.number_places.ensures.capacity) (omega (arith, c.in_ok-places.ensures.room))) c.number_places.ensures.len
-
-pub returns-clause-parts : goal.returns-clause-parts
-returns-clause-parts c =
-    on_ok_weaker c.number_places.result (λ _. record {
-      linked = rw (c.number_places.ensures.capacity, ← c.capacity.ensures.value) (omega (arith, c.in_ok-widen.ensures.room, c.put_neighbours.ensures.capacity));
-      long = rw (c.number_places.ensures.capacity, ← c.capacity-2.ensures.value) c.in_ok-widen-2.ensures.room;
-    }) c.number_places.ensures.len
-
-pub returns-clause-neighbours : goal.returns-clause-neighbours
-returns-clause-neighbours c = on_ok_weaker c.number_places.result (λ _. rw (c.put_neighbours.ensures.items, c.in_ok-widen.ensures.items, c.requires.neighbours, c.deref.ensures.value) refl) c.number_places.ensures.len
-
-pub returns-clause-values : goal.returns-clause-values
-returns-clause-values c = c.in_ok-widen-2.ensures.items
+    record {
+      numbered = rw (← long) c.number_places.ensures.numbered;
+      len = rw (← long) c.number_places.ensures.len;
+      fits = on_ok_weaker c.number_places.result (λ _. rw c.number_places.ensures.capacity c.in_ok-places.ensures.fits) c.number_places.ensures.len;
+      room = on_ok_weaker c.number_places.result (λ _. rw (← long, c.number_places.ensures.capacity) (omega (arith, c.in_ok-places.ensures.room))) c.number_places.ensures.len;
+      parts = on_ok_weaker c.number_places.result (λ _. record {
+        linked = rw (c.number_places.ensures.capacity, ← c.capacity.ensures.value) (omega (arith, c.in_ok-widen.ensures.room, c.put_neighbours.ensures.capacity));
+        long = rw (c.number_places.ensures.capacity, ← c.capacity-2.ensures.value) c.in_ok-widen-2.ensures.room;
+      }) c.number_places.ensures.len;
+      neighbours = on_ok_weaker c.number_places.result (λ _. rw (c.put_neighbours.ensures.items, c.in_ok-widen.ensures.items, c.requires.neighbours, c.deref.ensures.value) refl) c.number_places.ensures.len;
+      values = c.in_ok-widen-2.ensures.items;
+    }

@@ -32,29 +32,11 @@ parts g c =
 pub invariant_of-result : goal.invariant_of-result
 invariant_of-result g c = (sound_made _ _ _ _ _ _ _ _ _ _ (parts g c), c.in_ok-put_lines.ensures.parts, named_made _ _ _ _ _ _ _ _ _ _ (parts g c))
 
-pub returns-clause-holds : goal.returns-clause-holds
-returns-clause-holds g c = holds_made _ _ _ _ _ _ _ _ _ _ (parts g c)
-
 pub numbered-requires : goal.numbered-requires
 numbered-requires g c = omega (arith, few_lines c.args.schema c.args.lines.items c.top.result c.len.result c.top.ensures.value (c.len.ensures ∙ c.args.lines.ok.0) c.requires.lines.few)
 
 pub put_lines-requires-clause-few : goal.put_lines-requires-clause-few
 put_lines-requires-clause-few g c = few_lines c.args.schema c.args.lines.items _ _ c.top.ensures.value refl c.requires.lines.few
-
-pub returns-in_err-table-clause-holds : goal.returns-in_err-table-clause-holds
-returns-in_err-table-clause-holds g c = unless_ok _ c.from_residual.result c.from_residual.ensures.0
-
-pub returns-in_err-table-clause-cost : goal.returns-in_err-table-clause-cost
-returns-in_err-table-clause-cost g c = cost_lines c.args.schema c.args.lines.items _ _ c.top.ensures.value (c.len.ensures ∙ c.args.lines.ok.0) _ _ c.tick_times.ensures
-
-pub returns-in_err-put_lines-clause-holds : goal.returns-in_err-put_lines-clause-holds
-returns-in_err-put_lines-clause-holds g c = unless_ok _ c.from_residual-in_err-put_lines.result c.from_residual-in_err-put_lines.ensures.0
-
-pub returns-in_err-put_lines-clause-cost : goal.returns-in_err-put_lines-clause-cost
-returns-in_err-put_lines-clause-cost g c = cost_lines c.args.schema c.args.lines.items _ _ c.top.ensures.value (c.len.ensures ∙ c.args.lines.ok.0) _ _ c.tick_times.ensures
-
-pub returns-clause-cost : goal.returns-clause-cost
-returns-clause-cost g c = cost_lines c.args.schema c.args.lines.items _ _ c.top.ensures.value (c.len.ensures ∙ c.args.lines.ok.0) _ _ c.tick_times.ensures
 
 pub top-requires : goal.top-requires
 top-requires g c = tt
@@ -91,3 +73,24 @@ put_lines-requires-clause-labels g c = omega (arith, c.top.ensures.greatest)
 
 pub put_lines-requires-clause-width : goal.put_lines-requires-clause-width
 put_lines-requires-clause-width g c = rw c.as_slice-width.ensures c.requires.schema.count
+
+pub returns-in_err-table : goal.returns-in_err-table
+returns-in_err-table g c =
+    record {
+      holds = unless_ok _ c.from_residual.result c.from_residual.ensures.0;
+      cost = cost_lines c.args.schema c.args.lines.items _ _ c.top.ensures.value (c.len.ensures ∙ c.args.lines.ok.0) _ _ c.tick_times.ensures;
+    }
+
+pub returns-in_err-put_lines : goal.returns-in_err-put_lines
+returns-in_err-put_lines g c =
+    record {
+      holds = unless_ok _ c.from_residual-in_err-put_lines.result c.from_residual-in_err-put_lines.ensures.0;
+      cost = cost_lines c.args.schema c.args.lines.items _ _ c.top.ensures.value (c.len.ensures ∙ c.args.lines.ok.0) _ _ c.tick_times.ensures;
+    }
+
+pub returns : goal.returns
+returns g c =
+    record {
+      holds = holds_made _ _ _ _ _ _ _ _ _ _ (parts g c);
+      cost = cost_lines c.args.schema c.args.lines.items _ _ c.top.ensures.value (c.len.ensures ∙ c.args.lines.ok.0) _ _ c.tick_times.ensures;
+    }

@@ -1,4 +1,4 @@
-use Rattle.std.proofs.Common.{◌≡◌, length, Some, ap, arith, refl}
+use Rattle.std.proofs.Common.{◌≡◌, length, Some, ap, arith, refl, rules}
 use Rattle.slab.specs.Slab.{get, slab_len}
 use Rattle.slab.proofs.SlabLemmas.{ContainsKey-within}
 use Rattle.gm_arena.specs.declared.arena.Place.{Place}
@@ -22,11 +22,6 @@ invariant_of-self-in_err-reserve_places c =
       slots_named_same c.self.inside.names_are_slots c.self.inside.places c.reserve_places.new.places c.self.invariant.2 c.in_err-reserve_places.ensures.slots,
     )
 
-pub returns-in_err-reserve_places-clause-map : goal.returns-in_err-reserve_places-clause-map
-returns-in_err-reserve_places-clause-map c =
-    let entries = entries_padded c.self.inside.table c.pad.new.self _ c.in_ok-pad.ensures.ok in
-    rw (← c.self.view_is, c.in_err-reserve_places.ensures.neighbours, c.in_err-reserve_places.ensures.values) (map_more _ _ _ _ _ _ _ _ _ _ c.self.invariant.0 c.reserve_places.new.places c.pad.new.self c.in_err-reserve_places.ensures.slots entries c.self.inside.spare)
-
 pub invariant_of-self-2 : goal.invariant_of-self-2
 invariant_of-self-2 c =
     let sound = c.self.invariant.0 in
@@ -42,45 +37,11 @@ invariant_of-self-2 c =
       slots_named_same c.self.inside.names_are_slots c.self.inside.places c.reserve_places.new.places c.self.invariant.2 slots,
     )
 
-pub returns-clause-map : goal.returns-clause-map
-returns-clause-map c =
-    let entries = entries_padded c.self.inside.table c.pad.new.self _ c.in_ok-pad.ensures.ok in
-    rw (← c.self.view_is, c.in_ok-reserve_places.ensures.neighbours, c.in_ok-reserve_places.ensures.values) (map_more _ _ _ _ _ _ _ _ _ _ c.self.invariant.0 c.reserve_places.new.places c.pad.new.self c.in_ok-reserve_places.ensures.slots entries c.max-room.result)
-
 pub pad-requires : goal.pad-requires
 pad-requires c = tt
 
 pub invariant_of-self : goal.invariant_of-self
 invariant_of-self c = rw c.in_err-pad.ensures.err c.self.invariant
-
-pub returns-in_err-pad-clause-darts : goal.returns-in_err-pad-clause-darts
-returns-in_err-pad-clause-darts c = never_ok _ c.from_residual.result c.from_residual.ensures.0
-
-pub returns-in_err-pad-clause-names : goal.returns-in_err-pad-clause-names
-returns-in_err-pad-clause-names c = never_ok _ c.from_residual.result c.from_residual.ensures.0
-
-pub returns-in_err-pad-clause-spare_stays : goal.returns-in_err-pad-clause-spare_stays
-returns-in_err-pad-clause-spare_stays c =
-    let spare : c.self.inside.spare ≡ c.args.self.now.spare = ap (λ m. m.spare) c.self.view_is in
-    omega (arith, spare)
-
-pub returns-in_err-pad-clause-spare_most : goal.returns-in_err-pad-clause-spare_most
-returns-in_err-pad-clause-spare_most c =
-    let spare : c.self.inside.spare ≡ c.args.self.now.spare = ap (λ m. m.spare) c.self.view_is in
-    omega (arith, spare)
-
-pub returns-in_err-pad-clause-reserved_stays : goal.returns-in_err-pad-clause-reserved_stays
-returns-in_err-pad-clause-reserved_stays c =
-    let reserved : length c.self.inside.table ≡ c.args.self.now.reserved = ap (λ m. m.reserved) c.self.view_is in
-    rw c.in_err-pad.ensures.err (omega (arith, reserved))
-
-pub returns-in_err-pad-clause-reserved_most : goal.returns-in_err-pad-clause-reserved_most
-returns-in_err-pad-clause-reserved_most c =
-    let reserved : length c.self.inside.table ≡ c.args.self.now.reserved = ap (λ m. m.reserved) c.self.view_is in
-    rw c.in_err-pad.ensures.err (omega (arith, reserved))
-
-pub returns-in_err-pad-clause-map : goal.returns-in_err-pad-clause-map
-returns-in_err-pad-clause-map c = rw (← c.self.view_is, c.in_err-pad.ensures.err) refl
 
 pub max-room-requires : goal.max-room-requires
 max-room-requires c = tt
@@ -105,26 +66,42 @@ reserve_places-requires-clause-width c = omega (arith, c.self.invariant.0.sized.
 pub reserve_places-requires-clause-parts : goal.reserve_places-requires-clause-parts
 reserve_places-requires-clause-parts c = c.self.invariant.1
 
-pub returns-in_err-reserve_places-clause-darts : goal.returns-in_err-reserve_places-clause-darts
-returns-in_err-reserve_places-clause-darts c = never_ok _ c.from_residual-in_err-reserve_places.result c.from_residual-in_err-reserve_places.ensures.0
+pub returns-in_err-pad : goal.returns-in_err-pad
+returns-in_err-pad c =
+    let spare : c.self.inside.spare ≡ c.args.self.now.spare = ap (λ m. m.spare) c.self.view_is in
+    let reserved : length c.self.inside.table ≡ c.args.self.now.reserved = ap (λ m. m.reserved) c.self.view_is in
+    record {
+      darts = never_ok _ c.from_residual.result c.from_residual.ensures.0;
+      names = never_ok _ c.from_residual.result c.from_residual.ensures.0;
+      spare_stays = omega (arith, spare);
+      spare_most = omega (arith, spare);
+      reserved_stays = rw c.in_err-pad.ensures.err (omega (arith, reserved));
+      reserved_most = rw c.in_err-pad.ensures.err (omega (arith, reserved));
+      map = rw (← c.self.view_is, c.in_err-pad.ensures.err) refl;
+    }
 
-pub returns-in_err-reserve_places-clause-names : goal.returns-in_err-reserve_places-clause-names
-returns-in_err-reserve_places-clause-names c = never_ok _ c.from_residual-in_err-reserve_places.result c.from_residual-in_err-reserve_places.ensures.0
+pub returns-in_err-reserve_places : goal.returns-in_err-reserve_places
+returns-in_err-reserve_places c =
+    let entries = entries_padded c.self.inside.table c.pad.new.self _ c.in_ok-pad.ensures.ok in
+    record {
+      darts = never_ok _ c.from_residual-in_err-reserve_places.result c.from_residual-in_err-reserve_places.ensures.0;
+      names = never_ok _ c.from_residual-in_err-reserve_places.result c.from_residual-in_err-reserve_places.ensures.0;
+      spare_stays = search rules;
+      spare_most = search rules;
+      reserved_stays = search rules;
+      reserved_most = search rules;
+      map = rw (← c.self.view_is, c.in_err-reserve_places.ensures.neighbours, c.in_err-reserve_places.ensures.values) (map_more _ _ _ _ _ _ _ _ _ _ c.self.invariant.0 c.reserve_places.new.places c.pad.new.self c.in_err-reserve_places.ensures.slots entries c.self.inside.spare);
+    }
 
-pub returns-clause-darts : goal.returns-clause-darts
-returns-clause-darts c = rw (← c.self.view_is) c.max-room.ensures
-
-pub returns-clause-names : goal.returns-clause-names
-returns-clause-names c = rw (← c.self.view_is) c.in_ok-pad.ensures.len
-
-pub returns-clause-spare_stays : goal.returns-clause-spare_stays
-returns-clause-spare_stays c = rw (← c.self.view_is) (omega (arith, c.max-room.ensures))
-
-pub returns-clause-spare_most : goal.returns-clause-spare_most
-returns-clause-spare_most c = rw (← c.self.view_is) (omega (arith, c.max-room.ensures))
-
-pub returns-clause-reserved_stays : goal.returns-clause-reserved_stays
-returns-clause-reserved_stays c = rw (← c.self.view_is) (omega (arith, c.in_ok-pad.ensures.len))
-
-pub returns-clause-reserved_most : goal.returns-clause-reserved_most
-returns-clause-reserved_most c = rw (← c.self.view_is) (omega (arith, c.in_ok-pad.ensures.len))
+pub returns : goal.returns
+returns c =
+    let entries = entries_padded c.self.inside.table c.pad.new.self _ c.in_ok-pad.ensures.ok in
+    record {
+      darts = rw (← c.self.view_is) c.max-room.ensures;
+      names = rw (← c.self.view_is) c.in_ok-pad.ensures.len;
+      spare_stays = rw (← c.self.view_is) (omega (arith, c.max-room.ensures));
+      spare_most = rw (← c.self.view_is) (omega (arith, c.max-room.ensures));
+      reserved_stays = rw (← c.self.view_is) (omega (arith, c.in_ok-pad.ensures.len));
+      reserved_most = rw (← c.self.view_is) (omega (arith, c.in_ok-pad.ensures.len));
+      map = rw (← c.self.view_is, c.in_ok-reserve_places.ensures.neighbours, c.in_ok-reserve_places.ensures.values) (map_more _ _ _ _ _ _ _ _ _ _ c.self.invariant.0 c.reserve_places.new.places c.pad.new.self c.in_ok-reserve_places.ensures.slots entries c.max-room.result);
+    }
