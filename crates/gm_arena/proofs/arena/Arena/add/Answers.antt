@@ -78,11 +78,6 @@ set-requires-clause-reserved g c = rw (← c.self.view_is) at c.requires.reserve
 pub set-requires-clause-few : goal.set-requires-clause-few
 set-requires-clause-few g c = c.self.invariant.0.few_reserved
 
-pub overflow_add-name : goal.overflow_add-name
-overflow_add-name g c =
-    let reserved : c.args.name < length c.self.inside.table = rw (← c.self.view_is) at c.requires.reserved in
-    omega (arith, reserved, c.self.invariant.0.few_reserved)
-
 pub max-self-inside-requires : goal.max-self-inside-requires
 max-self-inside-requires g c = tt
 
