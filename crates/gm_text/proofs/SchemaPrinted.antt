@@ -1,7 +1,8 @@
 -- How the canonical text of a schema grows as it is printed.
-use Rattle.std.proofs.Common.{◌≡◌, ℕ, zero, suc, ◌+◌, ◌<◌, ◌≤◌, ◌-◌, Bool, true, false, cond, List, [], ◌∷◌, ◌++◌, length, take, drop, get_or, refl, sym, ap, subst, ◌∙◌, append_assoc, arith, add-one}
+use Rattle.std.proofs.Common.{◌≡◌, ℕ, zero, suc, ◌+◌, ◌<◌, ◌≤◌, ◌-◌, Bool, true, false, cond, List, [], ◌∷◌, ◌++◌, length, take, drop, get_or, refl, sym, ap, subst, ◌∙◌, append_assoc, arith, add-one, codes}
 use Rattle.std.proofs.lemmas.Grind.{flat_map-append}
-use Rattle.std.proofs.lemmas.List.{append-nil, drop_more, take-append-drop}
+use borrow.Author.Count.{below_more}
+use Rattle.std.proofs.lemmas.List.{append-nil, drop_more, take-append-drop, get_or_default, take_all, take_more}
 use Rattle.std.proofs.lemmas.List.Elements.{recursion_from_All}
 use Rattle.std.specs.Prelude.{decimal}
 use Rattle.std.specs.List.{flat_map}
@@ -10,7 +11,7 @@ use Rattle.gm_model.specs.declared.word.Mask.{Mask}
 use Rattle.gm_model.specs.Labels.{has}
 use Rattle.gm_text.specs.SchemaText.{labels_below, labels_in, labels_text, embed_line}
 use Rattle.gm_text.specs.SchemaPrinting.{AreParts, IsCut, IsPart, gap_behind}
-use Rattle.gm_text.proofs.Cuts.{cut_before, cut_behind}
+use Rattle.gm_text.proofs.Cuts.{cut_before, cut_behind, written_behind}
 
 -- ---- labels
 
@@ -25,6 +26,22 @@ below_has mask k e = ap (labels_below mask) (add-one k) ∙ ap (λ (b : Bool). l
 
 pub more_text : (mask : Mask) (k : ℕ) → has mask k ≡ true → labels_text (labels_below mask (k + 1)) ≡ labels_text (labels_below mask k) ++ (gap_behind (labels_below mask k) ++ decimal k)
 more_text mask k e = ap labels_text (below_has mask k e) ∙ labels_snoc (labels_below mask k) k
+
+-- the label is printed too
+pub labels_more : (mask : Mask) (k : ℕ) (old out new gap : List ℕ) → has mask k ≡ true → out ≡ old ++ labels_text (labels_below mask k) → gap ≡ gap_behind (labels_below mask k) → new ≡ out ++ (gap ++ decimal k) → new ≡ old ++ labels_text (labels_below mask (k + 1))
+labels_more mask k old out new gap e so_far is_gap more =
+    let front = labels_text (labels_below mask k) in
+    written_behind old front (gap ++ decimal k) so_far more ∙ ap (λ (g : List ℕ). old ++ (front ++ (g ++ decimal k))) is_gap ∙ ap (λ (bytes : List ℕ). old ++ bytes) (sym (more_text mask k e))
+
+gap_snoc : (labels : List ℕ) (label : ℕ) → codes " " ≡ gap_behind (labels ++ label ∷ [])
+gap_snoc [] label = refl
+gap_snoc (first ∷ labels) label = refl
+
+pub gap_more : (mask : Mask) (k : ℕ) → has mask k ≡ true → codes " " ≡ gap_behind (labels_below mask (k + 1))
+gap_more mask k e = gap_snoc (labels_below mask k) k ∙ ap gap_behind (sym (below_has mask k e))
+
+pub none_more : (mask : Mask) (k : ℕ) → has mask k ≡ false → labels_below mask (k + 1) ≡ labels_below mask k
+none_more mask k e = ap (labels_below mask) (add-one k) ∙ ap (λ (b : Bool). labels_below mask k ++ cond b (k ∷ []) []) e ∙ append-nil (labels_below mask k)
 
 -- one more label, or none
 text_grows : (mask : Mask) (k : ℕ) → (more : List ℕ) × (labels_text (labels_below mask (suc k)) ≡ labels_text (labels_below mask k) ++ more)
@@ -78,6 +95,20 @@ all_behind lead bytes end rest = append_assoc lead (bytes ++ end) rest ∙ ap (�
 -- those before the index are parts
 abbrev pub ArePartsBelow : List Embed → ℕ → Type 0
 ArePartsBelow embeds at = (k : ℕ) (embed : Embed) → k < at → IsPart (get_or embeds k embed)
+
+-- one more of them is printed
+pub embeds_more : (embeds : List Embed) (at : ℕ) (embed : Embed) (old out new : List ℕ) → at < length embeds → get_or embeds at embed ≡ embed → out ≡ old ++ flat_map embed_line (take at embeds) → new ≡ out ++ embed_line embed → new ≡ old ++ flat_map embed_line (take (at + 1) embeds)
+embeds_more embeds at embed old out new inside is so_far more =
+    let one : flat_map embed_line (take (at + 1) embeds) ≡ flat_map embed_line (take at embeds) ++ embed_line embed =
+    ap (flat_map embed_line) (take_more embeds at embed inside) ∙ flat_map-append embed_line (take at embeds) (get_or embeds at embed ∷ []) ∙ ap (λ (e : Embed). flat_map embed_line (take at embeds) ++ (embed_line e ++ [])) is ∙ ap (λ (bytes : List ℕ). flat_map embed_line (take at embeds) ++ bytes) (append-nil (embed_line embed)) in
+    written_behind old (flat_map embed_line (take at embeds)) (embed_line embed) so_far more ∙ ap (λ (bytes : List ℕ). old ++ bytes) (sym one)
+
+pub parts_more : (embeds : List Embed) (at : ℕ) (embed : Embed) → at < length embeds → get_or embeds at embed ≡ embed → ArePartsBelow embeds at → IsPart embed → ArePartsBelow embeds (at + 1)
+parts_more embeds at embed inside is before part k other =
+    below_more (λ j. IsPart (get_or embeds j other)) at (λ j. before j other) (subst IsPart (sym is ∙ get_or_default embeds at embed other inside) part) k
+
+pub embeds_all : (embeds : List Embed) (at : ℕ) (old out : List ℕ) → length embeds ≤ at → out ≡ old ++ flat_map embed_line (take at embeds) → out ≡ old ++ flat_map embed_line embeds
+embeds_all embeds at old out end so_far = so_far ∙ ap (λ (es : List Embed). old ++ flat_map embed_line es) (take_all at embeds end)
 
 pub parts_all : (embeds : List Embed) (at : ℕ) → length embeds ≤ at → ArePartsBelow embeds at → AreParts embeds
 parts_all embeds at end before = recursion_from_All IsPart embeds (λ k embed within. before k embed (omega (arith, within, end)))

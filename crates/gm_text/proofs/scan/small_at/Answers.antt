@@ -1,4 +1,6 @@
 use Rattle.std.proofs.Common.{◌∙◌, arith}
+use Rattle.std.proofs.lemmas.List.Sums.{prefix_len-le-length}
+use Rattle.gm_text.specs.Digits.{is_small}
 use Rattle.gm_text.proofs.DigitRuns.{digit_at_start, run_end, run_value}
 use Rattle.gm_text.proofs.scan.small_at.Goals as goal
 
@@ -31,3 +33,18 @@ leading_number-requires c = record {
 
 pub digits_at-digits-requires : goal.digits_at-digits-requires
 digits_at-digits-requires c = c.requires.inside
+
+pub end-requires : goal.end-requires
+end-requires c = omega (arith, prefix_len-le-length is_small c.digits_at-digits.result, c.leading_digits-count.ensures, c.type_inv.digits.0)
+
+pub returns-in_err-end-clause-digit : goal.returns-in_err-end-clause-digit
+returns-in_err-end-clause-digit c = rw c.from_residual.ensures tt
+
+pub returns-in_err-end-clause-end : goal.returns-in_err-end-clause-end
+returns-in_err-end-clause-end c = rw c.from_residual.ensures tt
+
+pub returns-in_err-end-clause-within : goal.returns-in_err-end-clause-within
+returns-in_err-end-clause-within c = rw c.from_residual.ensures tt
+
+pub returns-in_err-end-clause-value : goal.returns-in_err-end-clause-value
+returns-in_err-end-clause-value c = rw c.from_residual.ensures tt

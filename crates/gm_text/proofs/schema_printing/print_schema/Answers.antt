@@ -58,3 +58,15 @@ returns-clause-err c =
     (cut_behind c.put.new.self digits numbered
     (cut_behind c.number.new.self (codes "\n") c.in_ok-put-2.ensures.ok (subst (λ (text : List ℕ). IsCut c.put-2.new.self text c.print_embeds.new.out) listed cut))))
     c.print_embeds.ensures.err
+
+pub returns-in_err-put-clause-parts : goal.returns-in_err-put-clause-parts
+returns-in_err-put-clause-parts c = never_ok _ c.from_residual.result c.from_residual.ensures.0
+
+pub returns-in_err-number-clause-parts : goal.returns-in_err-number-clause-parts
+returns-in_err-number-clause-parts c = never_ok _ c.from_residual-in_err-number.result c.from_residual-in_err-number.ensures.0
+
+pub returns-in_err-put-2-clause-parts : goal.returns-in_err-put-2-clause-parts
+returns-in_err-put-2-clause-parts c = never_ok _ c.from_residual-in_err-put-2.result c.from_residual-in_err-put-2.ensures.0
+
+pub returns-clause-parts : goal.returns-clause-parts
+returns-clause-parts c = rw c.as_slice.ensures at c.print_embeds.ensures.parts

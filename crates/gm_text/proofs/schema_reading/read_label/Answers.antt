@@ -77,3 +77,24 @@ returns-in_err-token-clause-onward c = unless_ok _ c.from_residual.result c.from
 
 pub returns-in_err-token-clause-within : goal.returns-in_err-token-clause-within
 returns-in_err-token-clause-within c = unless_ok _ c.from_residual.result c.from_residual.ensures.0
+
+pub returns-then-reads_sign-clause-text : goal.returns-then-reads_sign-clause-text
+returns-then-reads_sign-clause-text c = c.in_ok-token.ensures.next.text
+
+pub returns-then-reads_sign-clause-onward : goal.returns-then-reads_sign-clause-onward
+returns-then-reads_sign-clause-onward c = c.in_ok-token.ensures.next.onward
+
+pub returns-then-reads_sign-clause-within : goal.returns-then-reads_sign-clause-within
+returns-then-reads_sign-clause-within c = c.in_ok-token.ensures.next.within
+
+pub returns-clause-text : goal.returns-clause-text
+returns-clause-text c = c.in_ok-token.ensures.next.text
+
+pub returns-clause-onward : goal.returns-clause-onward
+returns-clause-onward c = c.in_ok-token.ensures.next.onward
+
+pub returns-clause-within : goal.returns-clause-within
+returns-clause-within c = c.in_ok-token.ensures.next.within
+
+pub has-requires : goal.has-requires
+has-requires c = omega (arith, c.if-value-from.false, c.from.ensures, c.top.ensures.value, c.top.ensures.greatest)
