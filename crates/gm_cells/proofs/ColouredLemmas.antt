@@ -1,7 +1,8 @@
 -- What the colours of all components say of a map: the darts of the first colour, how many components there are, and the first that has no two colours.
-use Rattle.std.proofs.Common.{◌≡◌, ◌≢◌, ℕ, ◌+◌, ◌*◌, ◌%◌, ◌<◌, ◌≤◌, eqb, Bool, true, false, List, Option, Some, None, length, replicate, refl, sym, ap, subst, ◌∙◌, inl, inr, arith}
+use Rattle.std.proofs.Common.{◌≡◌, ◌≢◌, ℕ, ◌+◌, ◌*◌, ◌%◌, ◌<◌, ◌≤◌, eqb, Bool, true, false, List, ◌++◌, Option, Some, None, length, take, replicate, refl, sym, ap, subst, ◌∙◌, inl, inr, arith}
 use Rattle.std.specs.Option.{IsSome}
 use Rattle.std.specs.FinMap.{get}
+use Rattle.std.proofs.Math.Seq.{take-append_seam}
 use Rattle.std.proofs.lemmas.Bool.{cases_eq, false≢true, ne_eqb, eq-eqb}
 use Rattle.gm_model.specs.Maps.{IsGeneralised, IsDart}
 use Rattle.gm_model.specs.Orbits.{HasOrbits}
@@ -126,3 +127,7 @@ odd_started m from slot n marks odd earlier found = record {
   by = λ other k w live leads marked. elim (found.only other k live marked) [ inl old ↦ absurd (old (zero_at n (2 * other + k % 2))) | inr by ↦ by ];
   least = found.least;
 }
+
+-- the colours that were written stand in the whole vector
+pub written_whole : (colours behind : List ℕ) (long : ℕ) → length colours ≡ long → take long (colours ++ behind) ≡ colours
+written_whole colours behind long is = ap (λ n. take n (colours ++ behind)) (sym is) ∙ take-append_seam colours behind

@@ -22,6 +22,12 @@ use Rattle.gm_cells.proofs.WalkLemmas.{step_back, turned}
 
 -- ---- a dart as the arena holds it
 
+-- a live slot of a row lies below the bound
+pub slot_room : (m : ArenaMap) → IsLawful m → (slots : List Slot) → All (λ (s : Slot). IsLiveSlot m s.at) slots → (i : ℕ) → i < length slots → (get_or slots i no_place).at < m.bound
+slot_room m lawful slots live i within =
+    let slot = get_or slots i no_place in
+    lawful.below_bound slot.at _ (IsAt-name_at m slot.at (All-get_or (λ (s : Slot). IsLiveSlot m s.at) slots i no_place within live))
+
 module _ (m : ArenaMap) (slot : Slot) (slots : List Slot) (values : List Value) (lawful : IsLawful m) (here : IsLiveSlot m slot.at) (dart : get m.darts (name_at m slot.at) ≡ Some (record { alphas = map (λ (s : Slot). name_at m s.at) slots; values = values })) where
   pub row_long : length slots ≡ m.schema.dim + 1
   row_long = sym (length-map slots (λ (s : Slot). name_at m s.at)) ∙ (lawful.dart (name_at m slot.at) _ dart).whole

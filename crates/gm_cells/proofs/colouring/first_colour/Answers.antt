@@ -1,4 +1,5 @@
-use Rattle.std.proofs.Common.{◌+◌, ◌≤◌, sym, ap, subst, ◌∙◌, arith}
+use Rattle.std.proofs.Common.{◌+◌, ◌≤◌, refl, sym, ap, subst, ◌∙◌, arith}
+use Rattle.gm_model.proofs.Exits.{unless_ok}
 use Rattle.gm_arena.proofs.MapLemmas.{name_below}
 use Rattle.gm_cells.specs.Ascending.{IsAscendingOf}
 use Rattle.gm_cells.proofs.Ascending.{none_below, gap, next_has, next_not}
@@ -62,3 +63,15 @@ returns g c =
       first = first_colour_is m lawful gmap c.args.colours.now c.args.found c.requires.painted c.requires.fits c.loop-slot.first.items
           (gap P c.loop-slot.from m.next c.loop-slot.first.items c.loop-slot.invariant.low (λ d low high one. (let b = below_all m c.loop-slot.from c.in_default.ensures.slot d one.0 in omega (arith, b, low))) (c.loop-slot.invariant.listed lawful gmap));
     }
+
+pub prove-unreachable-requires : goal.prove-unreachable-requires
+prove-unreachable-requires g c = omega (arith, c.requires.long, c.bound.ensures.bound)
+
+pub name_of-name-requires : goal.name_of-name-requires
+name_of-name-requires g c = rw c.in-Some.ensures.slot.at refl
+
+pub bounds-colours-slot : goal.bounds-colours-slot
+bounds-colours-slot g c = omega (arith, c.requires.long, c.bound.ensures.lawful.below_bound c.in-Some.slot.at _ c.name_of-name.ensures.name)
+
+pub returns-in_err-push : goal.returns-in_err-push
+returns-in_err-push g c = record { first = unless_ok _ c.from_residual.result c.from_residual.ensures.0 }

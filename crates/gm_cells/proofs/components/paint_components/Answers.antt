@@ -1,4 +1,6 @@
-use Rattle.std.proofs.Common.{◌+◌, ◌≤◌, refl, sym, subst, ◌∙◌, None, arith}
+use Rattle.std.proofs.Common.{ℕ, ◌+◌, ◌≤◌, length, refl, sym, ap, subst, ◌∙◌, None, arith}
+use Rattle.std.proofs.lemmas.List.{length-replicate}
+use Rattle.gm_model.proofs.Exits.{unless_ok}
 use Rattle.gm_arena.specs.ArenaMap.{IsLiveSlot, name_at}
 use Rattle.gm_arena.proofs.MapLemmas.{IsAt-name_at, name_at-is, name_below}
 use Rattle.gm_cells.specs.Painted.{ArePainted}
@@ -69,3 +71,47 @@ pub returns-clause-painted : goal.returns-clause-painted
 returns-clause-painted g c =
     let m = c.args.arena.now in
     all_painted m c.bound.ensures.lawful c.requires.generalised c.loop-slot.from c.loop-slot.colours c.loop-slot.found c.loop-slot.invariant.painted c.in_default.ensures.slot m.next c.loop-slot.invariant.low
+
+pub prove-unreachable-requires : goal.prove-unreachable-requires
+prove-unreachable-requires g c = omega (arith, ap length c.requires.none, length-replicate {A = ℕ} c.args.arena.now.bound 0, c.bound.ensures.bound)
+
+pub bounds-colours-slot : goal.bounds-colours-slot
+bounds-colours-slot g c =
+    let m = c.args.arena.now in
+    let slot = c.in-Some.slot.at in
+    let live : IsLiveSlot m slot = rw c.in-Some.ensures.slot.at refl in
+    omega (arith, c.loop-slot.invariant.long, ap length c.requires.none, length-replicate {A = ℕ} m.bound 0, c.bound.ensures.lawful.below_bound slot _ (IsAt-name_at m slot live))
+
+pub add_component-requires-clause-generalised : goal.add_component-requires-clause-generalised
+add_component-requires-clause-generalised g c = c.requires.generalised
+
+pub add_component-requires-clause-lawful : goal.add_component-requires-clause-lawful
+add_component-requires-clause-lawful g c = c.bound.ensures.lawful
+
+pub add_component-requires-clause-live : goal.add_component-requires-clause-live
+add_component-requires-clause-live g c = rw c.in-Some.ensures.slot.at refl
+
+pub add_component-requires-clause-long : goal.add_component-requires-clause-long
+add_component-requires-clause-long g c = c.loop-slot.invariant.long ∙ ap length c.requires.none ∙ length-replicate c.args.arena.now.bound 0
+
+pub add_component-requires-clause-few : goal.add_component-requires-clause-few
+add_component-requires-clause-few g c =
+    let m = c.args.arena.now in
+    let lawful = c.bound.ensures.lawful in
+    let slot = c.in-Some.slot.at in
+    let live : IsLiveSlot m slot = rw c.in-Some.ensures.slot.at refl in
+    let at = IsAt-name_at m slot live in
+    let low = name_up m c.loop-slot.from slot (name_at m slot) at c.in-Some.ensures.slot in
+    omega (arith, low, c.loop-slot.invariant.few, name_below m (name_at m slot) lawful (lawful.live slot (name_at m slot) at), lawful.few_names)
+
+pub returns-in_err-found-clause-painted : goal.returns-in_err-found-clause-painted
+returns-in_err-found-clause-painted g c = unless_ok _ c.from_residual.result c.from_residual.ensures.0
+
+pub returns-in_err-found-clause-long : goal.returns-in_err-found-clause-long
+returns-in_err-found-clause-long g c = c.add_component.ensures.long ∙ c.loop-slot.invariant.long
+
+pub name_of-from-requires : goal.name_of-from-requires
+name_of-from-requires g c = rw c.in-Some.ensures.slot.at refl
+
+pub returns-clause-long : goal.returns-clause-long
+returns-clause-long g c = c.loop-slot.invariant.long

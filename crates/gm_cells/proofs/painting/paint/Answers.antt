@@ -1,5 +1,6 @@
 use Rattle.std.proofs.Common.{◌∷◌, ◌++◌, [], true, refl, sym, ap, subst, ◌∙◌, arith}
 use Rattle.std.proofs.lemmas.List.{length-set}
+use Rattle.gm_model.proofs.Exits.{unless_ok}
 use Rattle.gm_arena.proofs.MapLemmas.{IsAt-name_at}
 use Rattle.gm_arena.specs.ArenaMap.{name_at}
 use Rattle.gm_cells.specs.Painted.{IsPainting}
@@ -23,3 +24,24 @@ loop-at-preserved g c = record {
   long = c.in_ok-fits.ensures.long ∙ c.loop-at.invariant.long;
   painting = c.in_ok-fits.ensures.painting _ _ c.loop-at.invariant.painting;
 }
+
+pub returns-in_err-push-clause-painted : goal.returns-in_err-push-clause-painted
+returns-in_err-push-clause-painted g c = unless_ok _ c.from_residual.result c.from_residual.ensures.0
+
+pub returns-in_err-push-clause-long : goal.returns-in_err-push-clause-long
+returns-in_err-push-clause-long g c = length-set c.args.colours.now c.args.from.at 1
+
+pub paint_neighbours-requires-clause-lawful : goal.paint_neighbours-requires-clause-lawful
+paint_neighbours-requires-clause-lawful g c = c.bound.ensures.lawful
+
+pub paint_neighbours-requires-clause-long : goal.paint_neighbours-requires-clause-long
+paint_neighbours-requires-clause-long g c = c.loop-at.invariant.long ∙ c.requires.long
+
+pub returns-in_err-fits-clause-painted : goal.returns-in_err-fits-clause-painted
+returns-in_err-fits-clause-painted g c = unless_ok _ c.from_residual-in_err-fits.result c.from_residual-in_err-fits.ensures.0
+
+pub returns-in_err-fits-clause-long : goal.returns-in_err-fits-clause-long
+returns-in_err-fits-clause-long g c = c.paint_neighbours.ensures.long ∙ c.loop-at.invariant.long
+
+pub returns-clause-long : goal.returns-clause-long
+returns-clause-long g c = c.loop-at.invariant.long

@@ -3,9 +3,10 @@ use Rattle.std.specs.FinMap.{get}
 use Rattle.std.proofs.lemmas.List.{get_or_read, get_or_append_left, get_or-set_other, length-set, length_push}
 use Rattle.gm_arena.specs.ArenaMap.{IsAt, IsLiveSlot, alpha, name_at}
 use Rattle.gm_arena.specs.declared.slot.Slot.{Slot}
-use Rattle.gm_arena.proofs.MapLemmas.{name_at-is}
+use Rattle.gm_model.proofs.Exits.{unless_ok}
+use Rattle.gm_arena.proofs.MapLemmas.{IsAt-name_at, name_at-is}
 use Rattle.gm_cells.specs.Painted.{colour_in, no_place, queued_at}
-use Rattle.gm_cells.proofs.PaintLemmas.{row_long, row_there, neighbour_new, neighbour_clash, neighbour_fits, dart_done}
+use Rattle.gm_cells.proofs.PaintLemmas.{slot_room, row_long, row_there, neighbour_new, neighbour_clash, neighbour_fits, dart_done}
 use Rattle.gm_cells.proofs.painting.paint_neighbours.Goals as goal
 use Rattle.gm_cells.proofs.painting.paint_neighbours.Goals.{then-there-eq-NONE+in_ok-push, else-there-eq-NONE+then-there-own+then-to-slot, else-there-eq-NONE+else-there-own, else-there-own-via-then-there-own+else-to-slot, else-there-own-via-else-there-own}
 
@@ -75,3 +76,38 @@ returns-clause-painting g c =
     let dart = subst (λ d. get m.darts d ≡ Some (record { alphas = map (λ (s : Slot). name_at m s.at) alphas; values = c.row.result.values.now })) (sym (name_at-is m slot.at c.row.result.name c.row.ensures.name)) c.row.ensures.dart in
     let long = row_long m slot alphas c.row.result.values.now c.requires.lawful alive dart in
     λ d old s. dart_done m d old c.args.at c.loop-to.to-index c.loop-to.fits c.loop-to.colours c.loop-to.queue.items (omega (arith, long, c.loop-to-test.false, c.loop-to.auto.to-index-end)) (c.loop-to.invariant.painting d old s)
+
+pub bounds-colours-slot : goal.bounds-colours-slot
+bounds-colours-slot g c =
+    let m = c.args.arena.now in
+    let slot = c.index-slot.result.now in
+    let first = get_or_read c.args.queue.now.items c.args.at slot c.requires.within c.index-slot.ensures no_place in
+    let live = subst (λ (s : Slot). IsLiveSlot m s.at) (sym first) c.requires.live in
+    omega (arith, c.requires.long, c.requires.lawful.below_bound slot.at _ (IsAt-name_at m slot.at live))
+
+pub row-requires : goal.row-requires
+row-requires g c =
+    let first = get_or_read c.args.queue.now.items c.args.at c.index-slot.result.now c.requires.within c.index-slot.ensures no_place in
+    subst (λ (s : Slot). IsLiveSlot c.args.arena.now s.at) (sym first) c.requires.live
+
+pub bounds-colours-to : goal.bounds-colours-to
+bounds-colours-to g c = omega (arith, slot_room c.args.arena.now c.requires.lawful c.row.result.alphas.now c.row.ensures.live c.loop-to.to-index c.loop-to-test.true, c.loop-to.invariant.long, c.requires.long)
+
+pub bounds-colours-to-then-there-eq-NONE : goal.bounds-colours-to-then-there-eq-NONE
+bounds-colours-to-then-there-eq-NONE g c = omega (arith, slot_room c.args.arena.now c.requires.lawful c.row.result.alphas.now c.row.ensures.live c.loop-to.to-index c.loop-to-test.true, c.loop-to.invariant.long, c.requires.long)
+
+pub overflow_sub-colours : goal.overflow_sub-colours
+overflow_sub-colours g c =
+    let slot = c.index-slot.result.now in
+    let first = get_or_read c.args.queue.now.items c.args.at slot c.requires.within c.index-slot.ensures no_place in
+    let own : colour_in c.args.colours.now slot.at ≡ colour_in c.args.colours.now (queued_at c.args.queue.now.items c.args.at) = ap (λ (s : Slot). colour_in c.args.colours.now s.at) first in
+    omega (arith, own, c.requires.two)
+
+pub returns-in_err-push-clause-painting : goal.returns-in_err-push-clause-painting
+returns-in_err-push-clause-painting g c = unless_ok _ c.from_residual.result c.from_residual.ensures.0
+
+pub returns-in_err-push-clause-long : goal.returns-in_err-push-clause-long
+returns-in_err-push-clause-long g c = length-set c.loop-to.colours _ _ ∙ c.loop-to.invariant.long
+
+pub returns-clause-long : goal.returns-clause-long
+returns-clause-long g c = c.loop-to.invariant.long
