@@ -1,14 +1,16 @@
-use Rattle.std.proofs.Common.{◌≡◌, ◌++◌, ℕ, true, List, codes, refl, subst, arith}
+use Rattle.std.proofs.Common.{◌≡◌, ◌++◌, ℕ, true, List, codes, refl, ap, subst, arith}
 use Rattle.std.proofs.lemmas.Bool.Decides.{nat_tests}
 use Rattle.std.specs.Prelude.{nat_lt, OnOk, OnErr}
 use Rattle.std.proofs.lemmas.Result.{on_err_weaker, on_ok_weaker}
+use Rattle.gm_model.specs.declared.expr.Expr.{Expr}
 use Rattle.gm_model.specs.Rules.{rule_of}
 use Rattle.gm_model.specs.Trees.{Tree, tree_of}
 use Rattle.gm_text.specs.SchemaPrinting.{IsCut}
 use Rattle.gm_expr.specs.ExprText.{expr_text, head_of, level, sign_of, tail_of, wrapped}
 use Rattle.gm_parse.specs.Levels.{least_of_part, least_on_left, least_on_right}
-use Rattle.gm_model.proofs.Exits.{on_err}
+use Rattle.gm_model.proofs.Exits.{never_ok, on_err}
 use Rattle.gm_text.proofs.Cuts.{cut_at_once, cut_before, cut_behind, cut_behind_lead, written_behind, written_behind_lead}
+use Rattle.gm_expr.proofs.Sizes.{size}
 use Rattle.gm_expr.proofs.printing.+print.Goals as goal
 
 -- ---- behind a lead
@@ -230,3 +232,125 @@ print_part-returns-in_err-print_behind-clause-err t c =
     let text = expr_text c.args.schema.now (rule_of c.args.rule.now) tree in
     let lower : nat_lt (level tree) c.args.least ≡ true = grind (arith, nat_tests, c.if-level_of-least.false, c.level_of.ensures) in
     on_err c.from_residual.result (cut_within c.args.least tree text c.args.out.now c.print_behind.new.out lower c.in_err-print_behind.ensures.err)
+
+-- ---- an expression by its variant, and calls of smaller ones
+
+pub print_behind-print_expr-requires : goal.print_behind-print_expr-requires
+print_behind-print_expr-requires t c = (omega (arith, c.decreases), c.requires)
+
+pub print_binary-print_part-requires : goal.print_binary-print_part-requires
+print_binary-print_part-requires t c = (omega (arith, c.decreases), c.requires.left)
+
+pub print_if-print_behind-requires : goal.print_if-print_behind-requires
+print_if-print_behind-requires t c = (omega (arith, c.decreases), c.requires.condition)
+
+pub print_pair-print_behind-requires : goal.print_pair-print_behind-requires
+print_pair-print_behind-requires t c = (omega (arith, c.decreases), c.requires.x)
+
+pub print_triple-print_behind-requires : goal.print_triple-print_behind-requires
+print_triple-print_behind-requires t c = (omega (arith, c.decreases), c.requires.first)
+
+pub print_part-print_expr-requires : goal.print_part-print_expr-requires
+print_part-print_expr-requires t c = (omega (arith, c.decreases), c.requires)
+
+pub print_part-print_behind-requires : goal.print_part-print_behind-requires
+print_part-print_behind-requires t c = (omega (arith, c.decreases), c.requires)
+
+pub print_unary-print_part-requires : goal.print_unary-print_part-requires
+print_unary-print_part-requires t c = (omega (arith, c.decreases), c.requires)
+
+pub print_behind-returns-in_err-put-clause-ok : goal.print_behind-returns-in_err-put-clause-ok
+print_behind-returns-in_err-put-clause-ok t c = never_ok _ c.from_residual.result c.from_residual.ensures.0
+
+pub print_binary-returns-in_err-put-clause-ok : goal.print_binary-returns-in_err-put-clause-ok
+print_binary-returns-in_err-put-clause-ok t c = never_ok _ c.from_residual-in_err-put.result c.from_residual-in_err-put.ensures.0
+
+pub print_unary-returns-in_err-put-clause-ok : goal.print_unary-returns-in_err-put-clause-ok
+print_unary-returns-in_err-put-clause-ok t c = never_ok _ c.from_residual.result c.from_residual.ensures.0
+
+pub print_expr-returns-in-Field-clause-ok : goal.print_expr-returns-in-Field-clause-ok
+print_expr-returns-in-Field-clause-ok t c = rw c.in-Field.is c.print_field.ensures.ok
+
+pub print_expr-returns-in-Field-clause-err : goal.print_expr-returns-in-Field-clause-err
+print_expr-returns-in-Field-clause-err t c = rw c.in-Field.is c.print_field.ensures.err
+
+pub print_expr-returns-in-Same-clause-ok : goal.print_expr-returns-in-Same-clause-ok
+print_expr-returns-in-Same-clause-ok t c = rw c.in-Same.is c.print_same.ensures.ok
+
+pub print_expr-returns-in-Same-clause-err : goal.print_expr-returns-in-Same-clause-err
+print_expr-returns-in-Same-clause-err t c = rw c.in-Same.is c.print_same.ensures.err
+
+pub print_expr-returns-in-Count-clause-ok : goal.print_expr-returns-in-Count-clause-ok
+print_expr-returns-in-Count-clause-ok t c = rw c.in-Count.is c.print_count.ensures.ok
+
+pub print_expr-returns-in-Count-clause-err : goal.print_expr-returns-in-Count-clause-err
+print_expr-returns-in-Count-clause-err t c = rw c.in-Count.is c.print_count.ensures.err
+
+pub print_expr-returns-in-Sum-clause-ok : goal.print_expr-returns-in-Sum-clause-ok
+print_expr-returns-in-Sum-clause-ok t c = rw c.in-Sum.is c.print_collector.ensures.ok
+
+pub print_expr-returns-in-Sum-clause-err : goal.print_expr-returns-in-Sum-clause-err
+print_expr-returns-in-Sum-clause-err t c = rw c.in-Sum.is c.print_collector.ensures.err
+
+pub print_expr-returns-in-Least-clause-ok : goal.print_expr-returns-in-Least-clause-ok
+print_expr-returns-in-Least-clause-ok t c = rw c.in-Least.is c.print_collector-in-Least.ensures.ok
+
+pub print_expr-returns-in-Least-clause-err : goal.print_expr-returns-in-Least-clause-err
+print_expr-returns-in-Least-clause-err t c = rw c.in-Least.is c.print_collector-in-Least.ensures.err
+
+pub print_expr-returns-in-Greatest-clause-ok : goal.print_expr-returns-in-Greatest-clause-ok
+print_expr-returns-in-Greatest-clause-ok t c = rw c.in-Greatest.is c.print_collector-in-Greatest.ensures.ok
+
+pub print_expr-returns-in-Greatest-clause-err : goal.print_expr-returns-in-Greatest-clause-err
+print_expr-returns-in-Greatest-clause-err t c = rw c.in-Greatest.is c.print_collector-in-Greatest.ensures.err
+
+pub print_expr-returns-in-Unary-clause-ok : goal.print_expr-returns-in-Unary-clause-ok
+print_expr-returns-in-Unary-clause-ok t c = rw (c.in-Unary.is, ← c.deref.ensures) c.print_unary.ensures.ok
+
+pub print_expr-returns-in-Unary-clause-err : goal.print_expr-returns-in-Unary-clause-err
+print_expr-returns-in-Unary-clause-err t c = rw (c.in-Unary.is, ← c.deref.ensures) c.print_unary.ensures.err
+
+pub print_expr-print_unary-requires : goal.print_expr-print_unary-requires
+print_expr-print_unary-requires t c =
+    let named = rw c.in-Unary.is at c.requires in
+    (omega (arith, c.decreases, ap (λ (e : Expr). size (tree_of e)) c.in-Unary.is, ap (λ (e : Expr). size (tree_of e)) c.deref.ensures), rw c.deref.ensures named)
+
+pub print_expr-returns-in-Binary-clause-ok : goal.print_expr-returns-in-Binary-clause-ok
+print_expr-returns-in-Binary-clause-ok t c = rw (c.in-Binary.is, ← c.deref-in-Binary.ensures, ← c.deref-in-Binary-2.ensures) c.print_binary.ensures.ok
+
+pub print_expr-returns-in-Binary-clause-err : goal.print_expr-returns-in-Binary-clause-err
+print_expr-returns-in-Binary-clause-err t c = rw (c.in-Binary.is, ← c.deref-in-Binary.ensures, ← c.deref-in-Binary-2.ensures) c.print_binary.ensures.err
+
+pub print_expr-print_binary-requires : goal.print_expr-print_binary-requires
+print_expr-print_binary-requires t c =
+    let named = rw c.in-Binary.is at c.requires in
+    (omega (arith, c.decreases, ap (λ (e : Expr). size (tree_of e)) c.in-Binary.is, ap (λ (e : Expr). size (tree_of e)) c.deref-in-Binary.ensures, ap (λ (e : Expr). size (tree_of e)) c.deref-in-Binary-2.ensures), (rw c.deref-in-Binary.ensures named.0, rw c.deref-in-Binary-2.ensures named.1))
+
+pub print_expr-returns-in-If-clause-ok : goal.print_expr-returns-in-If-clause-ok
+print_expr-returns-in-If-clause-ok t c = rw (c.in-If.is, ← c.deref-in-If.ensures, ← c.deref-in-If-2.ensures, ← c.deref-in-If-3.ensures) c.print_if.ensures.ok
+
+pub print_expr-returns-in-If-clause-err : goal.print_expr-returns-in-If-clause-err
+print_expr-returns-in-If-clause-err t c = rw (c.in-If.is, ← c.deref-in-If.ensures, ← c.deref-in-If-2.ensures, ← c.deref-in-If-3.ensures) c.print_if.ensures.err
+
+pub print_expr-returns-in-MakeVec2-clause-ok : goal.print_expr-returns-in-MakeVec2-clause-ok
+print_expr-returns-in-MakeVec2-clause-ok t c = rw (c.in-MakeVec2.is, ← c.deref-in-MakeVec2.ensures, ← c.deref-in-MakeVec2-2.ensures) c.print_pair.ensures.ok
+
+pub print_expr-returns-in-MakeVec2-clause-err : goal.print_expr-returns-in-MakeVec2-clause-err
+print_expr-returns-in-MakeVec2-clause-err t c = rw (c.in-MakeVec2.is, ← c.deref-in-MakeVec2.ensures, ← c.deref-in-MakeVec2-2.ensures) c.print_pair.ensures.err
+
+pub print_expr-print_pair-requires : goal.print_expr-print_pair-requires
+print_expr-print_pair-requires t c =
+    let named = rw c.in-MakeVec2.is at c.requires in
+    (omega (arith, c.decreases, ap (λ (e : Expr). size (tree_of e)) c.in-MakeVec2.is, ap (λ (e : Expr). size (tree_of e)) c.deref-in-MakeVec2.ensures, ap (λ (e : Expr). size (tree_of e)) c.deref-in-MakeVec2-2.ensures), (rw c.deref-in-MakeVec2.ensures named.0, rw c.deref-in-MakeVec2-2.ensures named.1))
+
+pub print_expr-returns-in-MakeVec3-clause-ok : goal.print_expr-returns-in-MakeVec3-clause-ok
+print_expr-returns-in-MakeVec3-clause-ok t c = rw (c.in-MakeVec3.is, ← c.deref-in-MakeVec3.ensures, ← c.deref-in-MakeVec3-2.ensures, ← c.deref-in-MakeVec3-3.ensures) c.print_triple.ensures.ok
+
+pub print_expr-returns-in-MakeVec3-clause-err : goal.print_expr-returns-in-MakeVec3-clause-err
+print_expr-returns-in-MakeVec3-clause-err t c = rw (c.in-MakeVec3.is, ← c.deref-in-MakeVec3.ensures, ← c.deref-in-MakeVec3-2.ensures, ← c.deref-in-MakeVec3-3.ensures) c.print_triple.ensures.err
+
+pub print_expr-returns-in-MakeRgb-clause-ok : goal.print_expr-returns-in-MakeRgb-clause-ok
+print_expr-returns-in-MakeRgb-clause-ok t c = rw (c.in-MakeRgb.is, ← c.deref-in-MakeRgb.ensures, ← c.deref-in-MakeRgb-2.ensures, ← c.deref-in-MakeRgb-3.ensures) c.print_triple-in-MakeRgb.ensures.ok
+
+pub print_expr-returns-in-MakeRgb-clause-err : goal.print_expr-returns-in-MakeRgb-clause-err
+print_expr-returns-in-MakeRgb-clause-err t c = rw (c.in-MakeRgb.is, ← c.deref-in-MakeRgb.ensures, ← c.deref-in-MakeRgb-2.ensures, ← c.deref-in-MakeRgb-3.ensures) c.print_triple-in-MakeRgb.ensures.err
