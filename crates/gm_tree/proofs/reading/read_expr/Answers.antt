@@ -1,7 +1,8 @@
-use Rattle.std.proofs.Common.{subst}
+use Rattle.std.proofs.Common.{refl, subst}
 use Rattle.std.proofs.lemmas.Result.{err_from_is_err_and}
 use Rattle.gm_model.specs.Trees.{tree_of}
 use Rattle.gm_text.specs.Cursor.{Cursor}
+use Rattle.gm_model.proofs.Exits.{on_err, unless_ok}
 use Rattle.gm_tree.specs.Building.{work_of}
 use Rattle.gm_tree.specs.Built.{IsBuiltOver}
 use Rattle.gm_tree.specs.FirstNames.{first_names}
@@ -47,3 +48,39 @@ returns-clause-behind c =
     let names = first_names c.args.env.now.schema.now c.args.env.now.params.now c.args.env.now.nodes.now in
     let over = subst (λ (cursor : Cursor). IsBuiltOver n names cursor c.build.new.lexer (work_of c.in_ok-built.built.builder c.in_ok-built.built.partial)) c.fork-ahead.ensures c.in_ok-built.ensures.over in
     over.behind
+
+pub returns-in_err-built-clause-expr : goal.returns-in_err-built-clause-expr
+returns-in_err-built-clause-expr c = unless_ok _ c.from_residual.result c.from_residual.ensures.0
+
+pub returns-in_err-built-clause-behind : goal.returns-in_err-built-clause-behind
+returns-in_err-built-clause-behind c = unless_ok _ c.from_residual.result c.from_residual.ensures.0
+
+pub returns-in_err-built-clause-unsigned : goal.returns-in_err-built-clause-unsigned
+returns-in_err-built-clause-unsigned c = unless_ok _ c.from_residual.result c.from_residual.ensures.0
+
+pub returns-in_err-built-clause-in_range : goal.returns-in_err-built-clause-in_range
+returns-in_err-built-clause-in_range c = unless_ok _ c.from_residual.result c.from_residual.ensures.0
+
+pub returns-in_err-built-clause-text : goal.returns-in_err-built-clause-text
+returns-in_err-built-clause-text c = refl
+
+pub returns-in_err-built-clause-refused : goal.returns-in_err-built-clause-refused
+returns-in_err-built-clause-refused c = on_err c.from_residual.result refl
+
+pub returns-in_err-expr-clause-expr : goal.returns-in_err-expr-clause-expr
+returns-in_err-expr-clause-expr c = unless_ok _ c.from_residual-in_err-expr.result c.from_residual-in_err-expr.ensures.0
+
+pub returns-in_err-expr-clause-behind : goal.returns-in_err-expr-clause-behind
+returns-in_err-expr-clause-behind c = unless_ok _ c.from_residual-in_err-expr.result c.from_residual-in_err-expr.ensures.0
+
+pub returns-in_err-expr-clause-unsigned : goal.returns-in_err-expr-clause-unsigned
+returns-in_err-expr-clause-unsigned c = unless_ok _ c.from_residual-in_err-expr.result c.from_residual-in_err-expr.ensures.0
+
+pub returns-in_err-expr-clause-in_range : goal.returns-in_err-expr-clause-in_range
+returns-in_err-expr-clause-in_range c = unless_ok _ c.from_residual-in_err-expr.result c.from_residual-in_err-expr.ensures.0
+
+pub returns-in_err-expr-clause-text : goal.returns-in_err-expr-clause-text
+returns-in_err-expr-clause-text c = refl
+
+pub returns-in_err-expr-clause-refused : goal.returns-in_err-expr-clause-refused
+returns-in_err-expr-clause-refused c = on_err c.from_residual-in_err-expr.result refl
