@@ -3,7 +3,8 @@ use Rattle.std.proofs.Common.{◌≡◌, ℕ, Bool, true, false, if◌then◌els
 use Rattle.std.specs.List.{AllZip, Contains}
 use Rattle.std.specs.Option.{unwrap_or}
 use Rattle.std.specs.Str.{bytes_eq}
-use Rattle.std.specs.Result.{MatchResult}
+use Rattle.std.specs.Prelude.{IfOk}
+use Rattle.std.specs.Result.{MatchResult, result_err}
 use Rattle.std.proofs.lemmas.Bool.{cases_Bool}
 use Rattle.std.proofs.lemmas.List.Elements.{Contains-append_left, Contains-append_right, Contains-append_cases}
 use Rattle.gm_model.specs.declared.rule.Param.{Param}
@@ -34,6 +35,17 @@ at_ok P Q r x is told = subst (λ (k : Result _ NameFault). MatchResult k P Q) i
 
 pub at_err : {A : Type 0} (P : A → Type 0) (Q : NameFault → Type 0) (r : Result A NameFault) (fault : NameFault) → r ≡ Err fault → MatchResult r P Q → Q fault
 at_err P Q r fault is told = subst (λ (k : Result _ NameFault). MatchResult k P Q) is told
+
+pub ok_at : {A : Type 0} (P : A → Type 0) (r : Result A NameFault) (x : A) → r ≡ Ok x → IfOk r P → P x
+ok_at P r x is told = subst (λ (k : Result _ NameFault). IfOk k P) is told
+
+pub least_at : {A : Type 0} (P : NameFault → Type 0) (r s : Result A NameFault) → r ≡ s → IsLeast P (result_err r) → IsLeast P (result_err s)
+least_at P r s is least = subst (λ (k : Result _ NameFault). IsLeast P (result_err k)) is least
+
+-- the first fault of all, or this one where none comes before it
+pub least_or : (P : NameFault → Type 0) (first : Option NameFault) (fault : NameFault) → IsLeast P first → P fault → IsLeast P (Some (unwrap_or first fault))
+least_or P (Some first) fault least found = least
+least_or P None fault least found = absurd (least fault found)
 
 -- ---- assignments and nodes
 

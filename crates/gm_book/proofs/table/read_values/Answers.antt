@@ -78,3 +78,24 @@ returns-in_err-pre-in-Ok-clause-params c = unless_ok _ c.from_residual-in_err-pr
 
 pub returns-in_err-pre-in-Ok-clause-values : goal.returns-in_err-pre-in-Ok-clause-values
 returns-in_err-pre-in-Ok-clause-values c = unless_ok _ c.from_residual-in_err-pre-in-Ok.result c.from_residual-in_err-pre-in-Ok.ensures.0
+
+pub numbered_parts-requires-clause-good : goal.numbered_parts-requires-clause-good
+numbered_parts-requires-clause-good c = c.requires.good
+
+pub assigned-requires-clause-good : goal.assigned-requires-clause-good
+assigned-requires-clause-good c = c.requires.good
+
+pub pre-requires-clause-within : goal.pre-requires-clause-within
+pre-requires-clause-within c = c.requires.within.4
+
+pub pre-requires-clause-expr : goal.pre-requires-clause-expr
+pre-requires-clause-expr c = c.requires.exprs.pre
+
+pub returns-in-Ok-2-clause-params : goal.returns-in-Ok-2-clause-params
+returns-in-Ok-2-clause-params c = c.in_ok-params.ensures.params
+
+pub returns-in-Err-2-clause-params : goal.returns-in-Err-2-clause-params
+returns-in-Err-2-clause-params c = tt
+
+pub returns-in-Err-clause-params : goal.returns-in-Err-clause-params
+returns-in-Err-clause-params c = tt
