@@ -3,6 +3,7 @@ use Rattle.std.proofs.Common.{◌≡◌, ℕ, ◌+◌, ◌*◌, ◌<◌, ◌≤�
 use Rattle.std.specs.List.{flat_map}
 use Rattle.std.specs.FinMap.{get, keys}
 use Rattle.std.proofs.lemmas.Bool.{cases_lt, false≢true}
+use Rattle.std.proofs.lemmas.List.{append-nil}
 use Rattle.std.proofs.lemmas.Nat.{mul-le}
 use Rattle.gm_arena.specs.ArenaMap.{ArenaMap, Dart, IsAt}
 use Rattle.gm_arena.specs.InOrder.{HasNoneFrom, IsFirstFrom}
@@ -23,6 +24,17 @@ pub record ArePrinted (m : ArenaMap) (from : ℕ) (front text : List ℕ) (start
   pub most : steps ≤ start + (m.schema.dim + 3) * count
   pub least : start + count ≤ steps
 
+pub none_printed : (m : ArenaMap) (front : List ℕ) (start : ℕ) → ArePrinted m 0 front front start start
+none_printed m front start = record {
+  count = 0;
+  within = omega arith;
+  below = λ k less. absurd (omega (arith, less));
+  above = λ k past inside. omega arith;
+  lines = sym (append-nil front);
+  most = omega arith;
+  least = omega arith;
+}
+
 module _ (m : ArenaMap) (lawful : IsLawful m) (from : ℕ) (front text : List ℕ) (start steps : ℕ) (before : ArePrinted m from front text start steps) where
   long : length (keys m.darts) ≡ m.count
   long = keys_counted m lawful
@@ -41,6 +53,9 @@ module _ (m : ArenaMap) (lawful : IsLawful m) (from : ℕ) (front text : List �
   pub all_printed : HasNoneFrom m from → text ≡ front ++ flat_map line_of (darts_of m)
   all_printed none =
       before.lines ∙ ap (λ darts. front ++ flat_map line_of darts) (whole_taken (darts_of m) before.count (omega (arith, all_counted none, darts_counted m lawful)))
+
+  pub all_most : HasNoneFrom m from → steps ≤ start + (m.schema.dim + 3) * m.count
+  all_most none = subst (λ k. steps ≤ start + (m.schema.dim + 3) * k) (all_counted none) before.most
 
   pub all_steps : HasNoneFrom m from → start + m.count ≤ steps
   all_steps none = omega (arith, before.least, all_counted none)

@@ -1,11 +1,12 @@
 -- A draft whose lines are taken in another order lists the same darts in another order, and an arena of the one is an arena of the other.
-use Rattle.std.proofs.Common.{◌≡◌, ℕ, zero, suc, ◌+◌, ◌-◌, ◌*◌, ◌/◌, ◌<◌, ◌≤◌, List, [], ◌∷◌, ◌++◌, length, map, take, drop, slice_index_or, is_some, All, sym, ap, ap₂, subst, ◌∙◌, arith}
+use Rattle.std.proofs.Common.{◌≡◌, ℕ, zero, suc, ◌+◌, ◌-◌, ◌*◌, ◌/◌, ◌<◌, ◌≤◌, List, [], ◌∷◌, ◌++◌, length, map, take, drop, get_or, slice_index_or, is_some, All, sym, ap, ap₂, subst, ◌∙◌, append_assoc, arith}
 use Rattle.std.specs.Prelude.{IsPermutation}
 use Rattle.std.specs.Option.{option_map, option_map_or}
 use Rattle.std.proofs.Math.Nat.{div-mul-le_self, mul-div_left}
 use Rattle.std.specs.List.{AllByRecursion}
 use Rattle.std.proofs.lemmas.Nat.{mul-le}
-use Rattle.std.proofs.lemmas.List.{length-drop, length-take-le, length-append, take_at, drop_at}
+use Rattle.std.proofs.lemmas.List.{append-nil, length-drop, length-take-le, length-append, map-append, take_at, take_all, take_more, drop_at}
+use Rattle.std.proofs.lemmas.List.Concat.{flat_map-append}
 use Rattle.std.proofs.lemmas.List.Elements.{All-take, All-drop, All-append, All-from_recursion}
 use Rattle.std.proofs.lemmas.List.Sorted.{IsPermutation-map, length_permutation, sum_by-IsPermutation}
 use Rattle.gm_model.specs.Breaches.{IsFirstWithoutTarget}
@@ -68,6 +69,24 @@ module _ {A : Type 0} (width : ℕ) (all : List A) where
       All-append P (on_line width all line) (on_lines width all lines)
       (All-take P (line * width + width - line * width) (drop (line * width) all) (All-drop P (line * width) all each))
       (all_on_lines P each lines)
+
+module _ {A : Type 0} (width : ℕ) (all : List A) (lines : List Line) (i : ℕ) (start taken : List A) where
+  -- what was taken up to a line, and then what stands on it
+  pub taken_more : i < length lines → taken ≡ start ++ on_lines width all (map (λ (line : Line). line.at) (take i lines))
+      → taken ++ on_line width all (get_or lines i (record { name = 0; at = 0 })).at ≡ start ++ on_lines width all (map (λ (line : Line). line.at) (take (i + 1) lines))
+  taken_more within is =
+      let place : Line → ℕ = λ line. line.at in
+      let line : Line = get_or lines i (record { name = 0; at = 0 }) in
+      let seen = map place (take i lines) in
+      let more : on_lines width all (map place (take (i + 1) lines)) ≡ on_lines width all seen ++ on_line width all line.at =
+      ap (λ ls. on_lines width all (map place ls)) (take_more lines i (record { name = 0; at = 0 }) within)
+      ∙ (ap (on_lines width all) (map-append place (take i lines) (line ∷ []))
+      ∙ (flat_map-append (on_line width all) seen (line.at ∷ [])
+      ∙ ap (λ xs. on_lines width all seen ++ xs) (append-nil (on_line width all line.at)))) in
+      ap (λ xs. xs ++ on_line width all line.at) is ∙ (append_assoc start (on_lines width all seen) (on_line width all line.at) ∙ ap (λ xs. start ++ xs) (sym more))
+
+  pub taken_all : length lines ≤ i → taken ≡ start ++ on_lines width all (map (λ (line : Line). line.at) (take i lines)) → taken ≡ start ++ on_lines width all (map (λ (line : Line). line.at) lines)
+  taken_all all_seen is = is ∙ ap (λ ls. start ++ on_lines width all (map (λ (line : Line). line.at) ls)) (take_all i lines all_seen)
 
 -- what holds of the places of lines holds of the lines
 lines_within : {A : Type 0} (width : ℕ) (all : List A) (lines : List Line) → AreWithin width all (map (λ (line : Line). line.at) lines) → All (λ (line : Line). line.at * width + width ≤ length all) lines

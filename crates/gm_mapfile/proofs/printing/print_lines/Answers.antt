@@ -1,6 +1,7 @@
 use Rattle.std.proofs.Common.{◌++◌, ap, ◌∙◌, arith}
+use Rattle.gm_model.proofs.Exits.{never_ok}
 use Rattle.gm_mapfile.proofs.Printed.{slots_long, values_few}
-use Rattle.gm_mapfile.proofs.PrintedLines.{all_printed, all_steps, name_low, one_more, more_most}
+use Rattle.gm_mapfile.proofs.PrintedLines.{none_printed, all_printed, all_most, all_steps, name_low, one_more, more_most}
 use Rattle.gm_mapfile.proofs.printing.print_lines.Goals as goal
 
 pub write_line-start-requires-clause-names : goal.write_line-start-requires-clause-names
@@ -47,3 +48,19 @@ returns-clause-lines g c =
 pub returns-clause-least : goal.returns-clause-least
 returns-clause-least g c =
     omega (arith, all_steps c.args.arena.now c.requires c.loop-slot.from c.args.text.now c.loop-slot.text c.args.steps.now c.loop-slot.steps c.loop-slot.invariant c.in_default.ensures.slot, c.in_default.ensures.cost)
+
+pub loop-slot-init : goal.loop-slot-init
+loop-slot-init g c = none_printed c.args.arena.now c.args.text.now c.args.steps.now
+
+pub write_line-start-requires-clause-live : goal.write_line-start-requires-clause-live
+write_line-start-requires-clause-live g c = c.row-row.ensures.live
+
+pub returns-in_err-put_from-clause-lines : goal.returns-in_err-put_from-clause-lines
+returns-in_err-put_from-clause-lines g c = never_ok _ c.from_residual.result c.from_residual.ensures.0
+
+pub returns-in_err-put_from-clause-least : goal.returns-in_err-put_from-clause-least
+returns-in_err-put_from-clause-least g c = never_ok _ c.from_residual.result c.from_residual.ensures.0
+
+pub returns-clause-most : goal.returns-clause-most
+returns-clause-most g c =
+    omega (arith, all_most c.args.arena.now c.requires c.loop-slot.from c.args.text.now c.loop-slot.text c.args.steps.now c.loop-slot.steps c.loop-slot.invariant c.in_default.ensures.slot, c.in_default.ensures.cost)
