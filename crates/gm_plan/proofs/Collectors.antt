@@ -5,6 +5,7 @@ use Rattle.std.proofs.lemmas.Bool.{cases_lt}
 use Rattle.std.proofs.lemmas.Option.{same_Some, slice_get-map, slice_get-get_or, slice_get_within, get_or_from_slice_get}
 use Rattle.gm_model.specs.declared.rule.Node.{Node}
 use Rattle.gm_model.specs.declared.rule.RuleTable.{RuleTable}
+use Rattle.gm_model.specs.declared.rule.Set.{Set}
 use Rattle.gm_model.specs.Rules.{Assignment, RuleNode, assignment_of, node_of, rule_of}
 use Rattle.gm_model.specs.Trees.{Tree, tree_of}
 use Rattle.gm_plan.specs.Collecting.{Collects, CollectsNothing, SetsCollect, collects}
@@ -58,3 +59,15 @@ none_more nodes e i read at none before x node less there some = go (cases_lt x 
         let same : x ≡ i = omega (arith, less, last) in
         let one : node ≡ read = same_Some node read (sym there ∙ ap (slice_get nodes) same ∙ at) in
         none (subst (λ (n : Node). SetsCollect n.sets e) one some)
+
+-- one assignment more
+pub no_set_more : (sets : List Set) (e i : ℕ) (read : Set) → slice_get sets i ≡ Some read → (read.embed ≡ e → collects (tree_of read.expr) ≡ false)
+    → ((k : ℕ) (s : Set) → k < i → slice_get sets k ≡ Some s → s.embed ≡ e → collects (tree_of s.expr) ≡ false) → (k : ℕ) (s : Set) → k < i + 1 → slice_get sets k ≡ Some s → s.embed ≡ e → collects (tree_of s.expr) ≡ false
+no_set_more sets e i read at none before k s less there of = go (cases_lt k i)
+  where
+    go : (k < i) ⊎ (i ≤ k) → collects (tree_of s.expr) ≡ false
+    go (inl earlier) = before k s earlier there of
+    go (inr last) =
+        let same : k ≡ i = omega (arith, less, last) in
+        let one : s ≡ read = same_Some s read (sym there ∙ ap (slice_get sets) same ∙ at) in
+        ap (λ (set : Set). collects (tree_of set.expr)) one ∙ none (sym (ap (λ (set : Set). set.embed) one) ∙ of)

@@ -1,6 +1,9 @@
 -- The steps of a search for the least paths, and that it has found the least path to each node in the end.
-use Rattle.std.proofs.Common.{◌≡◌, ◌≢◌, ℕ, ◌+◌, ◌<◌, ◌≤◌, ◌⊎◌, inl, inr, ◌↔◌, Bool, true, false, cond, eqb, List, [], ◌∷◌, ◌++◌, length, Option, Some, refl, sym, ap, subst, ◌∙◌, arith, append-nil, append_assoc}
-use Rattle.std.proofs.lemmas.Bool.{cases_lt, eq-eqb, ne_eqb}
+use Rattle.std.proofs.Common.{◌≡◌, ◌≢◌, ℕ, ◌+◌, ◌<◌, ◌≤◌, ◌⊎◌, inl, inr, ◌↔◌, Bool, true, false, cond, eqb, List, [], ◌∷◌, ◌++◌, length, Option, Some, None, is_some, refl, sym, ap, subst, ◌∙◌, arith, append-nil, append_assoc}
+use Rattle.std.specs.Prelude.{not}
+use Rattle.std.specs.Option.{option_eq}
+use Rattle.std.proofs.lemmas.Bool.{cases_lt, eq-eqb, ne_eqb, eqb-true, false≢true}
+use Rattle.std.proofs.lemmas.Option.{same_Some}
 use Rattle.std.specs.List.{Contains}
 use Rattle.gm_model.specs.declared.rule.Link.{Link}
 use Rattle.gm_model.specs.declared.step.Step.{Step}
@@ -18,6 +21,47 @@ below_or_at s n h = elim (cases_lt s n) [ inl b ↦ inl b | inr b ↦ inr (omega
 
 pub same_end : (y z : ℕ) → Exp y ≡ Exp z → y ≡ z
 same_end y z e = cc
+
+-- ---- the end of a step, unless it has a rank
+
+module _ (rank : ℕ → Option ℕ) (step : Step) (here : Option ℕ) (q : ℕ) where
+  abbrev IsNewEnd : ℕ → Type 0
+  IsNewEnd y = (here ≡ Some q) × (step ≡ Exp y) × (rank y ≡ None)
+
+  none_new : ((y : ℕ) → IsNewEnd y → ⊥) → (y : ℕ) → (None ≡ Some y) ↔ IsNewEnd y
+  none_new none y = (λ e. absurd cc, λ h. absurd (none y h))
+
+  differ : true ≡ not (option_eq eqb here (Some q)) → here ≡ Some q → ⊥
+  differ told same =
+      let e : true ≡ not (eqb q q) = told ∙ ap (λ (o : Option ℕ). not (option_eq eqb o (Some q))) same in
+      false≢true (sym (e ∙ ap not (eq-eqb q q refl)))
+
+  same_rank : (o : Option ℕ) → false ≡ not (option_eq eqb o (Some q)) → o ≡ Some q
+  same_rank None told = absurd cc
+  same_rank (Some r) told = go (eqb r q) refl
+    where
+      go : (b : Bool) → eqb r q ≡ b → Some r ≡ Some q
+      go true is = ap Some (eqb-true r q is)
+      go false is = absurd (false≢true (told ∙ ap not is))
+
+  no_rank : (o : Option ℕ) → false ≡ is_some o → o ≡ None
+  no_rank None told = refl
+  no_rank (Some r) told = absurd (false≢true told)
+
+  pub other_rank : true ≡ not (option_eq eqb here (Some q)) → (y : ℕ) → (None ≡ Some y) ↔ IsNewEnd y
+  other_rank told = none_new (λ y h. differ told h.0)
+
+  pub no_end : ((y : ℕ) → step ≡ Exp y → ⊥) → (y : ℕ) → (None ≡ Some y) ↔ IsNewEnd y
+  no_end none = none_new (λ y h. none y h.1)
+
+  pub end_with_rank : (to : ℕ) → step ≡ Exp to → true ≡ is_some (rank to) → (y : ℕ) → (None ≡ Some y) ↔ IsNewEnd y
+  end_with_rank to is told = none_new (λ y h. false≢true (sym (told ∙ ap is_some (ap rank (same_end to y (sym is ∙ h.1)) ∙ h.2))))
+
+  pub new_end : false ≡ not (option_eq eqb here (Some q)) → (to : ℕ) → step ≡ Exp to → false ≡ is_some (rank to) → (y : ℕ) → (Some to ≡ Some y) ↔ IsNewEnd y
+  new_end told to is free y = (
+    λ e. let same : to ≡ y = same_Some to y e in (same_rank here told, is ∙ ap Exp same, sym (ap rank same) ∙ no_rank (rank to) free),
+    λ h. ap Some (same_end to y (sym is ∙ h.1)),
+  )
 
 pub leads_on : (steps : ℕ → ℕ → Step) (x : ℕ) (path : List ℕ) (y i z : ℕ) → StepsLead steps x path y → steps y i ≡ Exp z → StepsLead steps x (path ++ i ∷ []) z
 leads_on steps x [] y i z h e = (z, subst (λ w. steps w i ≡ Exp z) (sym h) e, refl)
