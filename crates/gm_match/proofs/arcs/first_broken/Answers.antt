@@ -32,3 +32,54 @@ returns-in-Imp-clause-first g c =
     let found = c.args.found.now in
     let is_met : Step → ℕ → Type 0 = λ s p. IsStepMet (alpha m) (place_of m found) c.args.test.node p c.args.test.label s in
     subst (λ s. MatchOption c.first_unturned.result (AreGood (is_met s) c.args.end) (IsFirstBad (is_met s) c.args.end)) (sym c.in-Imp.is ∙ c.requires.kept (imp_some c.args.test.step _ c.in-Imp.is)) c.first_unturned.ensures.first
+
+pub first_unlinked-requires-clause-lawful : goal.first_unlinked-requires-clause-lawful
+first_unlinked-requires-clause-lawful g c = c.requires.matchable.lawful
+
+pub first_unlinked-requires-clause-map : goal.first_unlinked-requires-clause-map
+first_unlinked-requires-clause-map g c = c.requires.matchable.generalised
+
+pub first_unlinked-requires-clause-live : goal.first_unlinked-requires-clause-live
+first_unlinked-requires-clause-live g c = c.requires.candidate.1.laid.slots
+
+pub first_unlinked-requires-clause-node : goal.first_unlinked-requires-clause-node
+first_unlinked-requires-clause-node g c = c.requires.node
+
+pub first_unlinked-requires-clause-label : goal.first_unlinked-requires-clause-label
+first_unlinked-requires-clause-label g c = c.requires.label
+
+pub first_unlinked-requires-clause-end : goal.first_unlinked-requires-clause-end
+first_unlinked-requires-clause-end g c = c.requires.end
+
+pub first_unturned-requires-clause-lawful : goal.first_unturned-requires-clause-lawful
+first_unturned-requires-clause-lawful g c = c.requires.matchable.lawful
+
+pub first_unturned-requires-clause-live : goal.first_unturned-requires-clause-live
+first_unturned-requires-clause-live g c = c.requires.candidate.1.laid.slots
+
+pub first_unturned-requires-clause-node : goal.first_unturned-requires-clause-node
+first_unturned-requires-clause-node g c = c.requires.node
+
+pub first_unturned-requires-clause-label : goal.first_unturned-requires-clause-label
+first_unturned-requires-clause-label g c = c.requires.label
+
+pub first_unturned-requires-clause-end : goal.first_unturned-requires-clause-end
+first_unturned-requires-clause-end g c = c.requires.end
+
+pub returns-in-Absent-clause-cost : goal.returns-in-Absent-clause-cost
+returns-in-Absent-clause-cost g c = omega arith
+
+pub returns-in-Absent-clause-least : goal.returns-in-Absent-clause-least
+returns-in-Absent-clause-least g c = omega arith
+
+pub returns-in-Exp-clause-cost : goal.returns-in-Exp-clause-cost
+returns-in-Exp-clause-cost g c = c.first_unlinked.ensures.cost
+
+pub returns-in-Exp-clause-least : goal.returns-in-Exp-clause-least
+returns-in-Exp-clause-least g c = c.first_unlinked.ensures.least
+
+pub returns-in-Imp-clause-cost : goal.returns-in-Imp-clause-cost
+returns-in-Imp-clause-cost g c = c.first_unturned.ensures.cost
+
+pub returns-in-Imp-clause-least : goal.returns-in-Imp-clause-least
+returns-in-Imp-clause-least g c = c.first_unturned.ensures.least

@@ -1,5 +1,5 @@
 use Rattle.std.proofs.Common.{ℕ, ◌+◌, ◌*◌, ◌≤◌, get_or, length, sym, subst, ◌∙◌, inl, inr, arith}
-use Rattle.std.proofs.lemmas.Bool.{cases_eq}
+use Rattle.std.proofs.lemmas.Bool.{cases_eq, false≢true}
 use Rattle.std.proofs.lemmas.Option.{same_Some, slice_get-get_or, slice_get_within}
 use Rattle.std.proofs.Math.Nat.{le_trans}
 use Rattle.gm_arena.specs.ArenaAsMap.{as_map}
@@ -73,3 +73,31 @@ returns-clause-cost g c =
     let rule = rule_of c.args.plan.now.table in
     let few = subst (λ (s : Schema). length tests ≤ length rule.nodes * (s.dim + 1)) (sym c.requires.matchable.schema) c.tests-test-items.ensures.few in
     tests_cost (c.args.arena.now.schema.dim + 1) (length rule.nodes) c.args.found.now.positions (length tests) c.loop-test.test-index _ _ (omega (arith, c.loop-test.auto.test-index-end)) few c.loop-test.invariant.cost
+
+pub loop-test-init : goal.loop-test-init
+loop-test-init g c = record {
+  met = λ t test less here. absurd (omega (arith, less));
+  cost = omega arith;
+  least = omega arith;
+}
+
+pub loop-test-smaller : goal.loop-test-smaller
+loop-test-smaller g c = omega (arith, c.loop-test-test.true)
+
+pub first_broken-requires-clause-matchable : goal.first_broken-requires-clause-matchable
+first_broken-requires-clause-matchable g c = c.requires.matchable
+
+pub first_broken-requires-clause-candidate : goal.first_broken-requires-clause-candidate
+first_broken-requires-clause-candidate g c = c.requires.candidate
+
+pub first_broken-requires-clause-end : goal.first_broken-requires-clause-end
+first_broken-requires-clause-end g c = omega (arith, c.positions-positions.ensures.value)
+
+pub returns-then-is_some-clause-met : goal.returns-then-is_some-clause-met
+returns-then-is_some-clause-met g c = λ yes. absurd (false≢true yes)
+
+pub returns-then-is_some-clause-least : goal.returns-then-is_some-clause-least
+returns-then-is_some-clause-least g c = le_trans c.loop-test.invariant.least c.first_broken.ensures.least
+
+pub returns-clause-least : goal.returns-clause-least
+returns-clause-least g c = c.loop-test.invariant.least

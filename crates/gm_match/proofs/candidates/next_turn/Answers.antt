@@ -1,4 +1,4 @@
-use Rattle.std.proofs.Common.{Some, ap, ◌∙◌}
+use Rattle.std.proofs.Common.{Some, ap, ◌∙◌, arith}
 use Rattle.std.proofs.Math.Nat.{lt_of_le_of_lt, lt_of_lt_of_le}
 use Rattle.std.proofs.lemmas.Option.{slice_get-get_or, slice_get_within}
 use Rattle.gm_match.proofs.FirstTurns.{not_before, not_here}
@@ -24,3 +24,13 @@ returns-clause-first c =
       here = slice_get-get_or c.args.turns.now c.loop-turn.turn 0 within ∙ ap Some c.loop-turn-test.false;
       before = λ j less. c.requires.some.1.before j (lt_of_lt_of_le less at_most);
     }
+
+pub overflow_add-turn : goal.overflow_add-turn
+overflow_add-turn c =
+    let within = lt_of_le_of_lt (c.loop-turn.invariant c.requires.some.0 c.requires.some.1) (slice_get_within c.args.turns.now c.requires.some.0 c.args.position c.requires.some.1.here) in
+    omega (arith, within)
+
+pub loop-turn-smaller : goal.loop-turn-smaller
+loop-turn-smaller c =
+    let within = lt_of_le_of_lt (c.loop-turn.invariant c.requires.some.0 c.requires.some.1) (slice_get_within c.args.turns.now c.requires.some.0 c.args.position c.requires.some.1.here) in
+    omega (arith, within)

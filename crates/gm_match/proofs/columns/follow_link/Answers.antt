@@ -1,4 +1,4 @@
-use Rattle.std.proofs.Common.{◌+◌, ◌*◌, inr, length, sym, ◌∙◌, arith}
+use Rattle.std.proofs.Common.{◌+◌, ◌*◌, inl, inr, length, sym, ◌∙◌, arith}
 use Rattle.std.proofs.Math.Nat.{le_refl}
 use Rattle.std.proofs.lemmas.List.Elements.{All-set, All-get_or}
 use Rattle.gm_arena.specs.declared.slot.Slot.{Slot}
@@ -58,3 +58,15 @@ returns-clause-live g c = c.loop-position.invariant.live
 
 pub returns-clause-long : goal.returns-clause-long
 returns-clause-long g c = c.loop-position.invariant.so_far.long
+
+pub returns-clause-led : goal.returns-clause-led
+returns-clause-led g c = λ p less. c.loop-position.invariant.so_far.made p (omega (arith, less, c.loop-position-test.false))
+
+pub returns-clause-stays : goal.returns-clause-stays
+returns-clause-stays g c = λ x p within apart. c.loop-position.invariant.so_far.stays x p within (inl apart)
+
+pub returns-clause-cost : goal.returns-clause-cost
+returns-clause-cost g c = omega (arith, c.loop-position.invariant.cost, c.loop-position-test.false, c.loop-position.auto.position-end)
+
+pub loop-position-smaller : goal.loop-position-smaller
+loop-position-smaller g c = omega (arith, c.loop-position-test.true)
