@@ -45,3 +45,17 @@ loop-line-init c =
 
 pub returns-clause-names : goal.returns-clause-names
 returns-clause-names c = c.loop-line.invariant.names
+
+pub returns-then-name-end-clause-end : goal.returns-then-name-end-clause-end
+returns-then-name-end-clause-end c = tt
+
+pub returns-then-name-end-clause-names : goal.returns-then-name-end-clause-names
+returns-then-name-end-clause-names c = tt
+
+pub overflow_add-end : goal.overflow_add-end
+overflow_add-end c =
+    let before = c.loop-line.invariant in
+    let steps = c.in-Some.ensures.steps in
+    let line = c.in-Some.line.now in
+    let live = name_live c.args.top before.front c.args.numbers.now _ line _ before.split steps.1.0 (steps.1.1 ∙ before.size) in
+    omega (arith, rows_below c.args.top most_names c.args.numbers.now c.requires (get_or line 0 0) live)

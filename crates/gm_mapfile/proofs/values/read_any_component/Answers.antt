@@ -27,3 +27,18 @@ returns-in_err-minus-clause-takes c = unless_ok _ c.from_residual.result c.from_
 
 pub returns-in_err-minus-clause-channel : goal.returns-in_err-minus-clause-channel
 returns-in_err-minus-clause-channel c = unless_ok _ c.from_residual.result c.from_residual.ensures.0
+
+pub returns-in_default-clause-takes : goal.returns-in_default-clause-takes
+returns-in_default-clause-takes c = tt
+
+pub returns-in_default-clause-channel : goal.returns-in_default-clause-channel
+returns-in_default-clause-channel c = tt
+
+pub returns-then-value-gt255-clause-takes : goal.returns-then-value-gt255-clause-takes
+returns-then-value-gt255-clause-takes c = tt
+
+pub returns-then-value-gt255-clause-channel : goal.returns-then-value-gt255-clause-channel
+returns-then-value-gt255-clause-channel c = tt
+
+pub returns-clause-misses : goal.returns-clause-misses
+returns-clause-misses c = tt
