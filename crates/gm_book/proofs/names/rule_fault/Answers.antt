@@ -17,3 +17,18 @@ returns-in_err-names c = unless_ok _ c.from_residual.result c.from_residual.ensu
 
 pub returns-in_err-values_fault : goal.returns-in_err-values_fault
 returns-in_err-values_fault c = unless_ok _ c.from_residual-in_err-values_fault.result c.from_residual-in_err-values_fault.ensures.0
+
+pub rule_names_fault-requires : goal.rule_names_fault-requires
+rule_names_fault-requires c = c.requires.within
+
+pub values_fault-requires-clause-within : goal.values_fault-requires-clause-within
+values_fault-requires-clause-within c = c.requires.within
+
+pub values_fault-requires-clause-fits : goal.values_fault-requires-clause-fits
+values_fault-requires-clause-fits c = c.requires.fits
+
+pub values_fault-requires-clause-exprs : goal.values_fault-requires-clause-exprs
+values_fault-requires-clause-exprs c = c.requires.exprs
+
+pub values_fault-requires-clause-schema : goal.values_fault-requires-clause-schema
+values_fault-requires-clause-schema c = c.requires.schema

@@ -1,9 +1,10 @@
 use Rattle.std.proofs.Common.{◌≡◌, List, map, sym, ap, subst, ◌∙◌}
+use Rattle.std.specs.List.{AllByRecursion}
 use Rattle.gm_model.specs.Rules.{node_of}
 use Rattle.gm_tree.specs.FirstNames.{first_names}
 use Rattle.gm_forms.specs.declared.form.Item.{Item}
 use Rattle.gm_forms.specs.BookText.{names_for, param_of}
-use Rattle.gm_forms.specs.Forms.{item_of, rule_form_of}
+use Rattle.gm_forms.specs.Forms.{IsItemIn, item_of, rule_form_of}
 use Rattle.gm_book.specs.FirstNameFault.{IsLeast, IsAssignedFault, IsFaultOfValues}
 use Rattle.gm_book.proofs.ValueFaults.{least_of_values}
 use Rattle.gm_book.proofs.ValueNames.{names_same}
@@ -34,3 +35,18 @@ returns-in_err-sets c = unless_ok _ c.from_residual-in_err-sets.result c.from_re
 
 pub returns-in_err-pre_fault : goal.returns-in_err-pre_fault
 returns-in_err-pre_fault c = unless_ok _ c.from_residual-in_err-pre_fault.result c.from_residual-in_err-pre_fault.ensures.0
+
+pub parts_of-requires : goal.parts_of-requires
+parts_of-requires c = c.requires.within
+
+pub items_fault-requires-clause-within : goal.items_fault-requires-clause-within
+items_fault-requires-clause-within c = subst (AllByRecursion (IsItemIn c.args.text.now)) (sym c.as_slice-3.ensures.value) c.requires.within.3
+
+pub items_fault-requires-clause-exprs : goal.items_fault-requires-clause-exprs
+items_fault-requires-clause-exprs c = rw c.as_slice-3.ensures.value c.requires.exprs.sets
+
+pub pre_fault-requires-clause-within : goal.pre_fault-requires-clause-within
+pre_fault-requires-clause-within c = c.requires.within.4
+
+pub pre_fault-requires-clause-expr : goal.pre_fault-requires-clause-expr
+pre_fault-requires-clause-expr c = c.requires.exprs.pre
