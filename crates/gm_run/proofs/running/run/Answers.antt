@@ -27,35 +27,6 @@ use Rattle.gm_run.proofs.running.run.Goals as goal
 
 -- ---- the loop
 
-pub stat_outcome-requires-clause-sound : goal.stat_outcome-requires-clause-sound
-stat_outcome-requires-clause-sound g c = c.loop-index.invariant.sound
-
-pub stat_outcome-requires-clause-plans : goal.stat_outcome-requires-clause-plans
-stat_outcome-requires-clause-plans g c = subst (λ schema. ArePlansFor schema c.args.plans.now) (sym c.loop-index.invariant.schema) c.requires.plans
-
-pub stat_outcome-requires-clause-good : goal.stat_outcome-requires-clause-good
-stat_outcome-requires-clause-good g c =
-    let within : c.loop-index.index < length c.args.script.now.stats = slice_get_within c.args.script.now.stats c.loop-index.index (stat_of c.get-stat.result) c.get-stat.ensures in
-    let same = get_or_from_slice_get c.args.script.now.stats c.loop-index.index (stat_of c.get-stat.result) (stat_of c.get-stat.result) c.get-stat.ensures in
-    subst (λ (schema : Schema). IsGoodStat (rules_of c.args.plans.now) schema.dim (stat_of c.get-stat.result)) (sym c.loop-index.invariant.schema)
-    (subst (IsGoodStat (rules_of c.args.plans.now) c.args.arena.now.schema.dim) same (c.requires.good c.loop-index.index (stat_of c.get-stat.result) within))
-
-pub stat_outcome-requires-clause-stands : goal.stat_outcome-requires-clause-stands
-stat_outcome-requires-clause-stands g c =
-    let keeps = ltb c.loop-index.index c.needing-needing.result in
-    let through = through_as (rules_of c.args.plans.now) (as_map c.args.arena.now) c.requires.sound (take c.loop-index.index c.args.script.now.stats) c.loop-index.outcomes.items c.loop-index.standing c.loop-index.arena c.args.steps.now c.loop-index.steps keeps
-    (still_kept c.loop-index.standing.keeps c.loop-index.index c.needing-needing.result c.loop-index.invariant.kept) c.loop-index.invariant.through in
-    (through.state, through.costs, through.stands)
-
-pub stat_outcome-requires-clause-needs : goal.stat_outcome-requires-clause-needs
-stat_outcome-requires-clause-needs g c needs =
-    lt-ltb c.loop-index.index c.needing-needing.result (c.needing-needing.ensures c.loop-index.index (stat_of c.get-stat.result) c.get-stat.ensures needs)
-
-pub stat_outcome-requires-clause-allowed : goal.stat_outcome-requires-clause-allowed
-stat_outcome-requires-clause-allowed g c =
-    allowed c.loop-index.standing.group (stat_of c.get-stat.result) (drop (c.loop-index.index + 1) c.args.script.now.stats)
-    (subst (AreInOrder (is_open c.loop-index.standing.group)) (behind c.args.script.now.stats c.loop-index.index (stat_of c.get-stat.result) c.get-stat.ensures) c.loop-index.invariant.order)
-
 pub prove-unreachable-requires : goal.prove-unreachable-requires
 prove-unreachable-requires g c = never_more c.args.arena.now c.count.result c.count.ensures.lawful c.count.ensures.count c.if-prove.true
 
@@ -107,175 +78,98 @@ loop-index-preserved g c =
 
 -- ---- memory is wanting
 
-pub returns-in_err-outcomes-clause-cut : goal.returns-in_err-outcomes-clause-cut
-returns-in_err-outcomes-clause-cut g c =
-    let p = err_from_is_err_and c.from_residual.result c.from_residual.ensures.1 in
-    rw p.1 (cut_first (rules_of c.args.plans.now) (as_map c.args.arena.now) c.requires.sound c.args.script.now.stats c.args.steps.now)
+-- ---- all statements were run
 
-pub returns-in_err-outcome-clause-cut : goal.returns-in_err-outcome-clause-cut
-returns-in_err-outcome-clause-cut g c =
+-- ---- what else is owed where memory is wanting
+
+-- ---- and behind the last statement
+
+pub returns-in_err-outcomes : goal.returns-in_err-outcomes
+returns-in_err-outcomes g c =
+    let p = err_from_is_err_and c.from_residual.result c.from_residual.ensures.1 in
+    record {
+      run = unless_ok _ c.from_residual.result c.from_residual.ensures.0;
+      only = unless_ok _ c.from_residual.result c.from_residual.ensures.0;
+      most = λ outcomes after bounds run. no_less c.args.steps.now bounds.most;
+      least = unless_ok _ c.from_residual.result c.from_residual.ensures.0;
+      bounds = unless_ok _ c.from_residual.result c.from_residual.ensures.0;
+      darts = unless_ok _ c.from_residual.result c.from_residual.ensures.0;
+      next = unless_ok _ c.from_residual.result c.from_residual.ensures.0;
+      printable = unless_ok _ c.from_residual.result c.from_residual.ensures.0;
+      cut = rw p.1 (cut_first (rules_of c.args.plans.now) (as_map c.args.arena.now) c.requires.sound c.args.script.now.stats c.args.steps.now);
+      sound = c.requires.sound;
+      schema = refl;
+      spare_stays = le_refl _;
+      reserved_stays = le_refl _;
+    }
+
+pub stat_outcome-requires : goal.stat_outcome-requires
+stat_outcome-requires g c =
+    let within : c.loop-index.index < length c.args.script.now.stats = slice_get_within c.args.script.now.stats c.loop-index.index (stat_of c.get-stat.result) c.get-stat.ensures in
+    let same = get_or_from_slice_get c.args.script.now.stats c.loop-index.index (stat_of c.get-stat.result) (stat_of c.get-stat.result) c.get-stat.ensures in
+    let keeps = ltb c.loop-index.index c.needing-needing.result in
+    record {
+      sound = c.loop-index.invariant.sound;
+      plans = subst (λ schema. ArePlansFor schema c.args.plans.now) (sym c.loop-index.invariant.schema) c.requires.plans;
+      good = subst (λ (schema : Schema). IsGoodStat (rules_of c.args.plans.now) schema.dim (stat_of c.get-stat.result)) (sym c.loop-index.invariant.schema)
+          (subst (IsGoodStat (rules_of c.args.plans.now) c.args.arena.now.schema.dim) same (c.requires.good c.loop-index.index (stat_of c.get-stat.result) within));
+      stands = let through = through_as (rules_of c.args.plans.now) (as_map c.args.arena.now) c.requires.sound (take c.loop-index.index c.args.script.now.stats) c.loop-index.outcomes.items c.loop-index.standing c.loop-index.arena c.args.steps.now c.loop-index.steps keeps
+          (still_kept c.loop-index.standing.keeps c.loop-index.index c.needing-needing.result c.loop-index.invariant.kept) c.loop-index.invariant.through in
+          (through.state, through.costs, through.stands);
+      allowed = allowed c.loop-index.standing.group (stat_of c.get-stat.result) (drop (c.loop-index.index + 1) c.args.script.now.stats)
+          (subst (AreInOrder (is_open c.loop-index.standing.group)) (behind c.args.script.now.stats c.loop-index.index (stat_of c.get-stat.result) c.get-stat.ensures) c.loop-index.invariant.order);
+      needs = λ needs. lt-ltb c.loop-index.index c.needing-needing.result (c.needing-needing.ensures c.loop-index.index (stat_of c.get-stat.result) c.get-stat.ensures needs);
+    }
+
+pub returns-in_err-outcome : goal.returns-in_err-outcome
+returns-in_err-outcome g c =
     let p = err_from_is_err_and c.from_residual-in_err-outcome.result c.from_residual-in_err-outcome.ensures.1 in
     let rules = rules_of c.args.plans.now in
     let before = as_map c.args.arena.now in
     let keeps = ltb c.loop-index.index c.needing-needing.result in
-    let through = through_as (rules_of c.args.plans.now) (as_map c.args.arena.now) c.requires.sound (take c.loop-index.index c.args.script.now.stats) c.loop-index.outcomes.items c.loop-index.standing c.loop-index.arena c.args.steps.now c.loop-index.steps keeps
-    (still_kept c.loop-index.standing.keeps c.loop-index.index c.needing-needing.result c.loop-index.invariant.kept) c.loop-index.invariant.through in
-    let cut = stat_cut rules before c.requires.sound c.args.script.now.stats c.loop-index.index c.loop-index.outcomes.items (keeping keeps c.loop-index.standing) c.loop-index.arena (as_map c.stat_outcome.new.arena) c.args.steps.now c.loop-index.steps c.stat_outcome.new.steps
-    through (stat_of c.get-stat.result) c.get-stat.ensures (c.in_err-outcome.ensures.step through.state through.costs through.stands) in
-    rw p.1 cut.short
+    record {
+      run = unless_ok _ c.from_residual-in_err-outcome.result c.from_residual-in_err-outcome.ensures.0;
+      only = unless_ok _ c.from_residual-in_err-outcome.result c.from_residual-in_err-outcome.ensures.0;
+      most = let through = through_as (rules_of c.args.plans.now) (as_map c.args.arena.now) c.requires.sound (take c.loop-index.index c.args.script.now.stats) c.loop-index.outcomes.items c.loop-index.standing c.loop-index.arena c.args.steps.now c.loop-index.steps keeps
+          (still_kept c.loop-index.standing.keeps c.loop-index.index c.needing-needing.result c.loop-index.invariant.kept) c.loop-index.invariant.through in
+          let cut = stat_cut rules before c.requires.sound c.args.script.now.stats c.loop-index.index c.loop-index.outcomes.items (keeping keeps c.loop-index.standing) c.loop-index.arena (as_map c.stat_outcome.new.arena) c.args.steps.now c.loop-index.steps c.stat_outcome.new.steps
+          through (stat_of c.get-stat.result) c.get-stat.ensures (c.in_err-outcome.ensures.step through.state through.costs through.stands) in
+          cut.most;
+      least = unless_ok _ c.from_residual-in_err-outcome.result c.from_residual-in_err-outcome.ensures.0;
+      bounds = unless_ok _ c.from_residual-in_err-outcome.result c.from_residual-in_err-outcome.ensures.0;
+      darts = unless_ok _ c.from_residual-in_err-outcome.result c.from_residual-in_err-outcome.ensures.0;
+      next = unless_ok _ c.from_residual-in_err-outcome.result c.from_residual-in_err-outcome.ensures.0;
+      printable = unless_ok _ c.from_residual-in_err-outcome.result c.from_residual-in_err-outcome.ensures.0;
+      cut = let through = through_as (rules_of c.args.plans.now) (as_map c.args.arena.now) c.requires.sound (take c.loop-index.index c.args.script.now.stats) c.loop-index.outcomes.items c.loop-index.standing c.loop-index.arena c.args.steps.now c.loop-index.steps keeps
+          (still_kept c.loop-index.standing.keeps c.loop-index.index c.needing-needing.result c.loop-index.invariant.kept) c.loop-index.invariant.through in
+          let cut = stat_cut rules before c.requires.sound c.args.script.now.stats c.loop-index.index c.loop-index.outcomes.items (keeping keeps c.loop-index.standing) c.loop-index.arena (as_map c.stat_outcome.new.arena) c.args.steps.now c.loop-index.steps c.stat_outcome.new.steps
+          through (stat_of c.get-stat.result) c.get-stat.ensures (c.in_err-outcome.ensures.step through.state through.costs through.stands) in
+          rw p.1 cut.short;
+      sound = c.in_err-outcome.ensures.sound;
+      schema = c.in_err-outcome.ensures.schema ∙ c.loop-index.invariant.schema;
+      spare_stays = le_trans c.loop-index.invariant.spare c.in_err-outcome.ensures.spare_stays;
+      reserved_stays = le_trans c.loop-index.invariant.reserved c.in_err-outcome.ensures.reserved_stays;
+    }
 
-pub returns-in_err-outcome-clause-most : goal.returns-in_err-outcome-clause-most
-returns-in_err-outcome-clause-most g c =
-    let rules = rules_of c.args.plans.now in
-    let before = as_map c.args.arena.now in
-    let keeps = ltb c.loop-index.index c.needing-needing.result in
-    let through = through_as (rules_of c.args.plans.now) (as_map c.args.arena.now) c.requires.sound (take c.loop-index.index c.args.script.now.stats) c.loop-index.outcomes.items c.loop-index.standing c.loop-index.arena c.args.steps.now c.loop-index.steps keeps
-    (still_kept c.loop-index.standing.keeps c.loop-index.index c.needing-needing.result c.loop-index.invariant.kept) c.loop-index.invariant.through in
-    let cut = stat_cut rules before c.requires.sound c.args.script.now.stats c.loop-index.index c.loop-index.outcomes.items (keeping keeps c.loop-index.standing) c.loop-index.arena (as_map c.stat_outcome.new.arena) c.args.steps.now c.loop-index.steps c.stat_outcome.new.steps
-    through (stat_of c.get-stat.result) c.get-stat.ensures (c.in_err-outcome.ensures.step through.state through.costs through.stands) in
-    cut.most
-
--- ---- all statements were run
-
-pub returns-clause-run : goal.returns-clause-run
-returns-clause-run g c =
-    let rules = rules_of c.args.plans.now in
-    let before = as_map c.args.arena.now in
-    let past : length c.args.script.now.stats ≤ c.loop-index.index = subst (λ n. n ≤ c.loop-index.index) c.len-count.ensures c.loop-index-test.false in
-    let through = through_all rules before c.requires.sound c.args.script.now.stats c.loop-index.outcomes.items c.new-3.result c.loop-index.index c.loop-index.standing c.loop-index.arena c.args.steps.now c.loop-index.steps past c.new-3.ensures c.loop-index.invariant.through in
-    (through.told, through.state, through.tells, through.stands.map, run_told rules before c.requires.sound c.args.script.now.stats c.new-3.result c.loop-index.standing c.loop-index.arena c.args.steps.now c.loop-index.steps through)
-
-pub returns-clause-only : goal.returns-clause-only
-returns-clause-only g c =
+pub returns : goal.returns
+returns g c =
     let rules = rules_of c.args.plans.now in
     let before = as_map c.args.arena.now in
     let past : length c.args.script.now.stats ≤ c.loop-index.index = subst (λ n. n ≤ c.loop-index.index) c.len-count.ensures c.loop-index-test.false in
     let through = through_all rules before c.requires.sound c.args.script.now.stats c.loop-index.outcomes.items c.new-3.result c.loop-index.index c.loop-index.standing c.loop-index.arena c.args.steps.now c.loop-index.steps past c.new-3.ensures c.loop-index.invariant.through in
-    run_only rules before c.requires.sound c.args.script.now.stats c.new-3.result c.loop-index.standing c.loop-index.arena c.args.steps.now c.loop-index.steps through
-
-pub returns-clause-most : goal.returns-clause-most
-returns-clause-most g c =
-    let rules = rules_of c.args.plans.now in
-    let before = as_map c.args.arena.now in
-    let past : length c.args.script.now.stats ≤ c.loop-index.index = subst (λ n. n ≤ c.loop-index.index) c.len-count.ensures c.loop-index-test.false in
-    let through = through_all rules before c.requires.sound c.args.script.now.stats c.loop-index.outcomes.items c.new-3.result c.loop-index.index c.loop-index.standing c.loop-index.arena c.args.steps.now c.loop-index.steps past c.new-3.ensures c.loop-index.invariant.through in
-    run_most rules before c.requires.sound c.args.script.now.stats c.new-3.result c.loop-index.standing c.loop-index.arena c.args.steps.now c.loop-index.steps through
-
-pub returns-clause-least : goal.returns-clause-least
-returns-clause-least g c =
-    let rules = rules_of c.args.plans.now in
-    let before = as_map c.args.arena.now in
-    let past : length c.args.script.now.stats ≤ c.loop-index.index = subst (λ n. n ≤ c.loop-index.index) c.len-count.ensures c.loop-index-test.false in
-    let through = through_all rules before c.requires.sound c.args.script.now.stats c.loop-index.outcomes.items c.new-3.result c.loop-index.index c.loop-index.standing c.loop-index.arena c.args.steps.now c.loop-index.steps past c.new-3.ensures c.loop-index.invariant.through in
-    run_least rules before c.requires.sound c.args.script.now.stats c.new-3.result c.loop-index.standing c.loop-index.arena c.args.steps.now c.loop-index.steps through
-
-pub returns-clause-bounds : goal.returns-clause-bounds
-returns-clause-bounds g c =
-    let rules = rules_of c.args.plans.now in
-    let before = as_map c.args.arena.now in
-    let past : length c.args.script.now.stats ≤ c.loop-index.index = subst (λ n. n ≤ c.loop-index.index) c.len-count.ensures c.loop-index-test.false in
-    let through = through_all rules before c.requires.sound c.args.script.now.stats c.loop-index.outcomes.items c.new-3.result c.loop-index.index c.loop-index.standing c.loop-index.arena c.args.steps.now c.loop-index.steps past c.new-3.ensures c.loop-index.invariant.through in
-    run_bounds rules before c.requires.sound c.args.script.now.stats c.new-3.result c.loop-index.standing c.loop-index.arena c.args.steps.now c.loop-index.steps through
-
-pub returns-clause-darts : goal.returns-clause-darts
-returns-clause-darts g c = (c.count-2.ensures.count, subst (HasCount (IsDart (as_map c.loop-index.arena))) (sym c.count-2.ensures.count) (darts_counted c.loop-index.arena c.count-2.ensures.lawful))
-
-pub returns-clause-printable : goal.returns-clause-printable
-returns-clause-printable g c =
-    let rules = rules_of c.args.plans.now in
-    let before = as_map c.args.arena.now in
-    let past : length c.args.script.now.stats ≤ c.loop-index.index = subst (λ n. n ≤ c.loop-index.index) c.len-count.ensures c.loop-index-test.false in
-    let through = through_all rules before c.requires.sound c.args.script.now.stats c.loop-index.outcomes.items c.new-3.result c.loop-index.index c.loop-index.standing c.loop-index.arena c.args.steps.now c.loop-index.steps past c.new-3.ensures c.loop-index.invariant.through in
-    run_can_be_printed c.args.arena.now.schema rules c.args.script.now.stats (start_of before) through.state no_entries c.new-3.result through.told (stands_first before c.requires.sound) through.suited through.tells
-    (run_told rules before c.requires.sound c.args.script.now.stats c.new-3.result c.loop-index.standing c.loop-index.arena c.args.steps.now c.loop-index.steps through)
-
--- ---- what else is owed where memory is wanting
-
-pub returns-in_err-outcomes-clause-run : goal.returns-in_err-outcomes-clause-run
-returns-in_err-outcomes-clause-run g c = unless_ok _ c.from_residual.result c.from_residual.ensures.0
-
-pub returns-in_err-outcomes-clause-only : goal.returns-in_err-outcomes-clause-only
-returns-in_err-outcomes-clause-only g c = unless_ok _ c.from_residual.result c.from_residual.ensures.0
-
-pub returns-in_err-outcomes-clause-least : goal.returns-in_err-outcomes-clause-least
-returns-in_err-outcomes-clause-least g c = unless_ok _ c.from_residual.result c.from_residual.ensures.0
-
-pub returns-in_err-outcomes-clause-bounds : goal.returns-in_err-outcomes-clause-bounds
-returns-in_err-outcomes-clause-bounds g c = unless_ok _ c.from_residual.result c.from_residual.ensures.0
-
-pub returns-in_err-outcomes-clause-darts : goal.returns-in_err-outcomes-clause-darts
-returns-in_err-outcomes-clause-darts g c = unless_ok _ c.from_residual.result c.from_residual.ensures.0
-
-pub returns-in_err-outcomes-clause-next : goal.returns-in_err-outcomes-clause-next
-returns-in_err-outcomes-clause-next g c = unless_ok _ c.from_residual.result c.from_residual.ensures.0
-
-pub returns-in_err-outcomes-clause-printable : goal.returns-in_err-outcomes-clause-printable
-returns-in_err-outcomes-clause-printable g c = unless_ok _ c.from_residual.result c.from_residual.ensures.0
-
-pub returns-in_err-outcomes-clause-most : goal.returns-in_err-outcomes-clause-most
-returns-in_err-outcomes-clause-most g c = λ outcomes after bounds run. no_less c.args.steps.now bounds.most
-
-pub returns-in_err-outcomes-clause-sound : goal.returns-in_err-outcomes-clause-sound
-returns-in_err-outcomes-clause-sound g c = c.requires.sound
-
-pub returns-in_err-outcomes-clause-schema : goal.returns-in_err-outcomes-clause-schema
-returns-in_err-outcomes-clause-schema g c = refl
-
-pub returns-in_err-outcomes-clause-spare_stays : goal.returns-in_err-outcomes-clause-spare_stays
-returns-in_err-outcomes-clause-spare_stays g c = le_refl _
-
-pub returns-in_err-outcomes-clause-reserved_stays : goal.returns-in_err-outcomes-clause-reserved_stays
-returns-in_err-outcomes-clause-reserved_stays g c = le_refl _
-
-pub returns-in_err-outcome-clause-run : goal.returns-in_err-outcome-clause-run
-returns-in_err-outcome-clause-run g c = unless_ok _ c.from_residual-in_err-outcome.result c.from_residual-in_err-outcome.ensures.0
-
-pub returns-in_err-outcome-clause-only : goal.returns-in_err-outcome-clause-only
-returns-in_err-outcome-clause-only g c = unless_ok _ c.from_residual-in_err-outcome.result c.from_residual-in_err-outcome.ensures.0
-
-pub returns-in_err-outcome-clause-least : goal.returns-in_err-outcome-clause-least
-returns-in_err-outcome-clause-least g c = unless_ok _ c.from_residual-in_err-outcome.result c.from_residual-in_err-outcome.ensures.0
-
-pub returns-in_err-outcome-clause-bounds : goal.returns-in_err-outcome-clause-bounds
-returns-in_err-outcome-clause-bounds g c = unless_ok _ c.from_residual-in_err-outcome.result c.from_residual-in_err-outcome.ensures.0
-
-pub returns-in_err-outcome-clause-darts : goal.returns-in_err-outcome-clause-darts
-returns-in_err-outcome-clause-darts g c = unless_ok _ c.from_residual-in_err-outcome.result c.from_residual-in_err-outcome.ensures.0
-
-pub returns-in_err-outcome-clause-next : goal.returns-in_err-outcome-clause-next
-returns-in_err-outcome-clause-next g c = unless_ok _ c.from_residual-in_err-outcome.result c.from_residual-in_err-outcome.ensures.0
-
-pub returns-in_err-outcome-clause-printable : goal.returns-in_err-outcome-clause-printable
-returns-in_err-outcome-clause-printable g c = unless_ok _ c.from_residual-in_err-outcome.result c.from_residual-in_err-outcome.ensures.0
-
-pub returns-in_err-outcome-clause-sound : goal.returns-in_err-outcome-clause-sound
-returns-in_err-outcome-clause-sound g c = c.in_err-outcome.ensures.sound
-
-pub returns-in_err-outcome-clause-schema : goal.returns-in_err-outcome-clause-schema
-returns-in_err-outcome-clause-schema g c = c.in_err-outcome.ensures.schema ∙ c.loop-index.invariant.schema
-
-pub returns-in_err-outcome-clause-spare_stays : goal.returns-in_err-outcome-clause-spare_stays
-returns-in_err-outcome-clause-spare_stays g c = le_trans c.loop-index.invariant.spare c.in_err-outcome.ensures.spare_stays
-
-pub returns-in_err-outcome-clause-reserved_stays : goal.returns-in_err-outcome-clause-reserved_stays
-returns-in_err-outcome-clause-reserved_stays g c = le_trans c.loop-index.invariant.reserved c.in_err-outcome.ensures.reserved_stays
-
--- ---- and behind the last statement
-
-pub returns-clause-next : goal.returns-clause-next
-returns-clause-next g c = c.next.ensures.next
-
-pub returns-clause-cut : goal.returns-clause-cut
-returns-clause-cut g c = tt
-
-pub returns-clause-sound : goal.returns-clause-sound
-returns-clause-sound g c = c.loop-index.invariant.sound
-
-pub returns-clause-schema : goal.returns-clause-schema
-returns-clause-schema g c = c.loop-index.invariant.schema
-
-pub returns-clause-spare_stays : goal.returns-clause-spare_stays
-returns-clause-spare_stays g c = c.loop-index.invariant.spare
-
-pub returns-clause-reserved_stays : goal.returns-clause-reserved_stays
-returns-clause-reserved_stays g c = c.loop-index.invariant.reserved
+    record {
+      run = (through.told, through.state, through.tells, through.stands.map, run_told rules before c.requires.sound c.args.script.now.stats c.new-3.result c.loop-index.standing c.loop-index.arena c.args.steps.now c.loop-index.steps through);
+      only = run_only rules before c.requires.sound c.args.script.now.stats c.new-3.result c.loop-index.standing c.loop-index.arena c.args.steps.now c.loop-index.steps through;
+      most = run_most rules before c.requires.sound c.args.script.now.stats c.new-3.result c.loop-index.standing c.loop-index.arena c.args.steps.now c.loop-index.steps through;
+      least = run_least rules before c.requires.sound c.args.script.now.stats c.new-3.result c.loop-index.standing c.loop-index.arena c.args.steps.now c.loop-index.steps through;
+      bounds = run_bounds rules before c.requires.sound c.args.script.now.stats c.new-3.result c.loop-index.standing c.loop-index.arena c.args.steps.now c.loop-index.steps through;
+      darts = (c.count-2.ensures.count, subst (HasCount (IsDart (as_map c.loop-index.arena))) (sym c.count-2.ensures.count) (darts_counted c.loop-index.arena c.count-2.ensures.lawful));
+      next = c.next.ensures.next;
+      printable = run_can_be_printed c.args.arena.now.schema rules c.args.script.now.stats (start_of before) through.state no_entries c.new-3.result through.told (stands_first before c.requires.sound) through.suited through.tells
+          (run_told rules before c.requires.sound c.args.script.now.stats c.new-3.result c.loop-index.standing c.loop-index.arena c.args.steps.now c.loop-index.steps through);
+      cut = tt;
+      sound = c.loop-index.invariant.sound;
+      schema = c.loop-index.invariant.schema;
+      spare_stays = c.loop-index.invariant.spare;
+      reserved_stays = c.loop-index.invariant.reserved;
+    }
