@@ -1,4 +1,4 @@
-use Rattle.std.proofs.Common.{◌≡◌, ℕ, map, length, get_or, Some, None, sym, ap, subst, ◌∙◌, arith}
+use Rattle.std.proofs.Common.{◌≡◌, ℕ, map, length, get_or, Some, None, is_some, sym, ap, subst, ◌∙◌, arith}
 use Rattle.std.specs.FinMap.{get}
 use Rattle.gm_arena.specs.declared.slot.Slot.{Slot}
 use Rattle.gm_arena.specs.ArenaMap.{ArenaMap, Dart, IsAt, name_at}
@@ -18,6 +18,9 @@ loop-name-init g c = record { added = c.requires.none; cost = omega arith }
 
 pub unwrap-slot-requires : goal.unwrap-slot-requires
 unwrap-slot-requires g c = has_slot (λ d. ℕ) c.args.arena.now c.args.names.now c.requires.names c.loop-name.name-index 0 c.slot_of.result c.loop-name-test.true c.slot_of.ensures.slot
+
+pub row-row-requires : goal.row-row-requires
+row-row-requires g c = ap is_some (name_of_slot c.args.arena.now (get_or c.args.names.now c.loop-name.name-index 0) c.slot_of.result c.unwrap-slot.result c.slot_of.ensures.slot c.unwrap-slot.ensures)
 
 pub add-requires-clause-room : goal.add-requires-clause-room
 add-requires-clause-room g c = omega (arith, c.loop-name.invariant.added.spare, c.loop-name-test.true)

@@ -22,6 +22,9 @@ live_now old now d dart but here t live = elim (cases_eq t d) [
   | inr apart ↦ ap is_some (but.others t apart) ∙ live
 ]
 
+pub row-row-requires : goal.row-row-requires
+row-row-requires g c = c.requires.from
+
 pub loop-label-init : goal.loop-label-init
 loop-label-init g c =
     let m = c.args.arena.now in
@@ -65,6 +68,9 @@ set_alpha-requires-clause-live g c = ap is_some (ap (λ (x : ArenaMap). get x.sl
 pub set_alpha-requires-clause-label : goal.set_alpha-requires-clause-label
 set_alpha-requires-clause-label g c = omega (arith, c.top-top.ensures.value, ap (λ (s : Schema). s.dim) c.schema.ensures, ap (λ (x : ArenaMap). x.schema.dim) c.loop-label.invariant.but.rest, ap (λ (s : Schema). s.dim) c.requires.schema)
 
+pub set_alpha-requires-clause-to_live : goal.set_alpha-requires-clause-to_live
+set_alpha-requires-clause-to_live g c = ap is_some (name_of_slot c.loop-label.dual c.name_of-name.result c.slot_of.result c.unwrap-to.result c.slot_of.ensures.slot c.unwrap-to.ensures)
+
 pub loop-label-preserved : goal.loop-label-preserved
 loop-label-preserved g c =
     let m = c.args.arena.now in
@@ -107,7 +113,7 @@ returns-clause-linked g c =
     let whole = c.requires.lawful.dart d dart i.linked.2 in
     let end : c.loop-label.label ≡ m.schema.dim + 1 = omega (arith, c.loop-label-test.false, c.loop-label.auto.label-end, c.top-top.ensures.value, ap (λ (s : Schema). s.dim) c.schema.ensures) in
     let all = subst (λ k. IsLinkedTo m.schema.dim k dart i.linked.1) end i.linked.4 in
-    i.linked.3 ∙ (ap Some (all_neighbours m.schema.dim dart i.linked.1 whole.whole all) ∙ sym (ap (option_map (λ (dart : Dart). record { alphas = reverse dart.alphas; values = dart.values })) i.linked.2))
+    i.linked.3 ∙ (ap Some (all_neighbours m.schema.dim dart i.linked.1 whole.whole all) ∙ sym (ap (option_map (λ (dart : Dart). record { alphas = reverse dart.alphas; values = dart.values })) {x = get m.darts d} i.linked.2))
 
 pub returns-clause-others : goal.returns-clause-others
 returns-clause-others g c = c.loop-label.invariant.but

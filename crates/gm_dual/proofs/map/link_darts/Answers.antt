@@ -22,6 +22,12 @@ unwrap-own-requires g c =
     let live = live_linked m c.args.names.now c.requires.names c.loop-name.name-index c.loop-name.dual c.loop-name.invariant.linked d (is_live (λ d. ℕ) m c.args.names.now c.requires.names c.loop-name.name-index 0 c.loop-name-test.true) in
     some_since c.slot_of-in-loop-name.result (get c.loop-name.dual.darts d ≡ None) (λ (s : Slot). IsAt c.loop-name.dual s.at d) c.slot_of-in-loop-name.ensures.slot (λ none. false≢true (sym (ap is_some none) ∙ live))
 
+pub link_dart-requires-clause-lawful : goal.link_dart-requires-clause-lawful
+link_dart-requires-clause-lawful g c = c.requires.lawful
+
+pub link_dart-requires-clause-from : goal.link_dart-requires-clause-from
+link_dart-requires-clause-from g c = ap is_some (name_of_slot c.args.arena.now (get_or c.args.names.now c.loop-name.name-index 0) c.slot_of.result c.unwrap-from.result c.slot_of.ensures.slot c.unwrap-from.ensures)
+
 pub link_dart-requires-clause-own : goal.link_dart-requires-clause-own
 link_dart-requires-clause-own g c =
     let m = c.args.arena.now in
