@@ -74,6 +74,10 @@ module _ (kind : TokenKind) (bytes : List ℕ) (number : kind ≡ kinds.Number) 
   value_is : (v : ℕ) → value ≡ v → v ≤ 2 → symbol_of_kind kind bytes ≡ Numeral v
   value_is v e small = let same : value_of bytes ≡ v = omega (arith, is, e, small) in rw number (ap Numeral same)
 
+pub one_or_two : {version : ℕ} → ((version ≡ 1 → ⊥) × (version ≡ 2)) ⊎ (version ≡ 1) → (version ≡ 1) ⊎ (version ≡ 2)
+one_or_two (inl (other, two)) = inr two
+one_or_two (inr one) = inl one
+
 pub version_read : (cursor rest : Cursor) (token : Token) → rest.text ≡ cursor.text → IsNext cursor (Ok (Some token)) rest → token.kind ≡ kinds.Number → (value : ℕ) → value ≡ min (value_of (bytes_of rest.text token)) (2 ^ 64 - 1) → (value ≡ 1) ⊎ (value ≡ 2)
     → IsVersioned (marks_left cursor) value (marks_left rest)
 version_read cursor rest token same is kind value at known = go known

@@ -1,11 +1,11 @@
-use Rattle.std.proofs.Common.{rules, ◌≡◌, ◌≢◌, ◌⊎◌, Option, Ok, refl, subst}
+use Rattle.std.proofs.Common.{rules, ◌≡◌, ◌≢◌, Option, Ok, refl, subst}
 use Rattle.std.proofs.lemmas.Result.{err_from_is_err_and}
 use Rattle.gm_model.specs.declared.token.Token.{Token}
 use Rattle.gm_model.specs.declared.token.TokenKind.TheVariants as kinds
 use Rattle.gm_model.specs.Tokens.{bytes_of}
 use Rattle.gm_forms.specs.Reading.{AtVersion}
 use Rattle.gm_forms.specs.Standing.{IsNext}
-use Rattle.gm_forms.proofs.HeadRead.{at_stray, at_end, at_token, no_number, other_version, version_read}
+use Rattle.gm_forms.proofs.HeadRead.{at_stray, at_end, at_token, no_number, other_version, one_or_two, version_read}
 use Rattle.gm_model.proofs.Exits.{unless_ok}
 use Rattle.gm_forms.proofs.headers.read_number.Goals as goal
 
@@ -39,7 +39,7 @@ returns-clause-read c =
     let token = c.in-Some.token in
     let is = subst (λ (found : Option Token). IsNext c.args.lexer.now (Ok found) rest) c.in-Some.is c.in_ok-token.ensures.next in
     let number : token.kind ≡ kinds.Number = search rules in
-    let known : (c.value-version.result ≡ 1) ⊎ (c.value-version.result ≡ 2) = search rules in
+    let known = one_or_two c.else-version-ne1.either in
     version_read c.args.lexer.now rest token c.in_ok-token.ensures.text is number c.value-version.result c.value-version.ensures known
 
 pub returns-in_err-token-clause-read : goal.returns-in_err-token-clause-read

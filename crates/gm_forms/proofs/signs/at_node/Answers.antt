@@ -3,7 +3,7 @@ use Rattle.gm_forms.proofs.Stops.{memory_wanting}
 use Rattle.std.proofs.Common.{ℕ, length, nat_lt, sym, ap, ◌∙◌}
 use Rattle.std.proofs.lemmas.Bool.{lt-ltb}
 use Rattle.gm_forms.specs.BookText.{with_name}
-use Rattle.gm_forms.proofs.OneToken.{many_nodes}
+use Rattle.gm_forms.proofs.OneToken.{node, many_nodes}
 use Rattle.gm_forms.proofs.signs.at_node.Goals as goal
 
 pub returns-in_err-add-clause-within : goal.returns-in_err-add-clause-within
@@ -20,3 +20,9 @@ returns-then-len-gt-MOST_NODES-clause-leads c rules current =
 
 pub returns-then-len-gt-MOST_NODES-clause-within : goal.returns-then-len-gt-MOST_NODES-clause-within
 returns-then-len-gt-MOST_NODES-clause-within c state_in = tt
+
+pub returns-clause-within : goal.returns-clause-within
+returns-clause-within c state_in = state_in
+
+pub returns-clause-leads : goal.returns-clause-leads
+returns-clause-leads c rules current = node c.args.lexer.now.text c.args.token c.args.nodes.now c.add.new.self c.args.spot c.args.name c.no_letters.result c.requires.sign (c.in_ok-add.ensures ∙ ap (with_name c.args.nodes.now) c.text.ensures) c.no_letters.ensures c.len.result c.len.ensures c.if-len-gt-MOST_NODES.false rules current c.args.last
