@@ -1,6 +1,7 @@
 pub mod Agreement
 mod Alike
 pub mod AtLeast
+mod Colours
 mod Compared
 mod Drafts
 pub mod FirstFault
