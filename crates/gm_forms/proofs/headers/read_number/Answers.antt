@@ -1,8 +1,9 @@
-use Rattle.std.proofs.Common.{rules, ◌≡◌, ◌≢◌, Option, Ok, refl, subst}
+use Rattle.std.proofs.Common.{Option, Ok, refl, subst}
 use Rattle.std.proofs.lemmas.Result.{err_from_is_err_and}
 use Rattle.gm_model.specs.declared.token.Token.{Token}
 use Rattle.gm_model.specs.declared.token.TokenKind.TheVariants as kinds
 use Rattle.gm_model.specs.Tokens.{bytes_of}
+use Rattle.gm_text.proofs.SchemaMoves.{kind_is, kind_other}
 use Rattle.gm_forms.specs.Reading.{AtVersion}
 use Rattle.gm_forms.specs.Standing.{IsNext}
 use Rattle.gm_forms.proofs.HeadRead.{at_stray, at_end, at_token, no_number, other_version, one_or_two, version_read}
@@ -22,7 +23,7 @@ returns-then-ne-clause-fault c =
     let rest = c.next_token.new.lexer in
     let token = c.in-Some.token in
     let is = subst (λ (found : Option Token). IsNext c.args.lexer.now (Ok found) rest) c.in-Some.is c.in_ok-token.ensures.next in
-    let other : token.kind ≢ kinds.Number = search rules in
+    let other = kind_other token.kind kinds.Number c.ne.result c.ne.ensures c.if-ne.true in
     at_token AtVersion c.args.lexer.now rest token c.in_ok-token.ensures.text is (no_number token.kind (bytes_of rest.text token) other)
 
 pub returns-then-version-ne2-clause-fault : goal.returns-then-version-ne2-clause-fault
@@ -30,7 +31,7 @@ returns-then-version-ne2-clause-fault c =
     let rest = c.next_token.new.lexer in
     let token = c.in-Some.token in
     let is = subst (λ (found : Option Token). IsNext c.args.lexer.now (Ok found) rest) c.in-Some.is c.in_ok-token.ensures.next in
-    let number : token.kind ≡ kinds.Number = search rules in
+    let number = kind_is token.kind kinds.Number c.ne.result c.ne.ensures c.if-ne.false in
     at_token AtVersion c.args.lexer.now rest token c.in_ok-token.ensures.text is (other_version token.kind (bytes_of rest.text token) number c.value-version.result c.value-version.ensures c.if-version-ne1.true c.if-version-ne2.true)
 
 pub returns-clause-read : goal.returns-clause-read
@@ -38,7 +39,7 @@ returns-clause-read c =
     let rest = c.next_token.new.lexer in
     let token = c.in-Some.token in
     let is = subst (λ (found : Option Token). IsNext c.args.lexer.now (Ok found) rest) c.in-Some.is c.in_ok-token.ensures.next in
-    let number : token.kind ≡ kinds.Number = search rules in
+    let number = kind_is token.kind kinds.Number c.ne.result c.ne.ensures c.if-ne.false in
     let known = one_or_two c.else-version-ne1.either in
     version_read c.args.lexer.now rest token c.in_ok-token.ensures.text is number c.value-version.result c.value-version.ensures known
 
