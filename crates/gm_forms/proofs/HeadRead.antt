@@ -1,5 +1,5 @@
 -- What the reader of the word `book` and of the version comes to at a token, and where none stands.
-use Rattle.std.proofs.Common.{◌≡◌, ◌≢◌, ℕ, ◌-◌, ◌^◌, min, true, false, List, [], ◌∷◌, ◌⊎◌, inl, inr, ◌≤◌, Option, Some, None, Ok, Err, refl, sym, ap, subst, ◌∙◌, codes, arith}
+use Rattle.std.proofs.Common.{◌≡◌, ◌≢◌, ℕ, ◌-◌, ◌^◌, min, true, false, List, [], ◌∷◌, ◌⊎◌, inl, inr, ◌≤◌, Option, Some, None, Ok, Err, refl, sym, ap, subst, ◌∙◌, codes, Fits, w8, arith}
 use Rattle.std.proofs.lemmas.Bool.Decides.{nat_tests}
 use Rattle.std.proofs.lemmas.Slice.Eq.{bytes_eq-Decides}
 use Rattle.std.specs.Str.{bytes_eq}
@@ -77,6 +77,10 @@ module _ (kind : TokenKind) (bytes : List ℕ) (number : kind ≡ kinds.Number) 
 pub one_or_two : {version : ℕ} → ((version ≡ 1 → ⊥) × (version ≡ 2)) ⊎ (version ≡ 1) → (version ≡ 1) ⊎ (version ≡ 2)
 one_or_two (inl (other, two)) = inr two
 one_or_two (inr one) = inl one
+
+pub one_byte : {version : ℕ} → (version ≡ 1) ⊎ (version ≡ 2) → Fits w8 version
+one_byte (inl one) = rw one (omega arith)
+one_byte (inr two) = rw two (omega arith)
 
 pub version_read : (cursor rest : Cursor) (token : Token) → rest.text ≡ cursor.text → IsNext cursor (Ok (Some token)) rest → token.kind ≡ kinds.Number → (value : ℕ) → value ≡ min (value_of (bytes_of rest.text token)) (2 ^ 64 - 1) → (value ≡ 1) ⊎ (value ≡ 2)
     → IsVersioned (marks_left cursor) value (marks_left rest)

@@ -6,7 +6,7 @@ use Rattle.gm_model.specs.Tokens.{bytes_of}
 use Rattle.gm_text.proofs.SchemaMoves.{kind_is, kind_other}
 use Rattle.gm_forms.specs.Reading.{AtVersion}
 use Rattle.gm_forms.specs.Standing.{IsNext}
-use Rattle.gm_forms.proofs.HeadRead.{at_stray, at_end, at_token, no_number, other_version, one_or_two, version_read}
+use Rattle.gm_forms.proofs.HeadRead.{at_stray, at_end, at_token, no_number, other_version, one_or_two, one_byte, version_read}
 use Rattle.gm_model.proofs.Exits.{unless_ok}
 use Rattle.gm_forms.proofs.headers.read_number.Goals as goal
 
@@ -45,3 +45,24 @@ returns-clause-read c =
 
 pub returns-in_err-token-clause-read : goal.returns-in_err-token-clause-read
 returns-in_err-token-clause-read c = unless_ok _ c.from_residual.result c.from_residual.ensures.0
+
+pub returns-in_err-token-clause-text : goal.returns-in_err-token-clause-text
+returns-in_err-token-clause-text c = c.in_err-token.ensures.text
+
+pub returns-in_default-clause-text : goal.returns-in_default-clause-text
+returns-in_default-clause-text c = c.in_ok-token.ensures.text
+
+pub returns-then-ne-clause-text : goal.returns-then-ne-clause-text
+returns-then-ne-clause-text c = c.in_ok-token.ensures.text
+
+pub returns-then-version-ne2-clause-text : goal.returns-then-version-ne2-clause-text
+returns-then-version-ne2-clause-text c = c.in_ok-token.ensures.text
+
+pub returns-clause-text : goal.returns-clause-text
+returns-clause-text c = c.in_ok-token.ensures.text
+
+pub overflow_cast-result : goal.overflow_cast-result
+overflow_cast-result c = one_byte (one_or_two c.else-version-ne1.either)
+
+pub value-version-requires-clause-kind : goal.value-version-requires-clause-kind
+value-version-requires-clause-kind c = kind_is c.in-Some.token.kind kinds.Number c.ne.result c.ne.ensures c.if-ne.false
