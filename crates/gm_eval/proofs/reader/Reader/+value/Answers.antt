@@ -1,6 +1,6 @@
-use Rattle.std.proofs.Common.{pos, get_or, refl, sym, ◌∙◌, ap, ap₂, subst, arith}
+use Rattle.std.proofs.Common.{FitsSigned, w64, pos, get_or, refl, sym, ◌∙◌, ap, ap₂, subst, rules}
 use Rattle.std.proofs.Math.Nat.{le_refl, le_trans}
-use Rattle.std.proofs.lemmas.Int.{ints}
+use Rattle.std.proofs.lemmas.Int.{to_z-of_z}
 use Rattle.std.proofs.lemmas.Option.{slice_get-get_or}
 use Rattle.gm_model.proofs.expr.Expr.TheLaws.{the_size}
 use Rattle.gm_model.specs.declared.expr.Expr.TheViews.{sized-Unary, sized-Binary, sized-If, sized-MakeVec2, sized-MakeVec3, sized-MakeRgb}
@@ -11,7 +11,8 @@ use Rattle.gm_model.specs.Expressions.{HasValue}
 use Rattle.gm_model.specs.Trees.{Count, Unary, Binary, If, MakeVec2, MakeVec3, MakeRgb, tree_of}
 use Rattle.gm_eval.specs.Readers.{IsReady, Read, reading_of}
 use Rattle.gm_eval.proofs.Adding.{adds_as, ends_add, first_adds, front_adds, same_adds, start_adds, three_add, two_add}
-use Rattle.gm_eval.proofs.Measures.{first_less, left_less, part_less, parts_less, quick_left_less, quick_right_less, right_less, second_less, still_fits, third_less}
+use Rattle.gm_eval.proofs.Casts.{wide_is}
+use Rattle.gm_eval.proofs.Measures.{binary_less, nested_less, pair_less, triple_less, unary_less, first_less, left_less, part_less, parts_less, quick_left_less, quick_right_less, right_less, second_less, still_fits, third_less}
 use Rattle.gm_eval.proofs.Parts.{beside_as, both_read, binary_known, binary_ready, binary_there, choice_ready, chosen_there, colour_ready, int_as, is_there, left_as, made_of_three, no_choice, no_numbers, no_values, none_there, not_there, other_there, pair_ready, pair_there, param_within, read_as, ready_as, some_numbers, there_as, three_trees, triple_ready, unary_known, unary_ready, unary_there, value_as}
 use Rattle.gm_eval.proofs.Sharing.{chosen_beside, chosen_left, condition_beside, first_beside, front_beside, is_some, later_kept, not_some, other_beside, other_left, same_kept, start_beside, still_beside, three_beside, three_left, two_beside, two_left}
 use Rattle.gm_eval.proofs.reader.Reader.+value.Goals as goal
@@ -310,8 +311,10 @@ pair-returns-in_err-y g t c =
 
 pub pair-returns : goal.pair-returns
 pair-returns g t c =
+    let x_fits : FitsSigned w64 c.in_ok-x.x = search rules in
+    let y_fits : FitsSigned w64 c.in_ok-y.y = search rules in
     record {
-      value = pair_there c.args.self.now (tree_of c.args.x.now) (tree_of c.args.y.now) c.in_ok-x.x c.in_ok-y.y _ _ c.vec2.result (is_there c.args.self.now (tree_of c.args.x.now) (Int c.in_ok-x.x) c.value.result c.value.ensures.value c.in_ok-x.ensures) (is_there c.args.self.now (tree_of c.args.y.now) (Int c.in_ok-y.y) c.value-2.result c.value-2.ensures.value c.in_ok-y.ensures) (omega (arith, ints)) (omega (arith, ints)) c.vec2.ensures;
+      value = pair_there c.args.self.now (tree_of c.args.x.now) (tree_of c.args.y.now) c.in_ok-x.x c.in_ok-y.y _ _ c.vec2.result (is_there c.args.self.now (tree_of c.args.x.now) (Int c.in_ok-x.x) c.value.result c.value.ensures.value c.in_ok-x.ensures) (is_there c.args.self.now (tree_of c.args.y.now) (Int c.in_ok-y.y) c.value-2.result c.value-2.ensures.value c.in_ok-y.ensures) (wide_is c.in_ok-x.x x_fits) (wide_is c.in_ok-y.y y_fits) c.vec2.ensures;
       read = record {
         cost = two_beside c.args.self.now _ _ (tree_of c.args.x.now) (tree_of c.args.y.now) _ _ _ c.value.ensures.read.stays c.value.ensures.read.cost c.value-2.ensures.read.cost;
         least = le_trans c.value.ensures.read.least c.value-2.ensures.read.least;
@@ -374,7 +377,7 @@ numbers-returns g t c =
     let y = is_there c.args.self.now (tree_of c.args.y.now) (Int c.in_ok-y.y) c.value-2.result c.value-2.ensures.value c.in_ok-y.ensures in
     let z = is_there c.args.self.now (tree_of c.args.z.now) (Int c.in_ok-z.z) c.value-3.result c.value-3.ensures.value c.in_ok-z.ensures in
     record {
-      value = (int_as c.args.self.now (tree_of c.args.x.now) c.in_ok-x.x _ (omega (arith, ints)) x, int_as c.args.self.now (tree_of c.args.y.now) c.in_ok-y.y _ (omega (arith, ints)) y, int_as c.args.self.now (tree_of c.args.z.now) c.in_ok-z.z _ (omega (arith, ints)) z);
+      value = (int_as c.args.self.now (tree_of c.args.x.now) c.in_ok-x.x _ (to_z-of_z w64 c.in_ok-x.x (search rules)) x, int_as c.args.self.now (tree_of c.args.y.now) c.in_ok-y.y _ (to_z-of_z w64 c.in_ok-y.y (search rules)) y, int_as c.args.self.now (tree_of c.args.z.now) c.in_ok-z.z _ (to_z-of_z w64 c.in_ok-z.z (search rules)) z);
       read = record {
         cost = three_beside c.args.self.now _ _ _ (tree_of c.args.x.now) (tree_of c.args.y.now) (tree_of c.args.z.now) _ _ _ _ c.value.ensures.read.stays c.value-2.ensures.read.stays c.value.ensures.read.cost c.value-2.ensures.read.cost c.value-3.ensures.read.cost;
         least = le_trans c.value.ensures.read.least (le_trans c.value-2.ensures.read.least c.value-3.ensures.read.least);
@@ -534,7 +537,7 @@ pub composed-unary-requires : goal.composed-unary-requires
 composed-unary-requires g t c =
     let same = ap tree_of c.in-Unary.is ∙ ap (λ (e : Expr). Unary c.in-Unary.op (tree_of e)) (sym c.deref.ensures) in
     let ready = ready_as c.args.self.now c.args.expr.now _ same c.requires.ready in
-    λ κs lives. (omega (arith, c.decreases, ap the_size c.in-Unary.is, sized-Unary c.in-Unary.op c.in-Unary.part, ap the_size c.deref.ensures), (lives, (ready, (c.requires.fits, c.requires.kept))))
+    λ κs lives. (unary_less (the_size c.args.expr.now) (the_size c.in-Unary.part.value) (the_size c.deref.result.now) _ c.decreases (ap the_size c.in-Unary.is ∙ sized-Unary c.in-Unary.op c.in-Unary.part) (ap the_size c.deref.ensures), (lives, (ready, (c.requires.fits, c.requires.kept))))
 
 pub composed-returns-in-Unary : goal.composed-returns-in-Unary
 composed-returns-in-Unary g t c =
@@ -549,7 +552,7 @@ pub first_part-nested-requires : goal.first_part-nested-requires
 first_part-nested-requires g t c =
     let same = ap tree_of c.in-Binary.is ∙ ap₂ (λ (e : Expr) (f : Expr). Binary c.in-Binary.op (tree_of e) (tree_of f)) (sym c.deref-in-Binary.ensures) (sym c.deref-in-Binary-2.ensures) in
     let ready = ready_as c.args.self.now c.args.expr.now _ same c.requires.ready in
-    λ κs lives. (omega (arith, c.decreases, ap the_size c.in-Binary.is, sized-Binary c.in-Binary.op c.in-Binary.left c.in-Binary.right, ap the_size c.deref-in-Binary.ensures, ap the_size c.deref-in-Binary-2.ensures), (lives, (ready, (c.is_quick.ensures c.if-is_quick.true, (c.requires.fits, c.requires.kept)))))
+    λ κs lives. (nested_less (the_size c.args.expr.now) (the_size c.in-Binary.left.value) (the_size c.in-Binary.right.value) (the_size c.deref-in-Binary.result.now) (the_size c.deref-in-Binary-2.result.now) _ c.decreases (ap the_size c.in-Binary.is ∙ sized-Binary c.in-Binary.op c.in-Binary.left c.in-Binary.right) (ap the_size c.deref-in-Binary.ensures) (ap the_size c.deref-in-Binary-2.ensures), (lives, (ready, (c.is_quick.ensures c.if-is_quick.true, (c.requires.fits, c.requires.kept)))))
 
 pub first_part-returns-in-Binary : goal.first_part-returns-in-Binary
 first_part-returns-in-Binary g t c =
@@ -564,7 +567,7 @@ pub composed-quick-requires : goal.composed-quick-requires
 composed-quick-requires g t c =
     let same = ap tree_of c.in-Binary.is ∙ ap₂ (λ (e : Expr) (f : Expr). Binary c.in-Binary.op (tree_of e) (tree_of f)) (sym c.deref-in-Binary.ensures) (sym c.deref-in-Binary-2.ensures) in
     let ready = ready_as c.args.self.now c.args.expr.now _ same c.requires.ready in
-    λ κs lives. (omega (arith, c.decreases, ap the_size c.in-Binary.is, sized-Binary c.in-Binary.op c.in-Binary.left c.in-Binary.right, ap the_size c.deref-in-Binary.ensures, ap the_size c.deref-in-Binary-2.ensures), (lives, (ready, (c.is_quick.ensures c.if-is_quick.true, (c.requires.fits, c.requires.kept)))))
+    λ κs lives. (binary_less (the_size c.args.expr.now) (the_size c.in-Binary.left.value) (the_size c.in-Binary.right.value) (the_size c.deref-in-Binary.result.now) (the_size c.deref-in-Binary-2.result.now) _ c.decreases (ap the_size c.in-Binary.is ∙ sized-Binary c.in-Binary.op c.in-Binary.left c.in-Binary.right) (ap the_size c.deref-in-Binary.ensures) (ap the_size c.deref-in-Binary-2.ensures), (lives, (ready, (c.is_quick.ensures c.if-is_quick.true, (c.requires.fits, c.requires.kept)))))
 
 pub composed-returns-in-Binary : goal.composed-returns-in-Binary
 composed-returns-in-Binary g t c =
@@ -579,7 +582,7 @@ pub composed-binary-requires : goal.composed-binary-requires
 composed-binary-requires g t c =
     let same = ap tree_of c.in-Binary-2.is ∙ ap₂ (λ (e : Expr) (f : Expr). Binary c.in-Binary-2.op (tree_of e) (tree_of f)) (sym c.deref-in-Binary-2-2.ensures) (sym c.deref-in-Binary-2-3.ensures) in
     let ready = ready_as c.args.self.now c.args.expr.now _ same c.requires.ready in
-    λ κs lives. (omega (arith, c.decreases, ap the_size c.in-Binary-2.is, sized-Binary c.in-Binary-2.op c.in-Binary-2.left c.in-Binary-2.right, ap the_size c.deref-in-Binary-2-2.ensures, ap the_size c.deref-in-Binary-2-3.ensures), (lives, (ready, (c.requires.fits, c.requires.kept))))
+    λ κs lives. (binary_less (the_size c.args.expr.now) (the_size c.in-Binary-2.left.value) (the_size c.in-Binary-2.right.value) (the_size c.deref-in-Binary-2-2.result.now) (the_size c.deref-in-Binary-2-3.result.now) _ c.decreases (ap the_size c.in-Binary-2.is ∙ sized-Binary c.in-Binary-2.op c.in-Binary-2.left c.in-Binary-2.right) (ap the_size c.deref-in-Binary-2-2.ensures) (ap the_size c.deref-in-Binary-2-3.ensures), (lives, (ready, (c.requires.fits, c.requires.kept))))
 
 pub composed-returns-in-Binary-2 : goal.composed-returns-in-Binary-2
 composed-returns-in-Binary-2 g t c =
@@ -594,7 +597,7 @@ pub composed-pair-requires : goal.composed-pair-requires
 composed-pair-requires g t c =
     let same = ap tree_of c.in-MakeVec2.is ∙ ap₂ (λ (e : Expr) (f : Expr). MakeVec2 (tree_of e) (tree_of f)) (sym c.deref-in-MakeVec2.ensures) (sym c.deref-in-MakeVec2-2.ensures) in
     let ready = ready_as c.args.self.now c.args.expr.now _ same c.requires.ready in
-    λ κs lives. (omega (arith, c.decreases, ap the_size c.in-MakeVec2.is, sized-MakeVec2 c.in-MakeVec2.x c.in-MakeVec2.y, ap the_size c.deref-in-MakeVec2.ensures, ap the_size c.deref-in-MakeVec2-2.ensures), (lives, (ready, (c.requires.fits, c.requires.kept))))
+    λ κs lives. (pair_less (the_size c.args.expr.now) (the_size c.in-MakeVec2.x.value) (the_size c.in-MakeVec2.y.value) (the_size c.deref-in-MakeVec2.result.now) (the_size c.deref-in-MakeVec2-2.result.now) _ c.decreases (ap the_size c.in-MakeVec2.is ∙ sized-MakeVec2 c.in-MakeVec2.x c.in-MakeVec2.y) (ap the_size c.deref-in-MakeVec2.ensures) (ap the_size c.deref-in-MakeVec2-2.ensures), (lives, (ready, (c.requires.fits, c.requires.kept))))
 
 pub composed-returns-in-MakeVec2 : goal.composed-returns-in-MakeVec2
 composed-returns-in-MakeVec2 g t c =
@@ -609,7 +612,7 @@ pub composed-choice-requires : goal.composed-choice-requires
 composed-choice-requires g t c =
     let same = ap tree_of c.in-If.is ∙ three_trees If _ _ _ _ _ _ (sym c.deref-in-If.ensures) (sym c.deref-in-If-2.ensures) (sym c.deref-in-If-3.ensures) in
     let ready = ready_as c.args.self.now c.args.expr.now _ same c.requires.ready in
-    λ κs lives. (omega (arith, c.decreases, ap the_size c.in-If.is, sized-If c.in-If.condition c.in-If.chosen c.in-If.other, ap the_size c.deref-in-If.ensures, ap the_size c.deref-in-If-2.ensures, ap the_size c.deref-in-If-3.ensures), (lives, (ready, (c.requires.fits, c.requires.kept))))
+    λ κs lives. (triple_less (the_size c.args.expr.now) (the_size c.in-If.condition.value) (the_size c.in-If.chosen.value) (the_size c.in-If.other.value) (the_size c.deref-in-If.result.now) (the_size c.deref-in-If-2.result.now) (the_size c.deref-in-If-3.result.now) _ c.decreases (ap the_size c.in-If.is ∙ sized-If c.in-If.condition c.in-If.chosen c.in-If.other) (ap the_size c.deref-in-If.ensures) (ap the_size c.deref-in-If-2.ensures) (ap the_size c.deref-in-If-3.ensures), (lives, (ready, (c.requires.fits, c.requires.kept))))
 
 pub composed-returns-in-If : goal.composed-returns-in-If
 composed-returns-in-If g t c =
@@ -625,7 +628,7 @@ composed-numbers-requires g t c =
     let same = ap tree_of c.in-MakeVec3.is ∙ three_trees MakeVec3 _ _ _ _ _ _ (sym c.deref-in-MakeVec3.ensures) (sym c.deref-in-MakeVec3-2.ensures) (sym c.deref-in-MakeVec3-3.ensures) in
     let ready = ready_as c.args.self.now c.args.expr.now _ same c.requires.ready in
     let parts = triple_ready c.args.self.now _ _ _ ready in
-    λ κs lives. (omega (arith, c.decreases, ap the_size c.in-MakeVec3.is, sized-MakeVec3 c.in-MakeVec3.x c.in-MakeVec3.y c.in-MakeVec3.z, ap the_size c.deref-in-MakeVec3.ensures, ap the_size c.deref-in-MakeVec3-2.ensures, ap the_size c.deref-in-MakeVec3-3.ensures), (lives, (parts.0, (parts.1, (parts.2, (c.requires.fits, c.requires.kept))))))
+    λ κs lives. (triple_less (the_size c.args.expr.now) (the_size c.in-MakeVec3.x.value) (the_size c.in-MakeVec3.y.value) (the_size c.in-MakeVec3.z.value) (the_size c.deref-in-MakeVec3.result.now) (the_size c.deref-in-MakeVec3-2.result.now) (the_size c.deref-in-MakeVec3-3.result.now) _ c.decreases (ap the_size c.in-MakeVec3.is ∙ sized-MakeVec3 c.in-MakeVec3.x c.in-MakeVec3.y c.in-MakeVec3.z) (ap the_size c.deref-in-MakeVec3.ensures) (ap the_size c.deref-in-MakeVec3-2.ensures) (ap the_size c.deref-in-MakeVec3-3.ensures), (lives, (parts.0, (parts.1, (parts.2, (c.requires.fits, c.requires.kept))))))
 
 pub composed-returns-in-MakeVec3 : goal.composed-returns-in-MakeVec3
 composed-returns-in-MakeVec3 g t c =
@@ -641,7 +644,7 @@ composed-numbers-requires-in-MakeRgb g t c =
     let same = ap tree_of c.in-MakeRgb.is ∙ three_trees MakeRgb _ _ _ _ _ _ (sym c.deref-in-MakeRgb.ensures) (sym c.deref-in-MakeRgb-2.ensures) (sym c.deref-in-MakeRgb-3.ensures) in
     let ready = ready_as c.args.self.now c.args.expr.now _ same c.requires.ready in
     let parts = colour_ready c.args.self.now _ _ _ ready in
-    λ κs lives. (omega (arith, c.decreases, ap the_size c.in-MakeRgb.is, sized-MakeRgb c.in-MakeRgb.red c.in-MakeRgb.green c.in-MakeRgb.blue, ap the_size c.deref-in-MakeRgb.ensures, ap the_size c.deref-in-MakeRgb-2.ensures, ap the_size c.deref-in-MakeRgb-3.ensures), (lives, (parts.0, (parts.1, (parts.2, (c.requires.fits, c.requires.kept))))))
+    λ κs lives. (triple_less (the_size c.args.expr.now) (the_size c.in-MakeRgb.red.value) (the_size c.in-MakeRgb.green.value) (the_size c.in-MakeRgb.blue.value) (the_size c.deref-in-MakeRgb.result.now) (the_size c.deref-in-MakeRgb-2.result.now) (the_size c.deref-in-MakeRgb-3.result.now) _ c.decreases (ap the_size c.in-MakeRgb.is ∙ sized-MakeRgb c.in-MakeRgb.red c.in-MakeRgb.green c.in-MakeRgb.blue) (ap the_size c.deref-in-MakeRgb.ensures) (ap the_size c.deref-in-MakeRgb-2.ensures) (ap the_size c.deref-in-MakeRgb-3.ensures), (lives, (parts.0, (parts.1, (parts.2, (c.requires.fits, c.requires.kept))))))
 
 pub composed-returns-in-MakeRgb : goal.composed-returns-in-MakeRgb
 composed-returns-in-MakeRgb g t c =
