@@ -1,6 +1,7 @@
-use Rattle.std.proofs.Common.{◌≡◌, ◌+◌, ◌<◌, ◌≤◌, length, get_or, Some, ap, sym, subst, ◌∙◌, arith}
+use Rattle.std.proofs.Common.{◌≡◌, ℕ, ◌+◌, ◌*◌, ◌<◌, ◌≤◌, Fits, w8, w64, List, [], length, get_or, Some, refl, ap, sym, subst, ◌∙◌, below_none, falls, arith}
+use Rattle.std.proofs.Math.Nat.{le_antisymm}
 use Rattle.std.proofs.lemmas.List.{length_push}
-use Rattle.std.proofs.lemmas.Option.{slice_get-get_or}
+use Rattle.std.proofs.lemmas.Option.{slice_get-get_or, slice_get_within}
 use Rattle.std.proofs.lemmas.Result.{IfOk-from_err}
 use Rattle.gm_model.specs.declared.schema.Embed.{Embed}
 use Rattle.gm_model.specs.Labels.{has}
@@ -11,9 +12,39 @@ use Rattle.gm_plan.specs.Sources.{IsSources}
 use Rattle.gm_plan.proofs.EmbedTables.{first_more}
 use Rattle.gm_plan.proofs.sources.sources_of.Goals as goal
 
+one_byte : (e n : ℕ) → e < n → n ≤ 8 → Fits w8 e
+one_byte e n below few = record { fits = omega arith }
+
+row_start : (e n : ℕ) → e < n → n ≤ 8 → Fits w64 (e * 35)
+row_start e n below few = record { fits = omega arith }
+
+pub loop-embed-init : goal.loop-embed-init
+loop-embed-init c = rw c.new-sources.ensures.items record { long = refl; first = λ e s here. absurd (below_none (λ k. ⊥) e (slice_get_within [] e s here)) }
+
+pub offset_bounds-declared-items-embed : goal.offset_bounds-declared-items-embed
+offset_bounds-declared-items-embed c = row_start c.loop-embed.embed (length c.args.schema.now.embeds) (subst (λ items. c.loop-embed.embed < length items) c.as_slice-declared-items.ensures c.loop-embed-test.true) c.requires.planned.embeds
+
+pub bounds-declared-items-embed : goal.bounds-declared-items-embed
+bounds-declared-items-embed c = c.loop-embed-test.true
+
+pub overflow_cast-embed : goal.overflow_cast-embed
+overflow_cast-embed c = one_byte c.loop-embed.embed (length c.args.schema.now.embeds) (subst (λ items. c.loop-embed.embed < length items) c.as_slice-declared-items.ensures c.loop-embed-test.true) c.requires.planned.embeds
+
+pub sources_for-requires-clause-top : goal.sources_for-requires-clause-top
+sources_for-requires-clause-top c = subst (λ n. n ≤ 7) (sym c.top-top.ensures.value) c.top-top.ensures.greatest
+
+pub loop-embed-smaller : goal.loop-embed-smaller
+loop-embed-smaller c = falls _ _ c.loop-embed-test.true
+
+pub returns : goal.returns
+returns c = record {
+  long = c.loop-embed.invariant.long ∙ le_antisymm c.loop-embed.auto.embed-end c.loop-embed-test.false ∙ ap length c.as_slice-declared-items.ensures;
+  here = c.loop-embed.invariant.first;
+}
+
 pub sources_for-requires-clause-bounds : goal.sources_for-requires-clause-bounds
 sources_for-requires-clause-bounds c =
-    let few : c.args.schema.now.dim ≤ 7 = (let top = c.top-top.ensures in omega arith) in
+    let few = c.top-top.ensures.greatest in
     let accepted = c.requires.planned.accepted in
     has_bounds c.args.schema.now (rule_of c.args.rule.now) few accepted.in_range c.requires.planned.within accepted.incidence
 
