@@ -1,4 +1,4 @@
-use Rattle.std.proofs.Common.{length, false, refl, sym, ◌∙◌, arith}
+use Rattle.std.proofs.Common.{length, refl, sym, ◌∙◌, arith}
 use Rattle.std.proofs.lemmas.Bool.{false≢true}
 use Rattle.std.proofs.lemmas.Option.{slice_get_read, slice_get_within}
 use Rattle.gm_plan.proofs.Collectors.{no_set_more}

@@ -1,4 +1,4 @@
-use Rattle.std.proofs.Common.{◌≡◌, ◌<◌, List, [], length, Some, IsTrue, ap, sym, subst, ◌∙◌, below_more, below_none, falls, lt_of_lt_of_le, le_trans}
+use Rattle.std.proofs.Common.{◌≡◌, ◌<◌, List, [], length, Some, ap, sym, subst, ◌∙◌, below_more, below_none, falls, lt_of_lt_of_le}
 use Rattle.std.proofs.lemmas.Bool.{false≢true}
 use Rattle.std.specs.List.{slice_get}
 use Rattle.std.specs.Option.{is_some, unwrap_or}
