@@ -1,7 +1,7 @@
 //! The tests whose calls count steps, over one counter.
 ghost use Rattle.std.specs.Prelude.{◌≡◌, ◌<◌};
 
-use crate::{arena, matching, pending, walks};
+use crate::{arena, matching, pending, versions, walks};
 use gm_arena::Steps;
 use std::alloc::Global;
 use std::marker::Brand;
@@ -18,6 +18,7 @@ fn check_each<L: Ledger>(rt: &impl Abort, alloc: Global, handle: &HostRuntime, b
     walks::walk_square(rt, alloc, &mut steps);
     matching::match_each(rt, alloc, &mut steps);
     pending::create_each(rt, alloc, &mut steps);
+    versions::print_back(rt, alloc, &mut steps);
 }
 
 #[test]

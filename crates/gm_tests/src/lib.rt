@@ -1,9 +1,11 @@
-//! Tests of calls of the libraries below the commands, and worked examples of the theorem. Rules and maps are
-//! made of texts.
+//! Tests of calls that no command shows, of commands over stores and sinks that fail, and worked examples of
+//! the theorem. Rules and maps are made of texts.
 #![tactic(auto)]
 
 #[cfg(test)]
 mod arena;
+#[cfg(test)]
+mod commands;
 #[cfg(test)]
 mod counted;
 #[cfg(test)]
@@ -22,5 +24,9 @@ mod planning;
 mod text;
 #[cfg(test)]
 mod texts;
+#[cfg(test)]
+mod trials;
+#[cfg(test)]
+mod versions;
 #[cfg(test)]
 mod walks;

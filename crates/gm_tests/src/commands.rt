@@ -1,7 +1,8 @@
-//! What a line does, over a store and a sink in memory, and the assertions on it. Each assertion
-//! stands in a function of its own, and whoever owns the store and the sink calls one that borrows them.
+//! What a command does over a store and a sink in memory, and the assertions on it. Whoever owns the store
+//! and the sink calls one that borrows them.
 ghost use Rattle.std.specs.Prelude.{◌≡◌, ◌<◌};
 
+use crate::expect::expect_same_at;
 use gm_arena::Steps;
 use gm_host::{MemSink, MemStore};
 use gm_tool::tool;
@@ -51,26 +52,18 @@ pub(crate) fn expect_end(
     let words = words_of(rt, host.alloc(), line);
     let (status, put) = *end;
     let ended = run::<Brand>(host, words.as_slice(), store, out, Blank::new(1));
-    expect_status(rt, ended, status, line);
-    expect_put(rt, out, put, line);
+    expect_same_at(rt, &ended, &status, &line);
+    expect_same_at(rt, &out.bytes(), &put.as_bytes(), &line);
 }
 
-fn expect_status(rt: &impl Abort, ended: u8, status: u8, about: &str) {
-    assert_eq!(rt; ended, status, "{about}");
-}
-
-fn expect_put(rt: &impl Abort, out: &MemSink, put: &str, about: &str) {
-    assert_eq!(rt; out.bytes(), put.as_bytes(), "{about}");
-}
-
-/// The store holds this text under the name, or none.
+/// The store holds this text under the name, or none. A message shows the line.
 pub(crate) fn expect_held(
     rt: &impl Abort,
     store: &MemStore,
     name: &str,
     text: Option<&str>,
-    about: &str,
+    line: &str,
 ) {
     let held = text.map(|text| text.as_bytes());
-    assert_eq!(rt; store.bytes(name), held, "{about}");
+    expect_same_at(rt, &store.bytes(name), &held, &line);
 }

@@ -1,7 +1,7 @@
 //! Lines that are run over files in memory, where a load, a save or a put fails or nothing does: commands on
 //! one file, runs, migrations, and grids, for which nothing is loaded and nothing saved.
 
-use crate::expect::{expect_end, expect_held};
+use crate::commands::{expect_end, expect_held};
 use gm_host::{MemSink, MemStore};
 use std::process::Abort;
 
