@@ -1,5 +1,5 @@
 -- The darts that were seen are no more than the live darts, and so are their steps.
-use Rattle.std.proofs.Common.{◌≡◌, ◌≢◌, ℕ, ◌+◌, ◌*◌, ◌<◌, ◌≤◌, List, length, ◌∙◌, arith}
+use Rattle.std.proofs.Common.{◌≡◌, ◌≢◌, ℕ, ◌+◌, ◌*◌, ◌<◌, ◌≤◌, Bool, List, length, ◌∙◌, Fits, w32, arith}
 use Rattle.std.specs.Cmp.{nat_eq_equiv}
 use Rattle.std.specs.FinMap.{keys}
 use Rattle.std.specs.List.{AllPairs, Contains}
@@ -7,10 +7,13 @@ use Rattle.std.proofs.Math.Nat.{mul-le-mul_left}
 use Rattle.std.proofs.lemmas.Bool.{eqb-true}
 use Rattle.std.proofs.lemmas.Bool.Decides.{Decides-eqb}
 use Rattle.std.proofs.lemmas.List.{get_or_default}
+use Rattle.std.proofs.lemmas.List.Sums.{count_by-le-length}
 use Rattle.std.proofs.lemmas.Map.Made.{IsDistinct-from_AllPairs, length-le_from_is_member}
 use Rattle.std.proofs.lemmas.Map.Views.{Contains-from_any, list_any-from_Contains}
 use Rattle.gm_model.specs.Orbits.{HasNoRepeats}
 use Rattle.gm_arena.specs.ArenaMap.{ArenaMap, IsLiveName}
+use Rattle.gm_arena.specs.Lawful.{IsLawful}
+use Rattle.gm_walk.specs.Seen.{seen_count}
 use Rattle.gm_walk.proofs.CountLemmas.{is_named}
 
 -- ---- lists without repeats
@@ -34,6 +37,26 @@ steps_more k start i before after old new was more = omega arith
 pub steps_most : (k start after seen darts : ℕ) → seen ≤ darts → after ≤ start + darts + k * seen → after ≤ start + (k + 1) * darts
 steps_most k start after seen darts few most = omega (arith, most, mul-le-mul_left k few)
 
+-- where all names were gone over
+pub steps_in_names : (k start after place seen darts names count : ℕ) → seen ≡ darts → darts ≤ names → names ≡ count → place ≡ names → after ≤ start + place + k * seen → after ≤ start + (k + 1) * count
+steps_in_names k start after place seen darts names count all few counted end most = steps_most k start after seen count (omega arith) (omega arith)
+
+-- where no name was looked up
+pub steps_in_slots : (k start after : ℕ) (seen : List Bool) (bound count : ℕ) → length seen ≡ bound → bound ≡ count → after ≤ start + k * seen_count seen → after ≤ start + (k + 1) * count
+steps_in_slots k start after seen bound count long counted most =
+    let few = count_by-le-length (λ b. b) seen in
+    steps_most k start after (seen_count seen) count (omega arith) (omega arith)
+
 -- with a step for each name, and one for each slot
 pub steps_in_all : (n start named after darts : ℕ) → named ≡ start + darts → after ≤ named + (4 * (n + 1) + 1) * darts → after ≤ start + 8 * (n + 1) * darts
 steps_in_all n start named after darts at most = omega arith
+
+-- ---- the numbers of orbits
+
+-- each slot below the bound has a dart
+pub few_places : (m : ArenaMap) (end : ℕ) → end ≡ m.bound → m.bound ≡ m.count → IsLawful m → end ≤ 1048576
+few_places m end e counted lawful = omega (arith, lawful.few_darts)
+
+-- at most one more at each place
+pub one_more_fits : (orbits more place places : ℕ) → orbits ≤ place → more ≤ 1 → place < places → places ≤ 1048576 → Fits w32 (orbits + more)
+one_more_fits orbits more place places few one within most = omega arith

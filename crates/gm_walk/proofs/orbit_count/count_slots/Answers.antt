@@ -1,4 +1,4 @@
-use Rattle.std.proofs.Common.{◌≡◌, refl, ◌≤◌, [], false, length, sym, ap, subst, ◌∙◌, inl, inr, arith}
+use Rattle.std.proofs.Common.{◌≡◌, refl, ◌+◌, ◌*◌, ◌<◌, ◌≤◌, [], false, length, sym, ap, subst, lt_of_lt_of_le, ◌∙◌, inl, inr, arith}
 use Rattle.std.specs.List.{Contains}
 use Rattle.std.proofs.lemmas.Bool.{cases_lt}
 use Rattle.std.proofs.lemmas.List.{length-replicate}
@@ -7,12 +7,23 @@ use Rattle.gm_arena.specs.ArenaMap.{name_at}
 use Rattle.gm_arena.proofs.MapLemmas.{name_at-is, slot_of_name}
 use Rattle.gm_walk.specs.Seen.{HasSeen}
 use Rattle.gm_walk.proofs.LeadLemmas.{all_met, nothing_met}
+use Rattle.gm_walk.proofs.MetLemmas.{few_places, one_more_fits, steps_in_slots}
 use Rattle.gm_walk.proofs.SlotLemmas.{nothing_there}
 use Rattle.gm_walk.proofs.WordLemmas.{is_word, letters_of_word}
 use Rattle.gm_walk.proofs.orbit_count.count_slots.Goals as goal
 
-pub see_new-orbits-requires-clause-word : goal.see_new-orbits-requires-clause-word
-see_new-orbits-requires-clause-word g c = rw c.word_of-word.ensures (is_word c.args.arena.now.schema.dim c.args.mask (λ label few h. c.requires.mask label h))
+pub see_new-orbits-requires : goal.see_new-orbits-requires
+see_new-orbits-requires g c =
+    let m = c.args.arena.now in
+    record {
+      generalised = c.requires.generalised;
+      lawful = c.bound-at-end.ensures.lawful;
+      from = c.requires.live c.loop-at.at (subst (λ end. c.loop-at.at < end) c.bound-at-end.ensures.bound c.loop-at-test.true);
+      word = rw c.word_of-word.ensures (is_word m.schema.dim c.args.mask (λ label few h. c.requires.mask label h));
+      pair = rw c.word_of-word.ensures c.requires.pair;
+      long = c.loop-at.invariant.long;
+      fits = λ none. subst (λ bound. m.bound ≤ bound) (sym c.loop-at.invariant.room) (c.requires.fits none);
+    }
 
 pub loop-at-init : goal.loop-at-init
 loop-at-init g c =
@@ -51,13 +62,23 @@ loop-at-preserved g c =
       least = omega (arith, i.least, e.least);
     }
 
-pub returns-clause-orbits : goal.returns-clause-orbits
-returns-clause-orbits g c =
+pub overflow_add-orbits : goal.overflow_add-orbits
+overflow_add-orbits g c =
+    let few = few_places c.args.arena.now c.bound-at-end.result c.bound-at-end.ensures.bound c.requires.count c.bound-at-end.ensures.lawful in
+    one_more_fits c.loop-at.orbits c.see_new-orbits.result c.loop-at.at c.bound-at-end.result c.loop-at.invariant.few c.see_new-orbits.ensures.one c.loop-at-test.true few
+
+pub returns : goal.returns
+returns g c =
     let i = c.loop-at.invariant in
     let m = c.args.arena.now in
     let lawful = c.bound-at-end.ensures.lawful in
     let darts = i.seen.0 in
-    let end : m.bound ≤ c.loop-at.at = omega (arith, c.loop-at-test.false, c.bound-at-end.ensures.bound, c.loop-at.auto.at-end) in
-    all_met m (has c.args.mask) c.word_of-word.result darts c.loop-at.orbits i.seen.2 (λ d live.
-    let slot = slot_of_name m d lawful live in
-    subst (Contains darts) (name_at-is m slot.0 d slot.1) (i.seen.3 slot.0 (omega (arith, end, lawful.below_bound slot.0 d slot.1))))
+    let end : m.bound ≤ c.loop-at.at = subst (λ n. n ≤ c.loop-at.at) c.bound-at-end.ensures.bound c.loop-at-test.false in
+    record {
+      orbits = all_met m (has c.args.mask) c.word_of-word.result darts c.loop-at.orbits i.seen.2 (λ d live.
+          let slot = slot_of_name m d lawful live in
+          subst (Contains darts) (name_at-is m slot.0 d slot.1) (i.seen.3 slot.0 (lt_of_lt_of_le (lawful.below_bound slot.0 d slot.1) end)));
+      cost = steps_in_slots (4 * (m.schema.dim + 1)) c.args.steps.now c.loop-at.steps c.loop-at.seen m.bound m.count i.long c.requires.count i.cost;
+      least = i.least;
+      bound = i.room;
+    }
