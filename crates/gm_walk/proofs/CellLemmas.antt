@@ -9,6 +9,9 @@ use Rattle.std.specs.List.{slice_get, All}
 use Rattle.gm_walk.specs.Cells.{AreCells, AreFirstCells, IsRow}
 
 module _ {X : Type 0} where
+  pub no_cells : (P : ℕ → ℕ → X → Type 0) (width : ℕ) → AreCells P 0 width []
+  no_cells P width = record { long = omega arith; each = λ p x h k. absurd (omega (arith, h)) }
+
   pub get_left : (xs ys : List X) (i : ℕ) (v : X) → slice_get xs i ≡ Some v → slice_get (xs ++ ys) i ≡ Some v
   get_left xs ys i v e =
       let within : i < length xs = slice_get_within xs i v e in

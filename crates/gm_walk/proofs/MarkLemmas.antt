@@ -1,14 +1,15 @@
 -- What a queue and its marks keep when a slot comes or goes, and what a mark tells of its slot.
-use Rattle.std.proofs.Common.{◌≡◌, ℕ, zero, suc, ◌+◌, ◌-◌, ◌<◌, ◌≤◌, ◌⊎◌, ◌==◌, List, [], ◌∷◌, ◌++◌, Option, Some, None, cond, length, get_or, set, replicate, slice_get, refl, sym, ap, subst, ◌∙◌, inl, inr, arith, length-append, length-set, get_or-set_same, get_or-set_other}
+use Rattle.std.proofs.Common.{◌≡◌, ℕ, zero, suc, ◌+◌, ◌-◌, ◌<◌, ◌≤◌, ◌⊎◌, ◌==◌, List, [], ◌∷◌, ◌++◌, Option, Some, None, cond, length, get_or, set, replicate, slice_get, take, drop, refl, sym, ap, subst, ◌∙◌, inl, inr, le_trans, arith, length-append, length-set, get_or-set_same, get_or-set_other}
 use Rattle.std.specs.List.{Contains}
 use Rattle.std.specs.Option.{MatchOption, SomeIff}
+use Rattle.std.proofs.Math.Seq.{take-append_seam}
 use Rattle.std.proofs.lemmas.Bool.{cases_eq, cases_lt, ne_eqb}
 use Rattle.std.proofs.lemmas.List.{length-map, length-replicate, get_or_append_left, get_or_push, get_or_past, get_or-map, length_push, get_or-append_right, get_or-replicate}
 use Rattle.std.proofs.lemmas.List.Sums.{sum_by-set, sum_by-append}
 use Rattle.std.proofs.lemmas.List.Folds.{sum_by-replicate}
 use Rattle.std.proofs.lemmas.Option.{slice_get-get_or}
 use Rattle.gm_arena.specs.declared.slot.Slot.{Slot}
-use Rattle.gm_walk.specs.Marks.{IsMarked, numbers, unmarked}
+use Rattle.gm_walk.specs.Marks.{IsKept, IsMarked, numbers, unmarked}
 
 -- a place of a list with one more at its end is a place of the list, or the end
 place_cases : (queue : List ℕ) (slot p : ℕ) → p < length (queue ++ slot ∷ []) → (p < length queue) ⊎ (p ≡ length queue)
@@ -151,3 +152,17 @@ module _ (slots : List Slot) (marks : List ℕ) (m : IsMarked (numbers slots) ma
   pub place_told : (mark : ℕ) (answer : Option ℕ) → get_or marks slot.at 0 ≡ mark → SomeIff answer (1 ≤ mark) (mark - 1) → MatchOption answer (Contains slots slot → ⊥) (λ place. slice_get slots place ≡ Some slot)
   place_told mark None e told = not_contained (elim (cases_lt 0 mark) [ inl l ↦ absurd (told (omega arith)) | inr l ↦ omega arith ])
   place_told mark (Some place) e told = placed place (omega (arith, told))
+
+-- ---- what is written back
+
+-- as many marks as there were stand for them all
+pub written_back : (n : ℕ) (marks before : List ℕ) → length marks ≡ n → take n (marks ++ drop (length marks) before) ≡ marks
+written_back n marks before e = ap (λ k. take k (marks ++ drop (length marks) before)) (sym e) ∙ take-append_seam marks (drop (length marks) before)
+
+-- the same queue and marks are kept where there is as much room
+pub still_kept : (queue after : List Slot) (marks new : List ℕ) (capacity room : ℕ) → after ≡ queue → new ≡ marks → capacity ≤ room → IsKept queue marks capacity → IsKept after new room
+still_kept queue after marks new capacity room e f more k = rw (e, f) (record { marked = k.marked; room = le_trans k.room more; few = k.few })
+
+-- a queue is no longer than its marks
+pub queue_short : (queue : List Slot) (marks : List ℕ) (capacity : ℕ) → IsKept queue marks capacity → length queue ≤ length marks
+queue_short queue marks capacity k = omega (arith, k.marked.counted, length-map queue (λ (s : Slot). s.at))

@@ -1,5 +1,5 @@
 -- The walk of slots as the walk of the names at them.
-use Rattle.std.proofs.Common.{◌≡◌, ℕ, ◌+◌, ◌<◌, ◌≤◌, ◌⊎◌, ◌↔◌, inl, inr, Bool, false, IsTrue, List, [], ◌∷◌, ◌++◌, Option, Some, None, length, get_or, unwrap_or, slice_get, refl, sym, ap, subst, ◌∙◌, arith}
+use Rattle.std.proofs.Common.{◌≡◌, ℕ, ◌+◌, ◌-◌, ◌<◌, ◌≤◌, ◌⊎◌, ◌↔◌, inl, inr, Bool, false, IsTrue, List, [], ◌∷◌, ◌++◌, Option, Some, None, length, get_or, unwrap_or, slice_get, refl, sym, ap, subst, ◌∙◌, Fits, w64, arith}
 use Rattle.std.specs.List.{Contains}
 use Rattle.std.specs.Option.{IsSome, option_map}
 use Rattle.std.specs.FinMap.{get}
@@ -14,11 +14,12 @@ use Rattle.gm_model.specs.Rules.{label_of}
 use Rattle.gm_arena.specs.declared.slot.Slot.{Slot}
 use Rattle.gm_arena.specs.ArenaMap.{ArenaMap, IsAt, IsLiveSlot, name_at, alpha}
 use Rattle.gm_arena.specs.Lawful.{IsLawful}
+use Rattle.gm_arena.proofs.MapLemmas.{IsAt-name_at}
 use Rattle.gm_walk.specs.Room.{Room, TakesIn}
 use Rattle.gm_walk.specs.Room.TakesIn.{Known, Added}
-use Rattle.gm_walk.specs.Walks.{AreLive, along, names_of}
+use Rattle.gm_walk.specs.Walks.{AreLive, IsWalkedTo, along, names_of}
 use Rattle.gm_walk.proofs.MarkLemmas.{same_slot}
-use Rattle.gm_walk.proofs.WalkLemmas.{known, added}
+use Rattle.gm_walk.proofs.WalkLemmas.{begins, known, added}
 
 -- the slot is the last that was walked, behind others, none of which it is
 pub record IsNewLast (before : List Slot) (slot : Slot) (walked : List Slot) : Type 0 where
@@ -136,3 +137,46 @@ module _ (m : ArenaMap) where
             (added (along m word) (length word) d q l (names_of m old.walked) w
             (omega (arith, length-map old.walked (λ (s : Slot). name_at m s.at))) place (name_at m slot.at) leads
             (names_lack lawful old.walked slot (name_at m slot.at) live (subst (IsAt m slot.at) (sym (at_name slot.at _ at)) at) c)))
+
+-- ---- the first slot of a walk
+
+-- what a scratch that was cleared has once it took in the slot that a walk begins with
+pub record HasBegun (m : ArenaMap) (before : Room) (slot : Slot) (new : Room) : Type 0 where
+  pub live : AreLive m new.walked
+  pub walk : (word : List Letter) → IsWalkedTo m word (name_at m slot.at) 0 new.walked
+  pub bound : new.bound ≡ before.bound
+  pub within : 0 ≤ length new.walked
+
+pub has_begun : (m : ArenaMap) (before old : Room) (slot : Slot) (new : Room) → old ≡ record before { walked = [] } → TakesIn old slot new → IsLiveSlot m slot.at → HasBegun m before slot new
+has_begun m before old slot new cleared takes here =
+    let none : old.walked ≡ [] = ap (λ (r : Room). r.walked) cleared in
+    let alone = one_walked none takes in
+    record {
+      live = live_after m old slot new takes (subst (AreLive m) (sym none) (λ k d h. absurd (omega (arith, h)))) here;
+      walk = λ word. subst (λ slots. IsWalkedTo m word (name_at m slot.at) 0 slots) (sym alone) (begins (along m word) (length word) (name_at m slot.at));
+      bound = bound_after m old slot new takes ∙ ap (λ (r : Room). r.bound) cleared;
+      within = omega arith;
+    }
+  where
+    one_walked : old.walked ≡ [] → TakesIn old slot new → new.walked ≡ slot ∷ []
+    one_walked none (Known c e) = absurd (lacks (subst (λ slots. Contains slots slot) none c))
+      where
+        lacks : Contains [] slot → ⊥
+        lacks c = omega (arith, c.1)
+    one_walked none (Added c e) = ap (λ (r : Room). r.walked) e ∙ ap (λ slots. slots ++ slot ∷ []) none
+
+-- ---- the places of a walk
+
+pub next_fits : (place walked : ℕ) → place < walked → walked ≤ 4294967295 → Fits w64 (place + 1)
+next_fits place walked within most = omega arith
+
+-- the places that are left of those that there can be
+pub place_falls : (place walked before after : ℕ) → place < walked → walked ≤ before → after ≡ before → after - (place + 1) < before - place
+place_falls place walked before after within few same = omega arith
+
+-- a live slot is below the bound
+pub live_below : (m : ArenaMap) (slot : ℕ) → IsLawful m → IsLiveSlot m slot → slot < m.bound
+live_below m slot lawful here = lawful.below_bound slot _ (IsAt-name_at m slot here)
+
+pub none_past : (m : ArenaMap) (slot end : ℕ) → IsLawful m → IsLiveSlot m slot → end ≡ m.bound → end ≤ slot → ⊥
+none_past m slot end lawful here same past = let below = live_below m slot lawful here in omega arith

@@ -105,3 +105,8 @@ letters_of_word mask word n most few is = subst (HasLettersOf (has mask)) (sym i
 
 pub is_letter : (n : ℕ) (word : List Letter) → IsWord n word → (l : ℕ) (letter : Letter) → slice_get word l ≡ Some letter → IsLabelUpTo n letter
 is_letter n word is l letter e = subst (IsLabelUpTo n) (get_or_from_slice_get word l letter letter e) (is l letter (slice_get_within word l letter e))
+
+pub two_labels : (n first second : ℕ) (word : List Letter) → IsWord n word → word ≡ At first ∷ At second ∷ [] → (first ≤ n) × (second ≤ n)
+two_labels n first second word is two =
+    let both = subst (IsWord n) two is in
+    (both 0 (At first) (omega arith), both 1 (At second) (omega arith))

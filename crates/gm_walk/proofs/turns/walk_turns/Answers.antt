@@ -1,12 +1,58 @@
-use Rattle.std.proofs.Common.{◌≡◌, ◌<◌, ◌≤◌, length, subst, ap, ◌∙◌, arith}
+use Rattle.std.proofs.Common.{◌≡◌, ◌<◌, ◌≤◌, List, length, sym, subst, ap, ◌∙◌, le_antisymm, le_refl, le_trans, le-add_right, lt_of_lt_of_le, arith}
 use Rattle.std.proofs.lemmas.List.{length-map}
 use Rattle.gm_arena.specs.declared.slot.Slot.{Slot}
 use Rattle.gm_arena.specs.ArenaMap.{name_at}
 use Rattle.gm_model.specs.Orbits.{IsWalkTo}
-use Rattle.gm_model.proofs.Exits.{on_err}
+use Rattle.gm_model.proofs.Exits.{never_ok, on_err}
+use Rattle.gm_walk.specs.Cells.{AreCells}
+use Rattle.gm_walk.specs.Room.{Room}
+use Rattle.gm_walk.specs.Turns.{IsTurn}
 use Rattle.gm_walk.specs.Walks.{along, names_of}
+use Rattle.gm_walk.proofs.CellLemmas.{no_cells}
+use Rattle.gm_walk.proofs.NameLemmas.{has_begun, live_below, next_fits, none_past, place_falls}
 use Rattle.gm_walk.proofs.TurnLemmas.{part_within, turn_steps, all_steps}
 use Rattle.gm_walk.proofs.turns.walk_turns.Goals as goal
+
+pub prove-unreachable-requires : goal.prove-unreachable-requires
+prove-unreachable-requires g c = none_past c.args.arena.now c.args.from.at c.bound.result c.bound.ensures.lawful c.requires.live c.bound.ensures.bound c.if-prove.true
+
+pub take_in-requires : goal.take_in-requires
+take_in-requires g c =
+    let below = live_below c.args.arena.now c.args.from.at c.bound.ensures.lawful c.requires.live in
+    subst (λ (room : Room). c.args.from.at < room.bound) (sym c.clear.ensures) (lt_of_lt_of_le below c.requires.fits)
+
+pub loop-at-init : goal.loop-at-init
+loop-at-init g c =
+    let m = c.args.arena.now in
+    let word = c.args.word.now in
+    let begun = has_begun m c.args.scratch.now c.clear.new.self c.args.from c.take_in.new.self c.clear.ensures c.take_in.ensures c.requires.live in
+    record {
+      within = begun.within;
+      live = begun.live;
+      walk = begun.walk word;
+      cells = rw c.requires.empty (no_cells _ (length word));
+      bound = begun.bound;
+      cost = le-add_right _ _;
+      least = le_refl _;
+    }
+
+pub take_in_turns-requires : goal.take_in_turns-requires
+take_in_turns-requires g c =
+    let i = c.loop-at.invariant in
+    record {
+      lawful = c.bound.ensures.lawful;
+      within = subst (λ (slots : List Slot). c.loop-at.at < length slots) c.walked.ensures.value c.loop-at-test.true;
+      live = i.live;
+      word = c.requires.word;
+      fits = subst (λ bound. c.args.arena.now.bound ≤ bound) (sym i.bound) c.requires.fits;
+    }
+
+pub overflow_add-at : goal.overflow_add-at
+overflow_add-at g c = next_fits c.loop-at.at (length c.loop-at.scratch.walked) (subst (λ (slots : List Slot). c.loop-at.at < length slots) c.walked.ensures.value c.loop-at-test.true) c.walked.ensures.most
+
+pub loop-at-smaller : goal.loop-at-smaller
+loop-at-smaller g c = place_falls c.loop-at.at (length c.loop-at.scratch.walked) c.loop-at.scratch.bound c.take_in_turns.new.scratch.bound
+    (subst (λ (slots : List Slot). c.loop-at.at < length slots) c.walked.ensures.value c.loop-at-test.true) c.walked.ensures.few c.take_in_turns.ensures.bound
 
 pub loop-at-preserved : goal.loop-at-preserved
 loop-at-preserved g c =
@@ -23,37 +69,41 @@ loop-at-preserved g c =
       least = omega (arith, i.least, e.least);
     }
 
-pub returns-in_err-take_in_turns-clause-cost : goal.returns-in_err-take_in_turns-clause-cost
-returns-in_err-take_in_turns-clause-cost g c = λ walk whole.
+pub returns-in_err-take_in_turns : goal.returns-in_err-take_in_turns
+returns-in_err-take_in_turns g c =
     let m = c.args.arena.now in
     let word = c.args.word.now in
     let i = c.loop-at.invariant in
-    let few = part_within (along m word) (length word) (name_at m c.args.from.at) walk whole c.loop-at.at 0 (names_of m c.loop-at.scratch.walked) i.walk in
-    let less : c.loop-at.at < length walk = omega (arith, few, c.loop-at-test.true, ap length c.walked.ensures.value, length-map c.loop-at.scratch.walked (λ (s : Slot). name_at m s.at)) in
-    turn_steps _ _ _ c.loop-at.at (length word) (length walk) less i.cost c.take_in_turns.ensures.cost
+    let e = c.take_in_turns.ensures in
+    record {
+      walk = never_ok _ c.from_residual.result c.from_residual.ensures.0;
+      live = e.live;
+      turns = never_ok _ c.from_residual.result c.from_residual.ensures.0;
+      err = on_err c.from_residual.result (c.in_err-take_in_turns.ensures.err (name_at m c.args.from.at) i.walk i.cells);
+      cost = λ walk whole.
+          let few = part_within (along m word) (length word) (name_at m c.args.from.at) walk whole c.loop-at.at 0 (names_of m c.loop-at.scratch.walked) i.walk in
+          let less : c.loop-at.at < length walk = omega (arith, few, c.loop-at-test.true, ap length c.walked.ensures.value, length-map c.loop-at.scratch.walked (λ (s : Slot). name_at m s.at)) in
+          turn_steps _ _ _ c.loop-at.at (length word) (length walk) less i.cost e.cost;
+      least = le_trans i.least e.least;
+      room = e.bound ∙ i.bound;
+    }
 
-pub returns-in_err-take_in_turns-clause-err : goal.returns-in_err-take_in_turns-clause-err
-returns-in_err-take_in_turns-clause-err g c =
-    let i = c.loop-at.invariant in
-    on_err c.from_residual.result (c.in_err-take_in_turns.ensures.err (name_at c.args.arena.now c.args.from.at) i.walk i.cells)
-
-pub returns-in_err-take_in_turns-clause-live : goal.returns-in_err-take_in_turns-clause-live
-returns-in_err-take_in_turns-clause-live g c = c.take_in_turns.ensures.live
-
-pub returns-clause-walk : goal.returns-clause-walk
-returns-clause-walk g c =
-    let m = c.args.arena.now in
-    let word = c.args.word.now in
-    let names = names_of m c.loop-at.scratch.walked in
-    let end : c.loop-at.at ≡ length names =
-    omega (arith, c.loop-at.invariant.within, c.loop-at-test.false, ap length c.walked.ensures.value, length-map c.loop-at.scratch.walked (λ (s : Slot). name_at m s.at)) in
-    subst (λ q. IsWalkTo (along m word) (length word) (name_at m c.args.from.at) q 0 names) end c.loop-at.invariant.walk
-
-pub returns-clause-cost : goal.returns-clause-cost
-returns-clause-cost g c = λ walk whole.
+pub returns : goal.returns
+returns g c =
     let m = c.args.arena.now in
     let word = c.args.word.now in
     let i = c.loop-at.invariant in
-    let few = part_within (along m word) (length word) (name_at m c.args.from.at) walk whole c.loop-at.at 0 (names_of m c.loop-at.scratch.walked) i.walk in
-    let most : c.loop-at.at ≤ length walk = omega (arith, few, i.within, length-map c.loop-at.scratch.walked (λ (s : Slot). name_at m s.at)) in
-    all_steps _ _ c.loop-at.at (length word) (length walk) most i.cost
+    let slots = c.loop-at.scratch.walked in
+    let long = length-map slots (λ (s : Slot). name_at m s.at) in
+    let end : c.loop-at.at ≡ length slots = le_antisymm i.within (subst (λ (slots : List Slot). length slots ≤ c.loop-at.at) c.walked.ensures.value c.loop-at-test.false) in
+    record {
+      walk = subst (λ q. IsWalkTo (along m word) (length word) (name_at m c.args.from.at) q 0 (names_of m slots)) (end ∙ sym long) i.walk;
+      live = i.live;
+      turns = subst (λ rows. AreCells (IsTurn m word (names_of m slots)) rows (length word) c.loop-at.turns.items) end i.cells;
+      err = tt;
+      cost = λ walk whole.
+          let few = part_within (along m word) (length word) (name_at m c.args.from.at) walk whole c.loop-at.at 0 (names_of m slots) i.walk in
+          all_steps _ _ c.loop-at.at (length word) (length walk) (rw (end, ← long) few) i.cost;
+      least = i.least;
+      room = i.bound;
+    }

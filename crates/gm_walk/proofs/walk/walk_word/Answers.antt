@@ -1,9 +1,10 @@
-use Rattle.std.proofs.Common.{◌≡◌, length, subst, ap, ◌∙◌, arith}
+use Rattle.std.proofs.Common.{◌≡◌, ◌+◌, ◌*◌, ◌<◌, ◌≤◌, List, length, refl, sym, subst, ap, ◌∙◌, le_antisymm, le_refl, le-add_right, arith, rules}
 use Rattle.std.proofs.lemmas.List.{length-map}
 use Rattle.gm_arena.specs.declared.slot.Slot.{Slot}
 use Rattle.gm_arena.specs.ArenaMap.{name_at}
 use Rattle.gm_model.specs.Orbits.{IsWalkTo}
 use Rattle.gm_walk.specs.Walks.{along, names_of}
+use Rattle.gm_walk.proofs.NameLemmas.{has_begun, next_fits, none_past, place_falls}
 use Rattle.gm_walk.proofs.walk.walk_word.Goals as goal
 
 pub loop-at-preserved : goal.loop-at-preserved
@@ -19,11 +20,51 @@ loop-at-preserved g c =
       least = omega (arith, i.least, e.least);
     }
 
-pub returns-clause-walk : goal.returns-clause-walk
-returns-clause-walk g c =
+pub prove-unreachable-requires : goal.prove-unreachable-requires
+prove-unreachable-requires g c = none_past c.args.arena.now c.args.from.at c.bound.result c.bound.ensures.lawful c.requires.live c.bound.ensures.bound c.if-prove.true
+
+pub loop-at-init : goal.loop-at-init
+loop-at-init g c =
+    let begun = has_begun c.args.arena.now c.args.scratch.now _ c.args.from c.take_in.new.self (search rules) c.take_in.ensures c.requires.live in
+    record {
+      within = begun.within;
+      live = begun.live;
+      walk = begun.walk c.args.word.now;
+      bound = begun.bound;
+      cost = le-add_right _ _;
+      least = le_refl _;
+    }
+
+pub take_in_neighbours-requires : goal.take_in_neighbours-requires
+take_in_neighbours-requires g c =
+    let i = c.loop-at.invariant in
+    record {
+      lawful = c.bound.ensures.lawful;
+      within = subst (λ (slots : List Slot). c.loop-at.at < length slots) c.walked.ensures.value c.loop-at-test.true;
+      live = i.live;
+      word = c.requires.word;
+      fits = subst (λ bound. c.args.arena.now.bound ≤ bound) (sym i.bound) c.requires.fits;
+    }
+
+pub overflow_add-at : goal.overflow_add-at
+overflow_add-at g c = next_fits c.loop-at.at (length c.loop-at.scratch.walked) (subst (λ (slots : List Slot). c.loop-at.at < length slots) c.walked.ensures.value c.loop-at-test.true) c.walked.ensures.most
+
+pub loop-at-smaller : goal.loop-at-smaller
+loop-at-smaller g c = place_falls c.loop-at.at (length c.loop-at.scratch.walked) c.loop-at.scratch.bound c.take_in_neighbours.new.scratch.bound
+    (subst (λ (slots : List Slot). c.loop-at.at < length slots) c.walked.ensures.value c.loop-at-test.true) c.walked.ensures.few c.take_in_neighbours.ensures.bound
+
+pub returns : goal.returns
+returns g c =
     let m = c.args.arena.now in
     let word = c.args.word.now in
-    let names = names_of m c.loop-at.scratch.walked in
-    let end : c.loop-at.at ≡ length names =
-    omega (arith, c.loop-at.invariant.within, c.loop-at-test.false, ap length c.walked.ensures.value, length-map c.loop-at.scratch.walked (λ (s : Slot). name_at m s.at)) in
-    subst (λ q. IsWalkTo (along m word) (length word) (name_at m c.args.from.at) q 0 names) end c.loop-at.invariant.walk
+    let i = c.loop-at.invariant in
+    let slots = c.loop-at.scratch.walked in
+    let end : c.loop-at.at ≡ length slots = le_antisymm i.within (subst (λ (slots : List Slot). length slots ≤ c.loop-at.at) c.walked.ensures.value c.loop-at-test.false) in
+    record {
+      walk = subst (λ q. IsWalkTo (along m word) (length word) (name_at m c.args.from.at) q 0 (names_of m slots)) (end ∙ sym (length-map slots (λ (s : Slot). name_at m s.at))) i.walk;
+      live = i.live;
+      cost = subst (λ n. c.loop-at.steps ≤ c.args.steps.now + 4 * (m.schema.dim + 1) * n) end i.cost;
+      least = i.least;
+      room = i.bound;
+      lender = refl;
+    }
