@@ -31,8 +31,17 @@ few_seen m names e darts distinct lives = few_among darts names distinct (λ d c
 
 -- ---- the steps
 
-pub steps_more : (k start i before after old new : ℕ) → before ≤ start + i + k * old → after + k * old ≤ before + 1 + k * new → after ≤ start + (i + 1) + k * new
-steps_more k start i before after old new was more = omega arith
+pub steps_none : (start seen : ℕ) → start ≤ start + 0 + seen
+steps_none start seen = omega arith
+
+pub steps_more : (k start i before looked after old new : ℕ) → before ≤ start + i + k * old → looked ≡ before + 1 → after + k * old ≤ looked + k * new → after ≤ start + (i + 1) + k * new
+steps_more k start i before looked after old new was step more = omega arith
+
+pub steps_on : (k start before after old new : ℕ) → before ≤ start + k * old → after + k * old ≤ before + k * new → after ≤ start + k * new
+steps_on k start before after old new was more = omega arith
+
+pub not_less : (start before looked after : ℕ) → start ≤ before → looked ≡ before + 1 → looked ≤ after → start ≤ after
+not_less start before looked after was step more = omega arith
 
 pub steps_most : (k start after seen darts : ℕ) → seen ≤ darts → after ≤ start + darts + k * seen → after ≤ start + (k + 1) * darts
 steps_most k start after seen darts few most = omega (arith, most, mul-le-mul_left k few)
@@ -53,6 +62,9 @@ steps_in_all n start named after darts at most = omega arith
 
 -- ---- the numbers of orbits
 
+pub one_more : (orbits more place : ℕ) → orbits ≤ place → more ≤ 1 → orbits + more ≤ place + 1
+one_more orbits more place few one = omega arith
+
 -- each slot below the bound has a dart
 pub few_places : (m : ArenaMap) (end : ℕ) → end ≡ m.bound → m.bound ≡ m.count → IsLawful m → end ≤ 1048576
 few_places m end e counted lawful = omega (arith, lawful.few_darts)
@@ -60,3 +72,11 @@ few_places m end e counted lawful = omega (arith, lawful.few_darts)
 -- at most one more at each place
 pub one_more_fits : (orbits more place places : ℕ) → orbits ≤ place → more ≤ 1 → place < places → places ≤ 1048576 → Fits w32 (orbits + more)
 one_more_fits orbits more place places few one within most = omega arith
+
+-- ---- the places that were gone over
+
+pub none_yet : (p : ℕ) → p < 0 → ⊥
+none_yet p h = omega arith
+
+pub last_place : (q p : ℕ) → q < p + 1 → p ≤ q → p ≡ q
+last_place q p h past = omega arith

@@ -1,5 +1,5 @@
 -- The walk of slots as the walk of the names at them.
-use Rattle.std.proofs.Common.{◌≡◌, ℕ, ◌+◌, ◌-◌, ◌<◌, ◌≤◌, ◌⊎◌, ◌↔◌, inl, inr, Bool, false, IsTrue, List, [], ◌∷◌, ◌++◌, Option, Some, None, length, get_or, unwrap_or, slice_get, refl, sym, ap, subst, ◌∙◌, Fits, w64, arith}
+use Rattle.std.proofs.Common.{◌≡◌, ℕ, ◌+◌, ◌-◌, ◌*◌, ◌<◌, ◌≤◌, ◌⊎◌, ◌↔◌, inl, inr, Bool, false, IsTrue, List, [], ◌∷◌, ◌++◌, Option, Some, None, length, get_or, unwrap_or, slice_get, refl, sym, ap, subst, ◌∙◌, Fits, w64, arith}
 use Rattle.std.specs.List.{Contains}
 use Rattle.std.specs.Option.{IsSome, option_map}
 use Rattle.std.specs.FinMap.{get}
@@ -169,6 +169,16 @@ has_begun m before old slot new cleared takes here =
 
 pub next_fits : (place walked : ℕ) → place < walked → walked ≤ 4294967295 → Fits w64 (place + 1)
 next_fits place walked within most = omega arith
+
+pub next_within : (place walked longer : ℕ) → place < walked → walked ≤ longer → place + 1 ≤ longer
+next_within place walked longer within more = omega arith
+
+-- the steps for one place more
+pub next_steps : (start before after place width : ℕ) → before ≤ start + place * width → after ≤ before + width → after ≤ start + (place + 1) * width
+next_steps start before after place width was more = omega arith
+
+pub next_steps_each : (k start before after place : ℕ) → before ≤ start + k * place → after ≤ before + k → after ≤ start + k * (place + 1)
+next_steps_each k start before after place was more = omega arith
 
 -- the places that are left of those that there can be
 pub place_falls : (place walked before after : ℕ) → place < walked → walked ≤ before → after ≡ before → after - (place + 1) < before - place

@@ -1,4 +1,4 @@
-use Rattle.std.proofs.Common.{◌≡◌, refl, ℕ, ◌+◌, ◌*◌, ◌≤◌, [], false, get_or, length, sym, ap, subst, le_antisymm, ◌∙◌, inl, inr, arith}
+use Rattle.std.proofs.Common.{◌≡◌, refl, ℕ, ◌+◌, ◌*◌, ◌≤◌, [], false, get_or, length, sym, ap, subst, le_antisymm, le_refl, ◌∙◌, inl, inr, arith}
 use Rattle.std.specs.List.{Contains}
 use Rattle.std.proofs.lemmas.Bool.{cases_lt}
 use Rattle.std.proofs.lemmas.List.{length-replicate}
@@ -10,7 +10,7 @@ use Rattle.gm_walk.proofs.LeadLemmas.{all_met, nothing_met}
 use Rattle.gm_walk.proofs.WordLemmas.{is_word, letters_of_word}
 use Rattle.gm_walk.proofs.NameLemmas.{live_at}
 use Rattle.gm_walk.proofs.SlotLemmas.{nothing_there}
-use Rattle.gm_walk.proofs.MetLemmas.{few_seen, one_more_fits, steps_more, steps_in_names}
+use Rattle.gm_walk.proofs.MetLemmas.{few_seen, last_place, none_yet, not_less, one_more, one_more_fits, steps_none, steps_more, steps_in_names}
 use Rattle.gm_walk.proofs.orbit_count.count_names.Goals as goal
 
 pub unwrap-slot-requires : goal.unwrap-slot-requires
@@ -36,12 +36,12 @@ pub loop-name-init : goal.loop-name-init
 loop-name-init g c =
     let m = c.args.arena.now in
     record {
-      few = omega arith;
+      few = le_refl _;
       long = ap length c.requires.seen ∙ length-replicate m.bound false;
-      seen = ([], subst (λ xs. HasSeen m xs []) (sym c.requires.seen) (nothing_there m m.bound), nothing_met m (has c.args.mask) c.word_of-word.result, λ p h. absurd (omega arith));
+      seen = ([], subst (λ xs. HasSeen m xs []) (sym c.requires.seen) (nothing_there m m.bound), nothing_met m (has c.args.mask) c.word_of-word.result, λ p h. absurd (none_yet p h));
       room = refl;
-      cost = omega arith;
-      least = omega arith;
+      cost = steps_none _ _;
+      least = le_refl _;
     }
 
 pub loop-name-preserved : goal.loop-name-preserved
@@ -58,7 +58,7 @@ loop-name-preserved g c =
     let old = i.seen.0 in
     let after = e.met (has c.args.mask) old c.loop-name.orbits (letters_of_word c.args.mask c.word_of-word.result m.schema.dim lawful.dim.1 c.requires.mask c.word_of-word.ensures) c.requires.mask i.seen.1 i.seen.2 in
     record {
-      few = omega (arith, i.few, e.one);
+      few = one_more c.loop-name.orbits _ p i.few e.one;
       long = e.long ∙ i.long;
       seen = (
         after.0,
@@ -66,12 +66,12 @@ loop-name-preserved g c =
         after.2,
         λ q h. elim (cases_lt q p) [
           | inl less ↦ after.3 (get_or names q 0) (i.seen.3 q less)
-          | inr more ↦ (let same : p ≡ q = omega arith in subst (λ k. Contains after.0 (get_or names k 0)) same (subst (Contains after.0) here after.4))
+          | inr more ↦ (let same : p ≡ q = last_place q p h more in subst (λ k. Contains after.0 (get_or names k 0)) same (subst (Contains after.0) here after.4))
         ],
       );
       room = e.bound ∙ i.room;
-      cost = steps_more (4 * (m.schema.dim + 1)) c.args.steps.now p c.loop-name.steps c.see_new-orbits.new.steps (seen_count c.loop-name.seen) (seen_count c.see_new-orbits.new.seen) i.cost (let cost = e.cost old i.seen.1 i.seen.2.closed in omega (arith, cost, c.slot_of.ensures.cost));
-      least = omega (arith, i.least, c.slot_of.ensures.cost, e.least);
+      cost = steps_more (4 * (m.schema.dim + 1)) c.args.steps.now p c.loop-name.steps c.slot_of.new.steps c.see_new-orbits.new.steps (seen_count c.loop-name.seen) (seen_count c.see_new-orbits.new.seen) i.cost c.slot_of.ensures.cost (e.cost old i.seen.1 i.seen.2.closed);
+      least = not_less c.args.steps.now c.loop-name.steps c.slot_of.new.steps _ i.least c.slot_of.ensures.cost e.least;
     }
 
 pub overflow_add-orbits : goal.overflow_add-orbits

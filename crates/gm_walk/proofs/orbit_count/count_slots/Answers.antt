@@ -1,13 +1,13 @@
-use Rattle.std.proofs.Common.{◌≡◌, refl, ◌+◌, ◌*◌, ◌<◌, ◌≤◌, [], false, length, sym, ap, subst, lt_of_lt_of_le, ◌∙◌, inl, inr, arith}
+use Rattle.std.proofs.Common.{◌≡◌, refl, ◌+◌, ◌*◌, ◌<◌, ◌≤◌, [], false, length, sym, ap, subst, le-add_right, le_refl, le_trans, lt_of_lt_of_le, ◌∙◌, inl, inr, arith}
 use Rattle.std.specs.List.{Contains}
 use Rattle.std.proofs.lemmas.Bool.{cases_lt}
 use Rattle.std.proofs.lemmas.List.{length-replicate}
 use Rattle.gm_model.specs.Labels.{has}
 use Rattle.gm_arena.specs.ArenaMap.{name_at}
 use Rattle.gm_arena.proofs.MapLemmas.{name_at-is, slot_of_name}
-use Rattle.gm_walk.specs.Seen.{HasSeen}
+use Rattle.gm_walk.specs.Seen.{HasSeen, seen_count}
 use Rattle.gm_walk.proofs.LeadLemmas.{all_met, nothing_met}
-use Rattle.gm_walk.proofs.MetLemmas.{few_places, one_more_fits, steps_in_slots}
+use Rattle.gm_walk.proofs.MetLemmas.{few_places, last_place, none_yet, one_more, one_more_fits, steps_in_slots, steps_on}
 use Rattle.gm_walk.proofs.SlotLemmas.{nothing_there}
 use Rattle.gm_walk.proofs.WordLemmas.{is_word, letters_of_word}
 use Rattle.gm_walk.proofs.orbit_count.count_slots.Goals as goal
@@ -29,12 +29,12 @@ pub loop-at-init : goal.loop-at-init
 loop-at-init g c =
     let m = c.args.arena.now in
     record {
-      few = omega arith;
+      few = le_refl _;
       long = ap length c.requires.seen ∙ length-replicate m.bound false;
-      seen = ([], subst (λ xs. HasSeen m xs []) (sym c.requires.seen) (nothing_there m m.bound), nothing_met m (has c.args.mask) c.word_of-word.result, λ slot h. absurd (omega arith));
+      seen = ([], subst (λ xs. HasSeen m xs []) (sym c.requires.seen) (nothing_there m m.bound), nothing_met m (has c.args.mask) c.word_of-word.result, λ slot h. absurd (none_yet slot h));
       room = refl;
-      cost = omega arith;
-      least = omega arith;
+      cost = le-add_right _ _;
+      least = le_refl _;
     }
 
 pub loop-at-preserved : goal.loop-at-preserved
@@ -46,7 +46,7 @@ loop-at-preserved g c =
     let old = i.seen.0 in
     let after = e.met (has c.args.mask) old c.loop-at.orbits (letters_of_word c.args.mask c.word_of-word.result m.schema.dim c.bound-at-end.ensures.lawful.dim.1 c.requires.mask c.word_of-word.ensures) c.requires.mask i.seen.1 i.seen.2 in
     record {
-      few = omega (arith, i.few, e.one);
+      few = one_more c.loop-at.orbits _ at i.few e.one;
       long = e.long ∙ i.long;
       seen = (
         after.0,
@@ -54,12 +54,12 @@ loop-at-preserved g c =
         after.2,
         λ slot h. elim (cases_lt slot at) [
           | inl less ↦ after.3 (name_at m slot) (i.seen.3 slot less)
-          | inr more ↦ (let same : at ≡ slot = omega arith in subst (λ k. Contains after.0 (name_at m k)) same after.4)
+          | inr more ↦ (let same : at ≡ slot = last_place slot at h more in subst (λ k. Contains after.0 (name_at m k)) same after.4)
         ],
       );
       room = e.bound ∙ i.room;
-      cost = let cost = e.cost old i.seen.1 i.seen.2.closed in omega (arith, i.cost, cost);
-      least = omega (arith, i.least, e.least);
+      cost = steps_on (4 * (m.schema.dim + 1)) c.args.steps.now c.loop-at.steps c.see_new-orbits.new.steps (seen_count c.loop-at.seen) (seen_count c.see_new-orbits.new.seen) i.cost (e.cost old i.seen.1 i.seen.2.closed);
+      least = le_trans i.least e.least;
     }
 
 pub overflow_add-orbits : goal.overflow_add-orbits

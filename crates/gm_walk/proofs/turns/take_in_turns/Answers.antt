@@ -44,25 +44,25 @@ loop-place-preserved g c =
     let word = c.args.word.now in
     let q = c.take.result in
     let takes = c.take.ensures.taken in
-    let longer = longer_after m _ _ _ takes in
+    let longer = longer_after m c.loop-place.scratch c.alpha.result c.take.new.self takes in
     let pushed = length_push i.row q in
     let at = at_place m word c.loop-place.place c.in-At.label _ _ (c.letter.ensures ∙ ap Some c.in-At.is) c.alpha.ensures.neighbour in
-    let turn = turned m word _ _ _ takes c.args.at c.loop-place.place q _ i.within (i.here _) at c.take.ensures.place in
+    let turn = turned m word c.loop-place.scratch c.alpha.result c.take.new.self takes c.args.at c.loop-place.place q _ i.within (i.here _) at c.take.ensures.place in
     record {
-      live = live_after m _ _ _ takes i.live (live_at m _ _ c.alpha.ensures.neighbour);
+      live = live_after m c.loop-place.scratch c.alpha.result c.take.new.self takes i.live (live_at m _ _ c.alpha.ensures.neighbour);
       within = omega (arith, longer, i.within);
       longer = omega (arith, longer, i.longer);
-      here = λ d. same_after m _ _ _ takes _ d i.within ∙ i.here d;
-      walk = λ d w. walk_after m _ _ _ takes c.requires.lawful word d c.args.at c.loop-place.place _ i.live i.within (i.here _)
+      here = λ d. same_after m c.loop-place.scratch c.alpha.result c.take.new.self takes _ d i.within ∙ i.here d;
+      walk = λ d w. walk_after m c.loop-place.scratch c.alpha.result c.take.new.self takes c.requires.lawful word d c.args.at c.loop-place.place _ i.live i.within (i.here _)
           (omega (arith, c.loop-place-test.true, c.len-place-end.ensures.value)) at (i.walk d w);
       row = i.row ++ q ∷ [];
       items = rw (c.in_ok-push.ensures.items, i.items) (append_assoc c.args.turns.now.items i.row (q ∷ []));
       long = omega (arith, pushed, i.long);
       filled = subst (λ n. IsRow (IsTurn m word (names_of m c.take.new.self.walked) c.args.at) n (i.row ++ q ∷ [])) (sym pushed)
-          (one_entry _ i.row q (row_stays m word _ _ _ takes c.args.at (length i.row) i.row i.within i.filled)
+          (one_entry _ i.row q (row_stays m word c.loop-place.scratch c.alpha.result c.take.new.self takes c.args.at (length i.row) i.row i.within i.filled)
           (subst (λ l. IsTurn m word (names_of m c.take.new.self.walked) c.args.at l q) (sym i.long) turn));
-      before = λ cells. cells_stay m word _ _ _ takes c.args.at (length word) c.args.turns.now.items (omega (arith, i.within)) (i.before cells);
-      bound = bound_after m _ _ _ takes ∙ i.bound;
+      before = λ cells. cells_stay m word c.loop-place.scratch c.alpha.result c.take.new.self takes c.args.at (length word) c.args.turns.now.items (omega (arith, i.within)) (i.before cells);
+      bound = bound_after m c.loop-place.scratch c.alpha.result c.take.new.self takes ∙ i.bound;
       cost = omega (arith, i.cost, c.alpha.ensures.cost);
     }
 
@@ -98,7 +98,7 @@ returns-in_err-push-clause-turns g c = never_ok _ c.from_residual.result c.from_
 pub returns-in_err-push-clause-live : goal.returns-in_err-push-clause-live
 returns-in_err-push-clause-live g c =
     let m = c.args.arena.now in
-    live_after m _ _ _ c.take.ensures.taken c.loop-place.invariant.live (live_at m _ _ c.alpha.ensures.neighbour)
+    live_after m c.loop-place.scratch c.alpha.result c.take.new.self c.take.ensures.taken c.loop-place.invariant.live (live_at m _ _ c.alpha.ensures.neighbour)
 
 pub returns-in_err-push-clause-err : goal.returns-in_err-push-clause-err
 returns-in_err-push-clause-err g c =
@@ -110,21 +110,21 @@ returns-in_err-push-clause-err g c =
     let low : c.loop-place.place < length word = omega (arith, c.loop-place-test.true, c.len-place-end.ensures.value) in
     on_err c.from_residual.result (λ d walk cells.
     let before = i.before cells in
-    let rows = cells_stay m word _ _ _ takes c.args.at (length word) c.args.turns.now.items (omega (arith, i.within)) before in
-    let part = part_row _ (length word) c.args.at c.args.turns.now.items i.row rows (row_stays m word _ _ _ takes c.args.at (length i.row) i.row i.within i.filled) (omega (arith, low, i.long)) in
+    let rows = cells_stay m word c.loop-place.scratch c.alpha.result c.take.new.self takes c.args.at (length word) c.args.turns.now.items (omega (arith, i.within)) before in
+    let part = part_row _ (length word) c.args.at c.args.turns.now.items i.row rows (row_stays m word c.loop-place.scratch c.alpha.result c.take.new.self takes c.args.at (length i.row) i.row i.within i.filled) (omega (arith, low, i.long)) in
     record {
       p = c.args.at;
       l = c.loop-place.place;
-      walk_to = walk_after m _ _ _ takes c.requires.lawful word d c.args.at c.loop-place.place _ i.live i.within (i.here _) low at (i.walk d walk);
+      walk_to = walk_after m c.loop-place.scratch c.alpha.result c.take.new.self takes c.requires.lawful word d c.args.at c.loop-place.place _ i.live i.within (i.here _) low at (i.walk d walk);
       turns_to = omega (arith, ap length c.in_err-push.ensures.items, ap length i.items, length-append c.args.turns.now.items i.row, before.long, i.long);
       turns_are = rw (c.in_err-push.ensures.items, i.items) part;
     })
 
 pub returns-in_err-push-clause-longer : goal.returns-in_err-push-clause-longer
-returns-in_err-push-clause-longer g c = omega (arith, longer_after c.args.arena.now _ _ _ c.take.ensures.taken, c.loop-place.invariant.longer)
+returns-in_err-push-clause-longer g c = omega (arith, longer_after c.args.arena.now c.loop-place.scratch c.alpha.result c.take.new.self c.take.ensures.taken, c.loop-place.invariant.longer)
 
 pub returns-in_err-push-clause-bound : goal.returns-in_err-push-clause-bound
-returns-in_err-push-clause-bound g c = bound_after c.args.arena.now _ _ _ c.take.ensures.taken ∙ c.loop-place.invariant.bound
+returns-in_err-push-clause-bound g c = bound_after c.args.arena.now c.loop-place.scratch c.alpha.result c.take.new.self c.take.ensures.taken ∙ c.loop-place.invariant.bound
 
 pub returns-in_err-push-clause-cost : goal.returns-in_err-push-clause-cost
 returns-in_err-push-clause-cost g c = omega (arith, c.loop-place.invariant.cost, c.alpha.ensures.cost, c.loop-place-test.true, c.len-place-end.ensures.value)

@@ -9,7 +9,7 @@ use Rattle.gm_walk.specs.Room.{Room}
 use Rattle.gm_walk.specs.Turns.{IsTurn}
 use Rattle.gm_walk.specs.Walks.{along, names_of}
 use Rattle.gm_walk.proofs.CellLemmas.{no_cells}
-use Rattle.gm_walk.proofs.NameLemmas.{has_begun, live_below, next_fits, none_past, place_falls}
+use Rattle.gm_walk.proofs.NameLemmas.{has_begun, live_below, next_fits, next_steps, next_within, none_past, place_falls}
 use Rattle.gm_walk.proofs.TurnLemmas.{part_within, turn_steps, all_steps}
 use Rattle.gm_walk.proofs.turns.walk_turns.Goals as goal
 
@@ -60,13 +60,13 @@ loop-at-preserved g c =
     let e = c.take_in_turns.ensures in
     let ok = c.in_ok-take_in_turns.ensures in
     record {
-      within = omega (arith, i.within, e.longer, c.loop-at-test.true, ap length c.walked.ensures.value);
+      within = next_within c.loop-at.at (length c.loop-at.scratch.walked) _ (subst (λ (slots : List Slot). c.loop-at.at < length slots) c.walked.ensures.value c.loop-at-test.true) e.longer;
       live = e.live;
       walk = ok.walk _ i.walk;
       cells = ok.turns i.cells;
       bound = e.bound ∙ i.bound;
-      cost = omega (arith, i.cost, e.cost);
-      least = omega (arith, i.least, e.least);
+      cost = next_steps c.args.steps.now c.loop-at.steps _ c.loop-at.at (length c.args.word.now) i.cost e.cost;
+      least = le_trans i.least e.least;
     }
 
 pub returns-in_err-take_in_turns : goal.returns-in_err-take_in_turns
@@ -82,8 +82,9 @@ returns-in_err-take_in_turns g c =
       err = on_err c.from_residual.result (c.in_err-take_in_turns.ensures.err (name_at m c.args.from.at) i.walk i.cells);
       cost = λ walk whole.
           let few = part_within (along m word) (length word) (name_at m c.args.from.at) walk whole c.loop-at.at 0 (names_of m c.loop-at.scratch.walked) i.walk in
-          let less : c.loop-at.at < length walk = omega (arith, few, c.loop-at-test.true, ap length c.walked.ensures.value, length-map c.loop-at.scratch.walked (λ (s : Slot). name_at m s.at)) in
-          turn_steps _ _ _ c.loop-at.at (length word) (length walk) less i.cost e.cost;
+          let here : c.loop-at.at < length c.loop-at.scratch.walked = subst (λ (slots : List Slot). c.loop-at.at < length slots) c.walked.ensures.value c.loop-at-test.true in
+          let less : c.loop-at.at < length walk = lt_of_lt_of_le here (subst (λ n. n ≤ length walk) (length-map c.loop-at.scratch.walked (λ (s : Slot). name_at m s.at)) few) in
+          turn_steps c.args.steps.now c.loop-at.steps _ c.loop-at.at (length word) (length walk) less i.cost e.cost;
       least = le_trans i.least e.least;
       room = e.bound ∙ i.bound;
     }
@@ -103,7 +104,7 @@ returns g c =
       err = tt;
       cost = λ walk whole.
           let few = part_within (along m word) (length word) (name_at m c.args.from.at) walk whole c.loop-at.at 0 (names_of m slots) i.walk in
-          all_steps _ _ c.loop-at.at (length word) (length walk) (rw (end, ← long) few) i.cost;
+          all_steps c.args.steps.now c.loop-at.steps c.loop-at.at (length word) (length walk) (rw (end, ← long) few) i.cost;
       least = i.least;
       room = i.bound;
     }

@@ -25,16 +25,16 @@ pub loop-place-preserved : goal.loop-place-preserved
 loop-place-preserved g c =
     let i = c.loop-place.invariant in
     let takes = c.take_in.ensures in
-    let longer = longer_after c.args.arena.now _ _ _ takes in
+    let longer = longer_after c.args.arena.now c.loop-place.scratch c.alpha.result c.take_in.new.self takes in
     record {
-      live = live_after c.args.arena.now _ _ _ takes i.live (live_at c.args.arena.now _ _ c.alpha.ensures.neighbour);
+      live = live_after c.args.arena.now c.loop-place.scratch c.alpha.result c.take_in.new.self takes i.live (live_at c.args.arena.now _ _ c.alpha.ensures.neighbour);
       within = omega (arith, longer, i.within);
       longer = omega (arith, longer, i.longer);
-      here = λ d. same_after c.args.arena.now _ _ _ takes _ d i.within ∙ i.here d;
-      walk = λ d w. walk_after c.args.arena.now _ _ _ takes c.requires.lawful c.args.word.now d c.args.at c.loop-place.place _ i.live i.within (i.here _)
+      here = λ d. same_after c.args.arena.now c.loop-place.scratch c.alpha.result c.take_in.new.self takes _ d i.within ∙ i.here d;
+      walk = λ d w. walk_after c.args.arena.now c.loop-place.scratch c.alpha.result c.take_in.new.self takes c.requires.lawful c.args.word.now d c.args.at c.loop-place.place _ i.live i.within (i.here _)
           (omega (arith, c.loop-place-test.true, c.len-place-end.ensures.value))
           (at_place c.args.arena.now c.args.word.now c.loop-place.place c.in-At.label _ _ (c.letter.ensures ∙ ap Some c.in-At.is) c.alpha.ensures.neighbour) (i.walk d w);
-      bound = bound_after c.args.arena.now _ _ _ takes ∙ i.bound;
+      bound = bound_after c.args.arena.now c.loop-place.scratch c.alpha.result c.take_in.new.self takes ∙ i.bound;
       cost = omega (arith, i.cost, c.alpha.ensures.cost);
     }
 

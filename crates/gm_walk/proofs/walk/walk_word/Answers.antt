@@ -1,10 +1,10 @@
-use Rattle.std.proofs.Common.{◌≡◌, ◌+◌, ◌*◌, ◌<◌, ◌≤◌, List, length, refl, sym, subst, ap, ◌∙◌, le_antisymm, le_refl, le-add_right, arith, rules}
+use Rattle.std.proofs.Common.{◌≡◌, ◌+◌, ◌*◌, ◌<◌, ◌≤◌, List, length, refl, sym, subst, ap, ◌∙◌, le_antisymm, le_refl, le_trans, le-add_right, arith, rules}
 use Rattle.std.proofs.lemmas.List.{length-map}
 use Rattle.gm_arena.specs.declared.slot.Slot.{Slot}
 use Rattle.gm_arena.specs.ArenaMap.{name_at}
 use Rattle.gm_model.specs.Orbits.{IsWalkTo}
 use Rattle.gm_walk.specs.Walks.{along, names_of}
-use Rattle.gm_walk.proofs.NameLemmas.{has_begun, next_fits, none_past, place_falls}
+use Rattle.gm_walk.proofs.NameLemmas.{has_begun, next_fits, next_steps_each, next_within, none_past, place_falls}
 use Rattle.gm_walk.proofs.walk.walk_word.Goals as goal
 
 pub loop-at-preserved : goal.loop-at-preserved
@@ -12,12 +12,12 @@ loop-at-preserved g c =
     let i = c.loop-at.invariant in
     let e = c.take_in_neighbours.ensures in
     record {
-      within = omega (arith, i.within, e.longer, c.loop-at-test.true, ap length c.walked.ensures.value);
+      within = next_within c.loop-at.at (length c.loop-at.scratch.walked) _ (subst (λ (slots : List Slot). c.loop-at.at < length slots) c.walked.ensures.value c.loop-at-test.true) e.longer;
       live = e.live;
       walk = e.walk _ i.walk;
       bound = e.bound ∙ i.bound;
-      cost = omega (arith, i.cost, e.cost);
-      least = omega (arith, i.least, e.least);
+      cost = next_steps_each (4 * (c.args.arena.now.schema.dim + 1)) c.args.steps.now c.loop-at.steps _ c.loop-at.at i.cost e.cost;
+      least = le_trans i.least e.least;
     }
 
 pub prove-unreachable-requires : goal.prove-unreachable-requires
