@@ -1,5 +1,5 @@
 -- How many steps a loop takes in all, where each turn takes so many at most.
-use Rattle.std.proofs.Common.{◌≡◌, ℕ, List, length, ◌+◌, ◌*◌, ◌≤◌, arith}
+use Rattle.std.proofs.Common.{◌≡◌, ℕ, List, length, ◌+◌, ◌*◌, ◌<◌, ◌≤◌, arith}
 use Rattle.std.specs.FinMap.{keys}
 use Rattle.std.proofs.Math.Nat.{mul-le-mul_left, mul-le-mul_right}
 use Rattle.gm_arena.specs.ArenaMap.{ArenaMap}
@@ -42,3 +42,20 @@ quickly labels count start after two cost =
 
 pub within_few : (m : ArenaMap) (start after : ℕ) → IsLawful m → let labels = m.schema.dim + 1 in after ≤ start + (labels * labels + 1) * m.count + m.count → after ≤ start + 20 * (labels * labels) * (m.count + 1)
 within_few m start after lawful cost = quickly (m.schema.dim + 1) m.count start after (omega (arith, lawful.dim.0)) cost
+
+-- ---- over names, with a look-up for each
+
+pub two_more : (before one two : ℕ) → one ≡ before + 1 → two ≡ one + 1 → before ≤ two
+two_more before one two e f = omega arith
+
+pub next_name : (k start before looked after p : ℕ) → before ≤ start + (k + 2) * p → looked ≡ before + 1 → after ≤ looked + (k + 1) → after ≤ start + (k + 2) * (p + 1)
+next_name k start before looked after p was step more = omega arith
+
+-- the neighbour that differs is looked up, and its name
+pub found_at : (k start before looked after one two p names : ℕ) → before ≤ start + (k + 2) * p → looked ≡ before + 1 → after ≤ looked + (k + 1) → one ≡ after + 1 → two ≡ one + 1 → p < names → two ≤ start + ((k + 2) * names + 2)
+found_at k start before looked after one two p names was step more e f low =
+    let turns = mul-le-mul_left (k + 2) low in
+    omega (arith, next_name k start before looked after p was step more, turns)
+
+pub none_found : (each start after p names : ℕ) → after ≤ start + each * p → p ≤ names → after ≤ start + (each * names + 2)
+none_found each start after p names was few = omega (arith, mul-le-mul_left each few)

@@ -4,3 +4,5 @@ pub mod RowLemmas
 pub mod EmbeddedLemmas
 pub mod CostLemmas
 pub mod HoldingLemmas
+pub mod ValueLemmas
+pub mod CommuteLemmas

@@ -6,7 +6,8 @@ use Rattle.std.proofs.lemmas.Bool.{cases_lt, false≢true, some_since}
 use Rattle.std.proofs.lemmas.List.{length-map}
 use Rattle.std.proofs.lemmas.Option.{MatchOption-at_some}
 use Rattle.gm_arena.specs.declared.slot.Slot.{Slot}
-use Rattle.gm_arena.specs.ArenaMap.{ArenaMap, IsAt, IsLiveName, name_at}
+use Rattle.gm_arena.specs.ArenaMap.{ArenaMap, IsAt, IsLiveName, name_at, IsLiveSlot}
+use Rattle.gm_arena.proofs.InsideLemmas.{is_some_at}
 use Rattle.gm_arena.specs.Lawful.{IsLawful}
 use Rattle.gm_arena.proofs.MapLemmas.{name_at-is}
 use Rattle.gm_arena.proofs.Keys.{rising, named, live}
@@ -50,3 +51,6 @@ module _ (m : ArenaMap) where
 
   pub name_of_slot : (name : ℕ) (o : Option Slot) (slot : Slot) → MatchOption o (get m.darts name ≡ None) (λ (s : Slot). IsAt m s.at name) → o ≡ Some slot → name_at m slot.at ≡ name
   name_of_slot name o slot told e = name_at-is m slot.at name (MatchOption-at_some (get m.darts name ≡ None) (λ (s : Slot). IsAt m s.at name) slot e told)
+
+  pub slot_there : (name : ℕ) (o : Option Slot) (slot : Slot) → MatchOption o (get m.darts name ≡ None) (λ (s : Slot). IsAt m s.at name) → o ≡ Some slot → IsLiveSlot m slot.at
+  slot_there name o slot told e = is_some_at (get m.slots slot.at) name (MatchOption-at_some (get m.darts name ≡ None) (λ (s : Slot). IsAt m s.at name) slot e told)
