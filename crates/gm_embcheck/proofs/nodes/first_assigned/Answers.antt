@@ -1,5 +1,6 @@
 use Rattle.std.proofs.Common.{◌≡◌, ℕ, ◌+◌, ◌<◌, ◌≤◌, sym, subst, ◌∙◌, inl, inr, lt_irrefl, lt_of_lt_of_le, arith}
 use Rattle.std.proofs.lemmas.Bool.{cases_lt, false≢true}
+use Rattle.std.proofs.lemmas.Option.{slice_get_within}
 use Rattle.gm_model.specs.Rules.{rule_of}
 use Rattle.gm_embcheck.specs.NodeSets.{IsAssignedIn}
 use Rattle.gm_embcheck.proofs.nodes.first_assigned.Goals as goal
@@ -30,3 +31,9 @@ loop-node-preserved c = λ x past low assigned. elim (cases_lt x c.loop-node.nod
       | else-component-node-via-else-component-node w ↦ false≢true (sym w.if-component-node.false ∙ here.0)
     ])
 ]
+
+-- a node with an assignment is one of the rule
+pub returns-clause-first : goal.returns-clause-first
+returns-clause-first c = λ x past assigned.
+    let there = slice_get_within (rule_of c.args.rule.now).nodes x assigned.1.1.0 assigned.1.1.1 in
+    c.loop-node.invariant x past (lt_of_lt_of_le there (subst (λ n. n ≤ c.loop-node.node) c.node_count-node-end.ensures c.loop-node-test.false)) assigned
