@@ -1,5 +1,5 @@
 -- What the derived equality of values tells.
-use Rattle.std.proofs.Common.{◌≡◌, Bool, true, refl, sym, subst, ap, rules}
+use Rattle.std.proofs.Common.{◌≡◌, Bool, true, rules}
 use Rattle.std.proofs.lemmas.Bool.{false≢true}
 use Rattle.gm_model.specs.declared.value.Value.{Value}
 use Rattle.gm_model.specs.declared.value.Value.TheVariants.{Int, Bool as Truth, Vec2, Vec3, Rgb}

@@ -25,11 +25,11 @@ pub loop-node-preserved : goal.loop-node-preserved
 loop-node-preserved c = λ x past low assigned. elim (cases_lt x c.loop-node.node) [
   | inl before ↦ c.loop-node.invariant x past before assigned
   | inr behind ↦ (
-    let here = subst (IsAssignedIn (rule_of c.args.rule.now) c.args.embed c.args.component.now) (last_node x c.loop-node.node low behind) assigned in
-    elim c.else-component-node.branch [
-      | else-component-node-via-then-component-node+else-assigns w ↦ false≢true (sym w.if-assigns.false ∙ w.assigns.ensures.1 here.1)
-      | else-component-node-via-else-component-node w ↦ false≢true (sym w.if-component-node.false ∙ here.0)
-    ])
+      let here = subst (IsAssignedIn (rule_of c.args.rule.now) c.args.embed c.args.component.now) (last_node x c.loop-node.node low behind) assigned in
+      elim c.else-component-node.branch [
+        | else-component-node-via-then-component-node+else-assigns w ↦ false≢true (sym w.if-assigns.false ∙ w.assigns.ensures.1 here.1)
+        | else-component-node-via-else-component-node w ↦ false≢true (sym w.if-component-node.false ∙ here.0)
+      ])
 ]
 
 -- a node with an assignment is one of the rule

@@ -1,4 +1,4 @@
-use Rattle.std.proofs.Common.{◌≡◌, ◌+◌, ◌*◌, ◌≤◌, sym, ap, subst, ◌∙◌, falls, inl, inr, le_of_eq, le_refl, le_trans, le-add_right, lt_irrefl}
+use Rattle.std.proofs.Common.{◌+◌, ◌*◌, ap, subst, ◌∙◌, falls, inl, inr, le_of_eq, le_refl, le_trans, le-add_right, lt_irrefl}
 use Rattle.std.proofs.lemmas.Bool.{cases_lt}
 use Rattle.gm_arena.specs.ArenaMap.{name_at}
 use Rattle.gm_arena.proofs.InsideLemmas.{is_some_at}

@@ -24,10 +24,10 @@ loop-embed-preserved c = λ same e embed less there of_type.
     elim (cases_lt e c.loop-embed.embed) [
       | inl before ↦ c.loop-embed.invariant kept.0 e embed before there of_type
       | inr behind ↦ (
-        let is : c.loop-embed.embed ≡ e = last_label e c.loop-embed.embed less behind in
-        let item : c.index-embeds-embed.result ≡ embed = c.index-embeds-embed.is ∙ (ap (λ k. get_or c.args.embeds.now k c.index-embeds-embed.result) is ∙ get_or_from_slice_get c.args.embeds.now e embed c.index-embeds-embed.result there) in
-        subst (λ k. get_or c.args.others.now k (Int (pos 0)) ≡ get_or c.args.values.now k (Int (pos 0))) is
-        (c.is_same_along-same.ensures.same kept.1 (subst (λ (x : Embed). IsTrue (has x.mask c.args.label)) (sym item) of_type)))
+          let is : c.loop-embed.embed ≡ e = last_label e c.loop-embed.embed less behind in
+          let item : c.index-embeds-embed.result ≡ embed = c.index-embeds-embed.is ∙ (ap (λ k. get_or c.args.embeds.now k c.index-embeds-embed.result) is ∙ get_or_from_slice_get c.args.embeds.now e embed c.index-embeds-embed.result there) in
+          subst (λ k. get_or c.args.others.now k (Int (pos 0)) ≡ get_or c.args.values.now k (Int (pos 0))) is
+          (c.is_same_along-same.ensures.same kept.1 (subst (λ (x : Embed). IsTrue (has x.mask c.args.label)) (sym item) of_type)))
     ]
 
 pub returns : goal.returns

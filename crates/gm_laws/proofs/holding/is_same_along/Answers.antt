@@ -1,4 +1,4 @@
-use Rattle.std.proofs.Common.{◌≡◌, true, sym, ◌∙◌}
+use Rattle.std.proofs.Common.{sym, ◌∙◌}
 use Rattle.gm_laws.proofs.ValueLemmas.{same_value}
 use Rattle.gm_laws.proofs.holding.is_same_along.Goals as goal
 

@@ -1,4 +1,4 @@
-use Rattle.std.proofs.Common.{ℕ, ◌≤◌, refl, sym, subst, le_refl, add-zero, arith}
+use Rattle.std.proofs.Common.{◌≤◌, refl, sym, subst, le_refl, add-zero, arith}
 use Rattle.gm_arena.specs.ArenaMap.{name_at}
 use Rattle.gm_arena.proofs.MapLemmas.{IsAt-name_at}
 use Rattle.gm_walk.proofs.GrowLemmas.{contains_on}

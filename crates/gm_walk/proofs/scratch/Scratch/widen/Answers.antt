@@ -1,4 +1,4 @@
-use Rattle.std.proofs.Common.{◌≡◌, ℕ, ◌+◌, ◌-◌, ◌<◌, ◌≤◌, List, length, max, min, refl, sym, ap, ◌∙◌, le_of_eq, le_of_lt, le_refl, le_trans, arith}
+use Rattle.std.proofs.Common.{◌≡◌, ℕ, ◌+◌, ◌-◌, ◌<◌, ◌≤◌, length, max, min, refl, sym, ap, ◌∙◌, le_of_eq, le_of_lt, le_refl, le_trans, arith}
 use Rattle.std.proofs.lemmas.List.{take_all}
 use Rattle.gm_model.proofs.Exits.{never_ok}
 use Rattle.gm_walk.specs.Room.{Room}
