@@ -30,14 +30,16 @@ pub(crate) fn make_book(alloc: Global) -> Result<Book, OutOfMemory>
 fn rule(alloc: Global) -> Result<RuleTable, OutOfMemory>
     ensures { IfOk result (λ table. rule_of table ≡ triangulation) }
 {
+    let nodes = nodes(alloc)?;
+    let right_links = links(alloc)?;
     let mut hooks = Vec::new(alloc);
     hooks.push(0)?;
     Ok(RuleTable {
         name: name(b"T"),
         params: Items::new(Vec::new(alloc)),
-        nodes: nodes(alloc)?,
+        nodes,
         left_links: Items::new(Vec::new(alloc)),
-        right_links: links(alloc)?,
+        right_links,
         hooks: Items::new(hooks),
         pre: None,
     })

@@ -39,9 +39,9 @@ pub fn make_grid<L: Ledger>(alloc: Global, m: u8, steps: &mut Steps<L>) -> Resul
 {
     let m = m as u32;
     Ok(Grid {
-        arena: build(alloc, m, steps)?,
         script: make_script(alloc, m)?,
         book: make_book(alloc)?,
+        arena: build(alloc, m, steps)?,
     })
 }
 

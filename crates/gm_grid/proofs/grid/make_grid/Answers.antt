@@ -1,4 +1,5 @@
 use Rattle.std.proofs.Common.{◌≡◌, ℕ, ◌+◌, ◌*◌, ◌≤◌, arith}
+use Rattle.std.proofs.Math.Nat.{le-add_right}
 use Rattle.gm_model.proofs.Exits.{unless_ok}
 use Rattle.gm_grid.proofs.Finished.{is_grid}
 use Rattle.gm_grid.proofs.GridSound.{is_sound}
@@ -16,24 +17,14 @@ returns-clause-map g c = is_grid c.args.m c.in_ok-build.field-0 c.in_ok-build.en
 pub returns-clause-sound : goal.returns-clause-sound
 returns-clause-sound g c = is_sound c.args.m c.requires.greatest _ (is_grid c.args.m c.in_ok-build.field-0 c.in_ok-build.ensures.linked)
 
-pub returns-in_err-build : goal.returns-in_err-build
-returns-in_err-build g c = record {
+pub returns-in_err-make_script : goal.returns-in_err-make_script
+returns-in_err-make_script g c = record {
   map = unless_ok _ c.from_residual.result c.from_residual.ensures.0;
   sound = unless_ok _ c.from_residual.result c.from_residual.ensures.0;
   book = unless_ok _ c.from_residual.result c.from_residual.ensures.0;
   script = unless_ok _ c.from_residual.result c.from_residual.ensures.0;
   least = unless_ok _ c.from_residual.result c.from_residual.ensures.0;
-  most = at_most c.args.steps.now c.build.new.steps (c.args.m * c.args.m) c.build.ensures.most;
-}
-
-pub returns-in_err-make_script : goal.returns-in_err-make_script
-returns-in_err-make_script g c = record {
-  map = unless_ok _ c.from_residual-in_err-make_script.result c.from_residual-in_err-make_script.ensures.0;
-  sound = unless_ok _ c.from_residual-in_err-make_script.result c.from_residual-in_err-make_script.ensures.0;
-  book = unless_ok _ c.from_residual-in_err-make_script.result c.from_residual-in_err-make_script.ensures.0;
-  script = unless_ok _ c.from_residual-in_err-make_script.result c.from_residual-in_err-make_script.ensures.0;
-  least = unless_ok _ c.from_residual-in_err-make_script.result c.from_residual-in_err-make_script.ensures.0;
-  most = at_most c.args.steps.now c.build.new.steps (c.args.m * c.args.m) c.build.ensures.most;
+  most = le-add_right _ _;
 }
 
 pub returns-in_err-make_book : goal.returns-in_err-make_book
@@ -43,6 +34,16 @@ returns-in_err-make_book g c = record {
   book = unless_ok _ c.from_residual-in_err-make_book.result c.from_residual-in_err-make_book.ensures.0;
   script = unless_ok _ c.from_residual-in_err-make_book.result c.from_residual-in_err-make_book.ensures.0;
   least = unless_ok _ c.from_residual-in_err-make_book.result c.from_residual-in_err-make_book.ensures.0;
+  most = le-add_right _ _;
+}
+
+pub returns-in_err-build : goal.returns-in_err-build
+returns-in_err-build g c = record {
+  map = unless_ok _ c.from_residual-in_err-build.result c.from_residual-in_err-build.ensures.0;
+  sound = unless_ok _ c.from_residual-in_err-build.result c.from_residual-in_err-build.ensures.0;
+  book = unless_ok _ c.from_residual-in_err-build.result c.from_residual-in_err-build.ensures.0;
+  script = unless_ok _ c.from_residual-in_err-build.result c.from_residual-in_err-build.ensures.0;
+  least = unless_ok _ c.from_residual-in_err-build.result c.from_residual-in_err-build.ensures.0;
   most = at_most c.args.steps.now c.build.new.steps (c.args.m * c.args.m) c.build.ensures.most;
 }
 
