@@ -1,5 +1,5 @@
 -- The rows of numbers, line by line, and the darts of numbers and values.
-use Rattle.std.proofs.Common.{◌≡◌, ℕ, zero, suc, ◌+◌, ◌*◌, ◌/◌, ◌<◌, eqb, inl, inr, List, [], ◌∷◌, ◌++◌, length, map, take, drop, get_or, slice_get, Some, All, refl, sym, ap, ap₂, subst, ◌∙◌, arith}
+use Rattle.std.proofs.Common.{◌≡◌, ℕ, zero, suc, ◌+◌, ◌*◌, ◌/◌, ◌<◌, ◌≤◌, Fits, w64, eqb, inl, inr, List, [], ◌∷◌, ◌++◌, length, map, take, drop, get_or, slice_get, Some, All, refl, sym, ap, ap₂, subst, ◌∙◌, arith}
 use Rattle.std.proofs.Math.Nat.{div-eq_of_lt, div-mul-le_self}
 use Rattle.std.specs.List.{AllByRecursion}
 use Rattle.std.proofs.lemmas.Bool.{cases_Bool, eqb-true}
@@ -30,6 +30,20 @@ AreLong n darts = AllByRecursion (λ (dart : DartRow). length dart.alphas ≡ n 
 -- how many whole lines there are
 pub lines_cut : (n : ℕ) (all line rest : List ℕ) → all ≡ line ++ rest → length line ≡ n + 2 → length all / (n + 2) ≡ length rest / (n + 2) + 1
 lines_cut n all line rest cut long = ap (λ xs. length xs / (n + 2)) cut ∙ (parts_more (n + 2) line rest (omega arith) long ∙ omega arith)
+
+-- so there are fewer behind one
+pub fewer_lines : (n size behind : ℕ) (all line rest : List ℕ) → behind ≡ size → size ≡ n + 2 → all ≡ line ++ rest → length line ≡ size → suc (length rest / behind) ≤ length all / size
+fewer_lines n size behind all line rest same wide cut long = rw (same, wide) (omega (arith, lines_cut n all line rest cut (long ∙ wide)))
+
+-- the width of a line, by a dimension that is read from a byte
+pub byte_fits : (n : ℕ) → n < 256 → Fits w64 n
+byte_fits n low = omega (arith, low)
+
+pub width_fits : (n : ℕ) → n < 256 → Fits w64 (n + 2)
+width_fits n low = omega (arith, low)
+
+pub width_some : (n : ℕ) → 0 < n + 2
+width_some n = omega arith
 
 pub lines_none : (n : ℕ) (rest : List ℕ) → length rest < n + 2 → length rest / (n + 2) ≡ 0
 lines_none n rest short = div-eq_of_lt {n = length rest} {m = n + 2} short

@@ -115,7 +115,7 @@ darts_within embeds (dart ∷ darts) rest within =
 
 -- ---- values
 
-channel_low : (n : ℕ) → IsTrue (is_channel (pos n)) → n < 256
+pub channel_low : (n : ℕ) → IsTrue (is_channel (pos n)) → n < 256
 channel_low n is = grind (arith, nat_tests, and_parts (int_le (pos 0) (pos n)) (int_le (pos n) (pos 255)) is)
 
 -- numbers in range are those of a value in range

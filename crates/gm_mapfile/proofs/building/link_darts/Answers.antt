@@ -1,12 +1,22 @@
-use Rattle.std.proofs.Common.{◌≡◌, ◌+◌, ◌*◌, ◌∷◌, [], ◌++◌, length, sym, ap, subst, ◌∙◌, arith}
+use Rattle.std.proofs.Common.{◌≡◌, ℕ, ◌+◌, ◌*◌, ◌<◌, ◌≤◌, ◌∷◌, [], ◌++◌, length, sym, ap, subst, ◌∙◌, arith}
+use Rattle.std.proofs.Math.Nat.{le_refl, le_trans}
 use Rattle.std.proofs.lemmas.List.{length_push}
 use Rattle.std.specs.Slice.Iter.{chunks_exact_rest}
 use Rattle.gm_mapfile.specs.Rows.{row_in, rows_in}
 use Rattle.gm_mapfile.specs.Building.{AreLinkedUnless, AreWhole}
-use Rattle.gm_mapfile.proofs.Chunks.{one_more, no_more}
+use Rattle.gm_mapfile.proofs.Chunks.{fewer_lines, byte_fits, width_fits, width_some, one_more, no_more}
 use Rattle.gm_mapfile.proofs.Linking.{none_relinked, same_dim, slots_live}
 use Rattle.gm_mapfile.proofs.LinkedLine.{line_live, line_linked, line_lacks, steps_more, neighbours_long}
 use Rattle.gm_mapfile.proofs.building.link_darts.Goals as goal
+
+none_most : (first each : ℕ) → first ≤ first + each * 0
+none_most first each = omega arith
+
+one_most : (before after own n : ℕ) → after ≤ before + (2 * own + 3) → own ≡ n → after ≤ before + (2 * n + 3)
+one_most before after own n most same = omega (arith, most, same)
+
+all_short : (rest size n : ℕ) → rest < size → size ≡ n + 2 → rest < n + 2
+all_short rest size n short wide = omega (arith, short, wide)
 
 pub loop-line-init : goal.loop-line-init
 loop-line-init g c =
@@ -18,8 +28,8 @@ loop-line-init g c =
       split = ap (rows_in n) rest;
       relinked = none_relinked n c.args.arena.now c.requires.added.whole;
       linked = λ d i live. absurd cc;
-      most = omega arith;
-      least = omega arith;
+      most = none_most c.args.steps.now (2 * n + 3);
+      least = le_refl _;
     }
 
 pub link_dart-requires-clause-live : goal.link_dart-requires-clause-live
@@ -47,8 +57,8 @@ loop-line-preserved-in-Some-link_dart g c =
       split = one_more n before.front _ _ line _ before.split steps.1.0 long;
       relinked = turn.0;
       linked = turn.1;
-      most = steps_more (2 * n + 3) c.args.steps.now c.loop-line.steps c.link_dart.new.steps (length before.front) _ (length_push before.front (row_in line)) before.most (omega (arith, c.in-Some-link_dart.ensures.most, dim));
-      least = omega (arith, before.least, c.in-Some-link_dart.ensures.least);
+      most = steps_more (2 * n + 3) c.args.steps.now c.loop-line.steps c.link_dart.new.steps (length before.front) _ (length_push before.front (row_in line)) before.most (one_most _ _ _ _ c.in-Some-link_dart.ensures.most dim);
+      least = le_trans before.least c.in-Some-link_dart.ensures.least;
     }
 
 pub loop-line-preserved : goal.loop-line-preserved
@@ -66,8 +76,8 @@ loop-line-preserved g c =
       split = one_more n before.front _ _ line _ before.split steps.1.0 long;
       relinked = turn.0;
       linked = turn.1;
-      most = steps_more (2 * n + 3) c.args.steps.now c.loop-line.steps c.link_dart.new.steps (length before.front) _ (length_push before.front (row_in line)) before.most (omega (arith, c.in_default.ensures.most, dim));
-      least = omega (arith, before.least, c.in_default.ensures.least);
+      most = steps_more (2 * n + 3) c.args.steps.now c.loop-line.steps c.link_dart.new.steps (length before.front) _ (length_push before.front (row_in line)) before.most (one_most _ _ _ _ c.in_default.ensures.most dim);
+      least = le_trans before.least c.in_default.ensures.least;
     }
 
 pub returns-clause-linked : goal.returns-clause-linked
@@ -75,7 +85,7 @@ returns-clause-linked g c =
     let n = c.args.arena.now.schema.dim in
     let before = c.loop-line.invariant in
     let steps = c.in-None.ensures.steps in
-    let whole = no_more n before.front (rows_in n c.args.numbers.now) _ before.split (omega (arith, steps.1.0, before.size)) in
+    let whole = no_more n before.front (rows_in n c.args.numbers.now) _ before.split (all_short _ _ _ steps.1.0 before.size) in
     subst (λ rows. AreLinkedUnless n c.args.arena.now c.loop-line.arena rows c.loop-line.missing) whole before.linked
 
 pub returns-clause-most : goal.returns-clause-most
@@ -83,7 +93,7 @@ returns-clause-most g c =
     let n = c.args.arena.now.schema.dim in
     let before = c.loop-line.invariant in
     let steps = c.in-None.ensures.steps in
-    let whole = no_more n before.front (rows_in n c.args.numbers.now) _ before.split (omega (arith, steps.1.0, before.size)) in
+    let whole = no_more n before.front (rows_in n c.args.numbers.now) _ before.split (all_short _ _ _ steps.1.0 before.size) in
     rw (ap length (sym whole)) before.most
 
 pub link_dart-requires-clause-slots : goal.link_dart-requires-clause-slots
@@ -104,3 +114,22 @@ returns-clause-relinked g c = c.loop-line.invariant.relinked
 
 pub returns-clause-least : goal.returns-clause-least
 returns-clause-least g c = c.loop-line.invariant.least
+
+pub overflow_cast-top : goal.overflow_cast-top
+overflow_cast-top g c = byte_fits c.top.result c.top.type_inv
+
+pub overflow_add-top : goal.overflow_add-top
+overflow_add-top g c = width_fits c.top.result c.top.type_inv
+
+pub chunks_exact-line-items-requires : goal.chunks_exact-line-items-requires
+chunks_exact-line-items-requires g c = width_some c.top.result
+
+pub loop-line-smaller-in-Some-link_dart : goal.loop-line-smaller-in-Some-link_dart
+loop-line-smaller-in-Some-link_dart g c =
+    let steps = c.in-Some.ensures.steps in
+    fewer_lines c.args.arena.now.schema.dim _ _ _ c.in-Some.line.now _ steps.0 c.loop-line.invariant.size steps.1.0 steps.1.1
+
+pub loop-line-smaller : goal.loop-line-smaller
+loop-line-smaller g c =
+    let steps = c.in-Some.ensures.steps in
+    fewer_lines c.args.arena.now.schema.dim _ _ _ c.in-Some.line.now _ steps.0 c.loop-line.invariant.size steps.1.0 steps.1.1

@@ -1,4 +1,4 @@
-use Rattle.std.proofs.Common.{ℕ, List, ◌++◌, sym, ap, subst, ◌∙◌}
+use Rattle.std.proofs.Common.{ℕ, ◌+◌, ◌≤◌, List, ◌++◌, sym, ap, subst, ◌∙◌, arith}
 use Rattle.gm_model.proofs.Exits.{unless_ok}
 use Rattle.gm_mapfile.proofs.Printed.{printed_within}
 use Rattle.gm_mapfile.specs.MapText.{MapText, canonical}
@@ -8,6 +8,9 @@ use Rattle.gm_mapfile.proofs.ArenaDarts.{darts_ascending}
 use Rattle.gm_mapfile.proofs.Printable.{arena_printed}
 use Rattle.gm_mapfile.proofs.SoundRows.{as_listed}
 use Rattle.gm_mapfile.proofs.printing.print_map_over.Goals as goal
+
+no_less : (old more : ℕ) → old ≤ old + more
+no_less old more = omega arith
 
 pub returns-clause-most : goal.returns-clause-most
 returns-clause-most g c =
@@ -53,3 +56,17 @@ returns-clause-stands g c sound =
     let m = c.args.arena.now in
     let version = c.args.version in
     subst (λ (bytes : List ℕ). MapText bytes version (renumbered version (listed_of m))) (sym (returns-clause-text g c)) (arena_printed version m c.room_for.ensures c.in_ok-print_text.ensures.parts sound)
+
+pub print_text-requires : goal.print_text-requires
+print_text-requires g c = c.room_for.ensures
+
+pub returns-in_err-text-clause-most : goal.returns-in_err-text-clause-most
+returns-in_err-text-clause-most g c = no_less c.args.steps.now _
+
+pub returns-in_err-print_text-clause-most : goal.returns-in_err-print_text-clause-most
+returns-in_err-print_text-clause-most g c =
+    let m = c.args.arena.now in
+    printed_within m.schema.dim m.count c.args.steps.now c.print_text.new.steps c.print_text.ensures.most
+
+pub returns-clause-least : goal.returns-clause-least
+returns-clause-least g c = c.in_ok-print_text.ensures.least

@@ -1,11 +1,16 @@
-use Rattle.std.proofs.Common.{subst, sym, ap, ◌∙◌, arith}
+use Rattle.std.proofs.Common.{◌≡◌, ℕ, ◌<◌, ◌≤◌, subst, sym, ap, ◌∙◌, arith}
 use Rattle.std.proofs.lemmas.Result.{err_from_is_err_and}
+use Rattle.std.proofs.Math.Nat.{le_trans}
+use Rattle.gm_model.specs.Limits.{most_names}
 use Rattle.gm_mapfile.specs.Answered.{name_told}
 use Rattle.gm_mapfile.specs.Draft.{version_in}
 use Rattle.gm_mapfile.specs.Faults.{IsNamedFaultOf}
 use Rattle.gm_model.proofs.Exits.{unless_ok}
 use Rattle.gm_mapfile.proofs.ReadMap.{in_room, name_fault_of, sound_of, text_of_held, law_fault_of, built_within, all_within}
 use Rattle.gm_mapfile.proofs.reading.map_of.Goals as goal
+
+never_more : (next found : ℕ) → found ≡ next → next ≤ most_names → most_names < found → ⊥
+never_more next found is few more = omega (arith, is, few, more)
 
 pub build-requires-clause-room : goal.build-requires-clause-room
 build-requires-clause-room g c =
@@ -67,3 +72,9 @@ build-requires-clause-schema g c = c.requires.schema
 
 pub build-requires-clause-next : goal.build-requires-clause-next
 build-requires-clause-next g c = c.requires.next
+
+pub prove-unreachable-requires : goal.prove-unreachable-requires
+prove-unreachable-requires g c = never_more c.in_ok-arena.arena.next c.next.result c.next.ensures.next c.next.ensures.lawful.few_names c.if-prove.true
+
+pub returns-clause-least : goal.returns-clause-least
+returns-clause-least g c = le_trans c.in_ok-arena.ensures.least c.in_default.ensures.least

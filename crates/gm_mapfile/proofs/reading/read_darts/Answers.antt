@@ -1,13 +1,58 @@
-use Rattle.std.proofs.Common.{ℕ, ◌+◌, ◌≤◌, List, length, replicate, ap, subst, arith}
+use Rattle.std.proofs.Common.{ℕ, ◌+◌, ◌*◌, ◌/◌, ◌<◌, ◌≤◌, Fits, w64, List, length, replicate, ap, subst, arith}
+use Rattle.std.proofs.Math.Nat.{le_antisymm, le_refl, mul-div-le}
 use Rattle.std.proofs.lemmas.Nat.{mul-le}
 use Rattle.std.proofs.lemmas.Result.{err_from_is_err_and}
 use Rattle.gm_model.specs.Limits.{most_darts}
 use Rattle.gm_model.specs.declared.schema.Embed.{Embed}
 use Rattle.gm_mapfile.specs.MapText.{DartName}
-use Rattle.gm_mapfile.specs.MapReading.{TheNumber, Misses, values_wants, ReadsNames, ReadsValues}
+use Rattle.gm_mapfile.specs.MapReading.{TheNumber, Misses, values_wants, ReadsNames, ReadsDarts, ReadsValues}
 use Rattle.gm_model.proofs.Exits.{unless_ok}
+use Rattle.gm_mapfile.proofs.Chunks.{byte_fits, width_fits}
 use Rattle.gm_mapfile.proofs.DartReads.{lines_none, lines_more, stop_at_names, stop_at_values}
 use Rattle.gm_mapfile.proofs.reading.read_darts.Goals as goal
+
+-- a line has few names, and a text no more lines than bytes
+line_fits : (n : ℕ) → n < 256 → Fits w64 (2 * (n + 2))
+line_fits n low = omega (arith, low)
+
+not_nothing : (n : ℕ) → 0 < 2 * (n + 2)
+not_nothing n = omega arith
+
+lines_fit : (bytes width : ℕ) → Fits w64 bytes → 2 ≤ width → Fits w64 (bytes / width + 1)
+lines_fit bytes width fits wide = omega (arith, mul-le 2 (bytes / width) width (bytes / width) wide (le_refl _), mul-div-le bytes width)
+
+at_least_two : (n : ℕ) → 2 ≤ 2 * (n + 2)
+at_least_two n = omega arith
+
+pub overflow_cast-width : goal.overflow_cast-width
+overflow_cast-width c = byte_fits c.top.result c.top.type_inv
+
+pub overflow_add-width : goal.overflow_add-width
+overflow_add-width c = width_fits c.top.result c.top.type_inv
+
+pub overflow_mul-width : goal.overflow_mul-width
+overflow_mul-width c = line_fits c.top.result c.top.type_inv
+
+pub nonzero_div-bytes : goal.nonzero_div-bytes
+nonzero_div-bytes c = not_nothing c.top.result
+
+pub overflow_add-bytes : goal.overflow_add-bytes
+overflow_add-bytes c = lines_fit c.args.bytes (2 * (c.top.result + 2)) c.ranges.bytes (at_least_two c.top.result)
+
+pub returns-in_err-numbers-clause-stops : goal.returns-in_err-numbers-clause-stops
+returns-in_err-numbers-clause-stops c =
+    let p = err_from_is_err_and c.from_residual.result c.from_residual.ensures.1 in
+    rw (p.1, p.2) (λ head taken wants. tt)
+
+pub returns-in_err-values-clause-stops : goal.returns-in_err-values-clause-stops
+returns-in_err-values-clause-stops c =
+    let p = err_from_is_err_and c.from_residual-in_err-values.result c.from_residual-in_err-values.ensures.1 in
+    rw (p.1, p.2) (λ head taken wants. tt)
+
+pub returns-clause-reads : goal.returns-clause-reads
+returns-clause-reads c =
+    let l = c.loop in
+    subst (λ (n : ℕ). ReadsDarts c.args.schema.now n c.args.lexer.now l.ahead l.numbers.items l.values.items) (le_antisymm (l.auto.counter-end) c.loop-test.false) l.invariant
 
 pub loop-init : goal.loop-init
 loop-init c = rw (c.fork-ahead.ensures, c.in_ok-numbers.ensures.items, c.in_ok-values.ensures.items) (lines_none c.args.schema.now c.args.lexer.now)

@@ -1,9 +1,10 @@
 use Rattle.gm_model.proofs.Exits.{unless_ok}
-use Rattle.std.proofs.Common.{false, subst}
+use Rattle.std.specs.Prelude.{IfOk, IfErr}
+use Rattle.std.proofs.Common.{false, subst, ◌∙◌}
 use Rattle.std.proofs.lemmas.Result.{err_from_is_err_and}
 use Rattle.gm_text.specs.Cursor.{Cursor}
-use Rattle.gm_mapfile.specs.Words.{IsSignedNext}
-use Rattle.gm_mapfile.proofs.WordTokens.{plain_next, sign_next, minus_lacks}
+use Rattle.gm_mapfile.specs.Words.{IsSignedNext, IsNoSignedNext}
+use Rattle.gm_mapfile.proofs.WordTokens.{plain_next, sign_next, minus_next, minus_lacks}
 use Rattle.gm_mapfile.proofs.values.read_signed.Goals as goal
 
 pub returns-in_err-value-clause-none : goal.returns-in_err-value-clause-none
@@ -22,3 +23,19 @@ returns-in-Some-clause-next c =
 
 pub returns-in_err-value-clause-next : goal.returns-in_err-value-clause-next
 returns-in_err-value-clause-next c = unless_ok _ c.from_residual.result c.from_residual.ensures.0
+
+pub returns-then-small_sign-clause-next : goal.returns-then-small_sign-clause-next
+returns-then-small_sign-clause-next c =
+    let minus = c.small_sign.ensures.read c.if-small_sign.true in
+    let found = c.in_ok-value.field-0 in
+    minus_next c.args.lexer.now c.small_sign.new.self c.read_number.new.lexer minus.place found.value found.place (sign_next 45 c.args.lexer.now c.small_sign.new.self minus) c.in_ok-value.ensures.next
+
+pub returns-clause-next : goal.returns-clause-next
+returns-clause-next c =
+    let back = c.in_default.ensures.none ∙ c.small_sign.ensures.none c.if-small_sign.false in
+    subst (λ (old : Cursor). IfOk c.read_signed_numeral.result (λ found. IsSignedNext old found.minus found.size found.place c.read_signed_numeral.new.lexer)) back c.read_signed_numeral.ensures.next
+
+pub returns-clause-none : goal.returns-clause-none
+returns-clause-none c =
+    let back = c.in_default.ensures.none ∙ c.small_sign.ensures.none c.if-small_sign.false in
+    subst (λ (old : Cursor). IfErr c.read_signed_numeral.result (IsNoSignedNext old)) back c.read_signed_numeral.ensures.none
