@@ -58,3 +58,20 @@ returns-in_err-read_end-clause-schema c = unless_ok _ c.from_residual-in_err-rea
 
 pub returns-in_err-read_end-clause-next : goal.returns-in_err-read_end-clause-next
 returns-in_err-read_end-clause-next c = unless_ok _ c.from_residual-in_err-read_end.result c.from_residual-in_err-read_end.ensures.0
+
+pub returns-in_err-stated-clause-stops : goal.returns-in_err-stated-clause-stops
+returns-in_err-stated-clause-stops c =
+    let p = err_from_is_err_and c.from_residual.result c.from_residual.ensures.1 in
+    rw (p.1, p.2) (rw c.new-lexer.ensures at c.in_err-stated.ensures.stops)
+
+pub read_darts-requires-clause-schema : goal.read_darts-requires-clause-schema
+read_darts-requires-clause-schema c = c.in_ok-stated.ensures.schema
+
+pub read_darts-requires-clause-few : goal.read_darts-requires-clause-few
+read_darts-requires-clause-few c = c.in_ok-stated.ensures.most
+
+pub returns-clause-schema : goal.returns-clause-schema
+returns-clause-schema c = c.in_ok-stated.ensures.schema
+
+pub returns-clause-next : goal.returns-clause-next
+returns-clause-next c = c.in_ok-stated.ensures.next

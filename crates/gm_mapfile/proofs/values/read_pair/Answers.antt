@@ -1,4 +1,4 @@
-use Rattle.std.proofs.Common.{rules, ◌≡◌, [], ◌∷◌, false, to_z, of_z, codes}
+use Rattle.std.proofs.Common.{refl, rules, ◌≡◌, [], ◌∷◌, false, to_z, of_z, codes}
 use Rattle.std.specs.Int.{w64}
 use Rattle.std.proofs.lemmas.Result.{err_from_is_err_and}
 use Rattle.gm_mapfile.specs.MapReading.{Component, TheSign}
@@ -34,3 +34,9 @@ returns-in_err-read_bracket-clause-takes c = unless_ok _ c.from_residual-in_err-
 
 pub returns-in_err-read_bracket-clause-kind : goal.returns-in_err-read_bracket-clause-kind
 returns-in_err-read_bracket-clause-kind c = unless_ok _ c.from_residual-in_err-read_bracket.result c.from_residual-in_err-read_bracket.ensures.0
+
+pub read_bracket-requires-clause-sign : goal.read_bracket-requires-clause-sign
+read_bracket-requires-clause-sign c = refl
+
+pub read_bracket-requires-clause-alone : goal.read_bracket-requires-clause-alone
+read_bracket-requires-clause-alone c = λ other. refl

@@ -1,4 +1,4 @@
-use Rattle.std.proofs.Common.{rules, ◌≡◌, [], ◌∷◌, to_z, of_z, codes}
+use Rattle.std.proofs.Common.{refl, rules, ◌≡◌, [], ◌∷◌, to_z, of_z, codes}
 use Rattle.std.specs.Int.{w64}
 use Rattle.std.proofs.lemmas.Result.{err_from_is_err_and}
 use Rattle.gm_mapfile.specs.MapReading.{Component, TheSign}
@@ -47,3 +47,15 @@ returns-in_err-y-clause-takes c = unless_ok _ c.from_residual-in_err-y.result c.
 
 pub returns-in_err-y-clause-channels : goal.returns-in_err-y-clause-channels
 returns-in_err-y-clause-channels c = unless_ok _ c.from_residual-in_err-y.result c.from_residual-in_err-y.ensures.0
+
+pub returns-clause-channels : goal.returns-clause-channels
+returns-clause-channels c is =
+    let back-x : to_z w64 (of_z w64 c.in_ok-x.x) ≡ c.in_ok-x.x = search rules in
+    let back-y : to_z w64 (of_z w64 c.in_ok-y.y) ≡ c.in_ok-y.y = search rules in
+    (rw back-x (c.in_ok-x.ensures.channel is), rw back-y (c.in_ok-y.ensures.channel is))
+
+pub read_bracket-requires-clause-sign : goal.read_bracket-requires-clause-sign
+read_bracket-requires-clause-sign c = refl
+
+pub read_bracket-requires-clause-alone : goal.read_bracket-requires-clause-alone
+read_bracket-requires-clause-alone c = λ other. refl
