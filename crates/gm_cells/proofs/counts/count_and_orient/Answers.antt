@@ -6,26 +6,22 @@ use Rattle.gm_cells.specs.Painted.{ArePainted}
 use Rattle.gm_cells.proofs.ColouredLemmas.{components_are, written_whole}
 use Rattle.gm_cells.proofs.counts.count_and_orient.Goals as goal
 
-pub returns-in_err-colours-clause-counts : goal.returns-in_err-colours-clause-counts
-returns-in_err-colours-clause-counts g c = unless_ok _ c.from_residual.result c.from_residual.ensures.0
-
-pub returns-in_err-colours-clause-orientation : goal.returns-in_err-colours-clause-orientation
-returns-in_err-colours-clause-orientation g c = unless_ok _ c.from_residual.result c.from_residual.ensures.0
-
-pub returns-in_err-colours-clause-room : goal.returns-in_err-colours-clause-room
-returns-in_err-colours-clause-room g c = le_refl _
+pub returns-in_err-colours : goal.returns-in_err-colours
+returns-in_err-colours g c = record {
+  counts = unless_ok _ c.from_residual.result c.from_residual.ensures.0;
+  orientation = unless_ok _ c.from_residual.result c.from_residual.ensures.0;
+  room = le_refl _;
+}
 
 pub paint_components-requires-clause-none : goal.paint_components-requires-clause-none
 paint_components-requires-clause-none g c = c.deref_mut.ensures.value ∙ c.in_ok-colours.ensures ∙ ap (λ slots. replicate slots 0) c.bound.ensures.bound
 
-pub returns-in_err-found-clause-counts : goal.returns-in_err-found-clause-counts
-returns-in_err-found-clause-counts g c = unless_ok _ c.from_residual-in_err-found.result c.from_residual-in_err-found.ensures.0
-
-pub returns-in_err-found-clause-orientation : goal.returns-in_err-found-clause-orientation
-returns-in_err-found-clause-orientation g c = unless_ok _ c.from_residual-in_err-found.result c.from_residual-in_err-found.ensures.0
-
-pub returns-in_err-found-clause-room : goal.returns-in_err-found-clause-room
-returns-in_err-found-clause-room g c = le_refl _
+pub returns-in_err-found : goal.returns-in_err-found
+returns-in_err-found g c = record {
+  counts = unless_ok _ c.from_residual-in_err-found.result c.from_residual-in_err-found.ensures.0;
+  orientation = unless_ok _ c.from_residual-in_err-found.result c.from_residual-in_err-found.ensures.0;
+  room = le_refl _;
+}
 
 pub count_with-requires-clause-generalised : goal.count_with-requires-clause-generalised
 count_with-requires-clause-generalised g c = c.requires.generalised
@@ -33,14 +29,12 @@ count_with-requires-clause-generalised g c = c.requires.generalised
 pub count_with-requires-clause-components : goal.count_with-requires-clause-components
 count_with-requires-clause-components g c = components_are c.args.arena.now c.bound.ensures.lawful c.requires.generalised _ c.in_ok-found.found c.in_ok-found.ensures.painted
 
-pub returns-in_err-counts-clause-counts : goal.returns-in_err-counts-clause-counts
-returns-in_err-counts-clause-counts g c = unless_ok _ c.from_residual-in_err-counts.result c.from_residual-in_err-counts.ensures.0
-
-pub returns-in_err-counts-clause-orientation : goal.returns-in_err-counts-clause-orientation
-returns-in_err-counts-clause-orientation g c = unless_ok _ c.from_residual-in_err-counts.result c.from_residual-in_err-counts.ensures.0
-
-pub returns-in_err-counts-clause-room : goal.returns-in_err-counts-clause-room
-returns-in_err-counts-clause-room g c = c.count_with.ensures.room
+pub returns-in_err-counts : goal.returns-in_err-counts
+returns-in_err-counts g c = record {
+  counts = unless_ok _ c.from_residual-in_err-counts.result c.from_residual-in_err-counts.ensures.0;
+  orientation = unless_ok _ c.from_residual-in_err-counts.result c.from_residual-in_err-counts.ensures.0;
+  room = c.count_with.ensures.room;
+}
 
 pub orient_by-requires-clause-generalised : goal.orient_by-requires-clause-generalised
 orient_by-requires-clause-generalised g c = c.requires.generalised
@@ -60,20 +54,19 @@ orient_by-requires-clause-long g c =
     ∙ length-replicate c.bound.result 0
     ∙ c.bound.ensures.bound
 
-pub returns-in_err-orientation-clause-counts : goal.returns-in_err-orientation-clause-counts
-returns-in_err-orientation-clause-counts g c = unless_ok _ c.from_residual-in_err-orientation.result c.from_residual-in_err-orientation.ensures.0
+pub returns-in_err-orientation : goal.returns-in_err-orientation
+returns-in_err-orientation g c = record {
+  counts = unless_ok _ c.from_residual-in_err-orientation.result c.from_residual-in_err-orientation.ensures.0;
+  orientation = unless_ok _ c.from_residual-in_err-orientation.result c.from_residual-in_err-orientation.ensures.0;
+  room = c.count_with.ensures.room;
+}
 
-pub returns-in_err-orientation-clause-orientation : goal.returns-in_err-orientation-clause-orientation
-returns-in_err-orientation-clause-orientation g c = unless_ok _ c.from_residual-in_err-orientation.result c.from_residual-in_err-orientation.ensures.0
+pub returns : goal.returns
+returns g c = record {
+  counts = c.in_ok-counts.ensures.counts;
+  orientation = c.in_ok-orientation.ensures.orientation;
+  room = c.count_with.ensures.room;
+}
 
-pub returns-in_err-orientation-clause-room : goal.returns-in_err-orientation-clause-room
-returns-in_err-orientation-clause-room g c = c.count_with.ensures.room
-
-pub returns-clause-counts : goal.returns-clause-counts
-returns-clause-counts g c = c.in_ok-counts.ensures.counts
-
-pub returns-clause-orientation : goal.returns-clause-orientation
-returns-clause-orientation g c = c.in_ok-orientation.ensures.orientation
-
-pub returns-clause-room : goal.returns-clause-room
-returns-clause-room g c = c.count_with.ensures.room
+pub paint_components-requires-clause-generalised : goal.paint_components-requires-clause-generalised
+paint_components-requires-clause-generalised g c = c.requires.generalised
