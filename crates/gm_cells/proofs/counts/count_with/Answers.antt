@@ -4,6 +4,7 @@ use Rattle.gm_arena.specs.ArenaAsMap.{as_map}
 use Rattle.gm_cells.specs.Cells.{HasCells, HasFreeDarts}
 use Rattle.gm_model.specs.Maps.{IsDart}
 use Rattle.gm_model.specs.Orbits.{HasCount}
+use Rattle.gm_model.proofs.Exits.{unless_ok}
 use Rattle.gm_cells.proofs.counts.count_with.Goals as goal
 
 pub returns-clause-counts : goal.returns-clause-counts
@@ -14,3 +15,18 @@ returns-clause-counts g c =
       components = c.requires.components;
       free = subst (HasFreeDarts (as_map m)) (sym c.new-2.ensures) c.in_ok-free.ensures.free;
     }
+
+pub returns-clause-room : goal.returns-clause-room
+returns-clause-room g c = c.count_cells.ensures.room
+
+pub returns-in_err-cells : goal.returns-in_err-cells
+returns-in_err-cells g c = record {
+  counts = unless_ok _ c.from_residual.result c.from_residual.ensures.0;
+  room = c.count_cells.ensures.room;
+}
+
+pub returns-in_err-free : goal.returns-in_err-free
+returns-in_err-free g c = record {
+  counts = unless_ok _ c.from_residual-in_err-free.result c.from_residual-in_err-free.ensures.0;
+  room = c.count_cells.ensures.room;
+}
