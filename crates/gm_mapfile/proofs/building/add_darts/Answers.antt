@@ -13,7 +13,7 @@ use Rattle.gm_mapfile.proofs.Adding.{answered_none, answered_some, answered_on}
 use Rattle.gm_mapfile.proofs.AddedDarts.{HasDarts, has_none, has_more_named, has_again_named, line_split, line_good, line_spare, line_long, line_values, line_below, width_read, behind_read, values_read, good_read, schema_kept}
 use Rattle.gm_mapfile.proofs.building.add_darts.Goals as goal
 
--- the steps
+-- steps, and a rest that is no line, as plain numbers
 none_most : (first : ℕ) → first ≤ first + 2 * 0
 none_most first = omega arith
 

@@ -9,6 +9,7 @@ use Rattle.gm_mapfile.proofs.Linking.{none_relinked, same_dim, slots_live}
 use Rattle.gm_mapfile.proofs.LinkedLine.{line_live, line_linked, line_lacks, steps_more, neighbours_long}
 use Rattle.gm_mapfile.proofs.building.link_darts.Goals as goal
 
+-- steps, and a rest that is no line, as plain numbers
 none_most : (first each : ℕ) → first ≤ first + each * 0
 none_most first each = omega arith
 
