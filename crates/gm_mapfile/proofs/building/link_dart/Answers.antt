@@ -1,20 +1,7 @@
-use Rattle.std.proofs.Common.{◌≡◌, ℕ, ◌+◌, ◌*◌, ◌<◌, ◌≤◌, ◌∙◌, ap, subst, arith, refl}
+use Rattle.std.proofs.Common.{◌≡◌, ◌+◌, ◌<◌, ap, subst, arith, refl}
 use Rattle.gm_mapfile.specs.Building.{IsDartLinked}
 use Rattle.gm_mapfile.proofs.Linking.{same_dim, none_linked, linked_at, not_live, no_target, slot_live}
 use Rattle.gm_mapfile.proofs.building.link_dart.Goals as goal
-
--- labels and steps, as plain numbers
-label_low : (label top dim : ℕ) → label ≤ top → top ≡ dim → label < dim + 1
-label_low label top dim less is = omega (arith, less, is)
-
-more_most : (first before found after label : ℕ) → before ≤ first + 1 + 2 * label → found ≡ before + 1 → after ≡ found + 1 → after ≤ first + 1 + 2 * (label + 1)
-more_most first before found after label most one two = omega (arith, most, one, two)
-
-more_least : (first before found after : ℕ) → first ≤ before → found ≡ before + 1 → after ≡ found + 1 → first ≤ after
-more_least first before found after least one two = omega (arith, least, one, two)
-
-all_most : (first before found after label dim : ℕ) → label < dim + 1 → before ≤ first + 1 + 2 * label → found ≡ before + 1 → after ≡ found + 1 → after ≤ first + (2 * dim + 3)
-all_most first before found after label dim low most one two = omega (arith, low, most, one, two)
 
 pub loop-label-init : goal.loop-label-init
 loop-label-init g c =
@@ -31,10 +18,10 @@ loop-label-preserved g c =
     let old = c.args.arena.now in
     record {
       linked = linked_at old.schema.dim old c.loop-label.arena c.set_alpha.new.self c.args.name c.args.neighbours.now c.loop-label.label c.in_ok-slot.slot.at c.in-Some.to.at before.linked before.at c.in-Some.ensures.slot c.set_alpha.ensures.map c.requires.slots c.requires.live
-          (subst (λ (n : ℕ). c.loop-label.label ≤ n) (c.top-label-end.ensures.value ∙ ap (λ s. s.dim) c.schema.ensures) c.loop-label-test.true);
+          (omega (arith, c.loop-label-test.true, c.top-label-end.ensures.value, ap (λ s. s.dim) c.schema.ensures));
       at = before.at;
-      most = more_most _ _ _ _ _ before.most c.slot_of-in-loop-label.ensures.cost c.set_alpha.ensures.cost;
-      least = more_least _ _ _ _ before.least c.slot_of-in-loop-label.ensures.cost c.set_alpha.ensures.cost;
+      most = omega (arith, before.most, c.slot_of-in-loop-label.ensures.cost, c.set_alpha.ensures.cost);
+      least = omega (arith, before.least, c.slot_of-in-loop-label.ensures.cost, c.set_alpha.ensures.cost);
     }
 
 pub returns-in-Some-clause-linked : goal.returns-in-Some-clause-linked
@@ -44,7 +31,7 @@ returns-in-Some-clause-linked g c =
     let top : c.loop-label.label + 1 ≡ old.schema.dim + 1 = omega (arith, c.loop-label-test.true, c.top-label-end.ensures.value, ap (λ s. s.dim) c.schema.ensures) in
     subst (λ label. IsDartLinked old.schema.dim old c.set_alpha.new.self c.args.name c.args.neighbours.now label) top
     (linked_at old.schema.dim old c.loop-label.arena c.set_alpha.new.self c.args.name c.args.neighbours.now c.loop-label.label c.in_ok-slot.slot.at c.in-Some.to.at before.linked before.at c.in-Some.ensures.slot c.set_alpha.ensures.map c.requires.slots c.requires.live
-    (subst (λ (n : ℕ). c.loop-label.label ≤ n) (c.top-label-end.ensures.value ∙ ap (λ s. s.dim) c.schema.ensures) c.loop-label-test.true))
+    (omega (arith, c.loop-label-test.true, c.top-label-end.ensures.value, ap (λ s. s.dim) c.schema.ensures)))
 
 pub returns-in_err-slot-clause-linked : goal.returns-in_err-slot-clause-linked
 returns-in_err-slot-clause-linked g c = absurd (not_live _ c.in_err-slot.ensures.slot c.requires.live)
@@ -57,18 +44,18 @@ returns-in_err-slot-clause-least g c = omega (arith, c.slot_of.ensures.cost)
 
 pub bounds-neighbours-label : goal.bounds-neighbours-label
 bounds-neighbours-label g c =
-    let low = label_low _ _ _ c.loop-label-test.true (c.top-label-end.ensures.value ∙ ap (λ s. s.dim) c.schema.ensures) in
+    let low : c.loop-label.label < c.args.arena.now.schema.dim + 1 = omega (arith, c.loop-label-test.true, c.top-label-end.ensures.value, ap (λ s. s.dim) c.schema.ensures) in
     omega (arith, low, c.requires.labels)
 
 pub returns-in_default-clause-linked : goal.returns-in_default-clause-linked
 returns-in_default-clause-linked g c =
-    let low = label_low _ _ _ c.loop-label-test.true (c.top-label-end.ensures.value ∙ ap (λ s. s.dim) c.schema.ensures) in
+    let low : c.loop-label.label < c.args.arena.now.schema.dim + 1 = omega (arith, c.loop-label-test.true, c.top-label-end.ensures.value, ap (λ s. s.dim) c.schema.ensures) in
     let before = c.loop-label.invariant in
     (before.linked, no_target _ _ _ _ _ _ _ before.linked refl c.in_default.ensures.slot (omega (arith, low)))
 
 pub returns-in_default-clause-most : goal.returns-in_default-clause-most
 returns-in_default-clause-most g c =
-    let low = label_low _ _ _ c.loop-label-test.true (c.top-label-end.ensures.value ∙ ap (λ s. s.dim) c.schema.ensures) in
+    let low : c.loop-label.label < c.args.arena.now.schema.dim + 1 = omega (arith, c.loop-label-test.true, c.top-label-end.ensures.value, ap (λ s. s.dim) c.schema.ensures) in
     omega (arith, low, c.loop-label.invariant.most, c.slot_of-in-loop-label.ensures.cost)
 
 pub returns-in_default-clause-least : goal.returns-in_default-clause-least
@@ -79,7 +66,7 @@ set_alpha-requires-clause-live g c = slot_live _ _ _ _ _ c.loop-label.invariant.
 
 pub set_alpha-requires-clause-label : goal.set_alpha-requires-clause-label
 set_alpha-requires-clause-label g c =
-    let low = label_low _ _ _ c.loop-label-test.true (c.top-label-end.ensures.value ∙ ap (λ s. s.dim) c.schema.ensures) in
+    let low : c.loop-label.label < c.args.arena.now.schema.dim + 1 = omega (arith, c.loop-label-test.true, c.top-label-end.ensures.value, ap (λ s. s.dim) c.schema.ensures) in
     omega (arith, low, same_dim c.loop-label.invariant.linked.relinked)
 
 pub set_alpha-requires-clause-to_live : goal.set_alpha-requires-clause-to_live
@@ -90,8 +77,8 @@ loop-label-smaller g c = omega (arith, c.loop-label-test.true)
 
 pub returns-in-Some-clause-most : goal.returns-in-Some-clause-most
 returns-in-Some-clause-most g c =
-    let low = label_low _ _ _ c.loop-label-test.true (c.top-label-end.ensures.value ∙ ap (λ s. s.dim) c.schema.ensures) in
-    all_most _ _ _ _ _ _ low c.loop-label.invariant.most c.slot_of-in-loop-label.ensures.cost c.set_alpha.ensures.cost
+    let low : c.loop-label.label < c.args.arena.now.schema.dim + 1 = omega (arith, c.loop-label-test.true, c.top-label-end.ensures.value, ap (λ s. s.dim) c.schema.ensures) in
+    omega (arith, low, c.loop-label.invariant.most, c.slot_of-in-loop-label.ensures.cost, c.set_alpha.ensures.cost)
 
 pub returns-in-Some-clause-least : goal.returns-in-Some-clause-least
-returns-in-Some-clause-least g c = more_least _ _ _ _ c.loop-label.invariant.least c.slot_of-in-loop-label.ensures.cost c.set_alpha.ensures.cost
+returns-in-Some-clause-least g c = omega (arith, c.loop-label.invariant.least, c.slot_of-in-loop-label.ensures.cost, c.set_alpha.ensures.cost)
