@@ -156,6 +156,17 @@ one_more wide index start low = ap (λ n. wide * n) (let is : index + 1 - start 
     more : (w n : ℕ) → w * (n + 1) ≡ w * n + w
     more w n = grind arith
 
+-- no row is done yet
+pub none_more : (begun wide start : ℕ) → begun ≡ begun + wide * (start - start)
+none_more begun wide start = let none : start - start ≡ 0 = omega arith in rw none (omega arith)
+
+-- and with one row more
+pub most_more : (wide index start begun before after : ℕ) → start ≤ index → before ≤ begun + wide * (index - start) → after ≤ before + wide → after ≤ begun + wide * (index + 1 - start)
+most_more wide index start begun before after low most cost = omega (arith, one_more wide index start low, most, cost)
+
+pub cost_rises : (begun freed removed added linked free link : ℕ) → freed ≡ begun + free → freed ≤ removed → removed ≤ added → linked ≡ added + link → begun ≤ linked
+cost_rises begun freed removed added linked free link first second third last = omega arith
+
 pub cost_within : (dim wide f t s0 s1 s2 s3 s4 : ℕ) → 0 < dim → wide ≤ 8 → s1 ≡ s0 + (dim + 2) * f → s2 ≤ s1 + 2 * f → s3 ≤ s2 + t → s4 ≡ s3 + (2 * (dim + 1) + wide + 1) * t → s4 ≤ s0 + 7 * (dim + 1) * (f + t)
 cost_within dim wide f t s0 s1 s2 s3 s4 some few a b c d =
     let all : 7 * (dim + 1) * (f + t) ≡ 7 * (dim + 1) * f + 7 * (dim + 1) * t = grind arith in
