@@ -1,5 +1,5 @@
 -- What the steps, rows and counts of a history come to, as sums.
-use Rattle.std.proofs.Common.{◌≡◌, ℕ, ◌+◌, ◌-◌, ◌*◌, ◌<◌, ◌≤◌, subst, arith}
+use Rattle.std.proofs.Common.{◌≡◌, ℕ, ◌+◌, ◌-◌, ◌*◌, ◌<◌, ◌≤◌, ap, subst, arith}
 use Rattle.std.proofs.Math.Nat.{le_refl}
 use Rattle.std.proofs.lemmas.Nat.{mul-le}
 use Rattle.gm_model.specs.Limits.{most_darts}
@@ -91,3 +91,21 @@ least_rises start added removed after h = omega arith
 
 pub one_step : (start index before after : ℕ) → before ≡ start + index → after ≡ before + 1 → after ≡ start + (index + 1)
 one_step start index before after so_far one = omega arith
+
+-- ---- room for one row more
+
+pub one_fits : (long old taken index all room room' : ℕ) → long ≡ old + taken → taken ≡ index → index < all → old + all ≤ room → room' ≡ room → long < room'
+one_fits long old taken index all room room' is so_far more fits same = omega arith
+
+pub one_stays : (long' long first end index room room' : ℕ) → long' ≡ long → long ≤ end + (index - first) → first ≤ index → index < end → end + (end - first) ≤ room → room' ≡ room → long' < room'
+one_stays long' long first end index room room' is few low high fits same = omega arith
+
+-- ---- what is paid for one change more, or one less
+
+pub paid_on : (start before after more first made next : ℕ) → before + first ≤ start + made → after ≤ before + more → next ≡ made + more → after + first ≤ start + next
+paid_on start before after more first made next so_far cost is = omega arith
+
+pub paid_back : (start before after wide a b last made next : ℕ) → before + next ≤ start + last → after ≤ before + wide * (b + a) → next ≡ made + wide * (a + b) → after + made ≤ start + last
+paid_back start before after wide a b last made next so_far cost is =
+    let same : wide * (b + a) ≡ wide * (a + b) = ap (λ n. wide * n) (let e : b + a ≡ a + b = omega arith in e) in
+    omega (arith, so_far, cost, is, same)

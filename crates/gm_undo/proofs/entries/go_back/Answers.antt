@@ -1,66 +1,83 @@
-use Rattle.std.proofs.Common.{◌≡◌, ◌+◌, ◌-◌, ◌<◌, None, length}
+use Rattle.std.proofs.Common.{◌≡◌, ℕ, ◌+◌, ◌-◌, ◌<◌, ◌≤◌, None, arith, length, ap, subst}
+use Rattle.std.proofs.Math.Nat.{le_antisymm, le_refl, le_trans}
+use Rattle.gm_undo.specs.Costs.{cost_to}
 use Rattle.gm_undo.specs.Layout.{changes_in}
 use Rattle.gm_undo.specs.Standing.{AreChained}
-use Rattle.std.proofs.Common.{ap, subst, arith}
-use Rattle.gm_undo.proofs.Spans.{middle_high, rows_high, middle_within, can_back, cost_next, moved}
-use Rattle.gm_undo.proofs.Written.{room_more}
+use Rattle.gm_undo.proofs.Spans.{end_high, middle_high, rows_high, middle_within, can_back, cost_next, moved}
+use Rattle.gm_undo.proofs.Sums.{paid_back}
+use Rattle.gm_undo.proofs.Written.{room_more, same_room}
 use Rattle.gm_undo.proofs.entries.go_back.Goals as goal
 
-pub write-requires-clause-from_end : goal.write-requires-clause-from_end
-write-requires-clause-from_end g c =
-    let k = c.loop-index.index - 1 in
-    let h : k < length c.args.changes.now = omega (arith, c.loop-index-test.true, c.loop-index.auto.index, c.requires.laid_out.within) in
-    let next : c.loop-index.index ≡ k + 1 = omega (arith, c.loop-index-test.true) in
-    rows_high c.args.rows.now.rows c.args.changes.now c.args.end None c.requires.laid_out k h
+-- the change before is one of them
+one_before : (start index end long : ℕ) → start < index → index ≤ end → end ≤ long → index - 1 < long
+one_before start index end long less high within = omega arith
 
-pub write-requires-clause-to : goal.write-requires-clause-to
-write-requires-clause-to g c =
-    let k = c.loop-index.index - 1 in
-    let h : k < length c.args.changes.now = omega (arith, c.loop-index-test.true, c.loop-index.auto.index, c.requires.laid_out.within) in
-    let next : c.loop-index.index ≡ k + 1 = omega (arith, c.loop-index-test.true) in
-    middle_high c.args.rows.now.rows c.args.changes.now c.args.end None c.requires.laid_out k h
+next_is : (start index : ℕ) → start < index → index ≡ (index - 1) + 1
+next_is start index less = omega arith
 
-pub write-requires-clause-to_end : goal.write-requires-clause-to_end
-write-requires-clause-to_end g c =
-    let k = c.loop-index.index - 1 in
-    let h : k < length c.args.changes.now = omega (arith, c.loop-index-test.true, c.loop-index.auto.index, c.requires.laid_out.within) in
-    let next : c.loop-index.index ≡ k + 1 = omega (arith, c.loop-index-test.true) in
-    middle_within c.args.rows.now.rows c.args.changes.now c.args.end None c.requires.laid_out k h
+still_behind : (start index : ℕ) → start < index → start ≤ index - 1
+still_behind start index less = omega arith
 
-pub write-requires-clause-can : goal.write-requires-clause-can
-write-requires-clause-can g c =
+pub loop-index-init : goal.loop-index-init
+loop-index-init g c = record {
+  chained = λ states chained. chained;
+  room = same_room c.args.arena.now;
+  most = le_refl _;
+  least = c.requires.start;
+  rises = le_refl _;
+}
+
+pub bounds-changes-index : goal.bounds-changes-index
+bounds-changes-index g c = one_before c.args.start c.loop-index.index c.args.end (length c.args.changes.now) c.loop-index-test.true c.loop-index.auto.index c.requires.laid_out.within
+
+pub write-requires : goal.write-requires
+write-requires g c =
+    let rows = c.args.rows.now.rows in
+    let changes = c.args.changes.now in
     let k = c.loop-index.index - 1 in
-    let h : k < length c.args.changes.now = omega (arith, c.loop-index-test.true, c.loop-index.auto.index, c.requires.laid_out.within) in
-    let next : c.loop-index.index ≡ k + 1 = omega (arith, c.loop-index-test.true) in
-    let inv = c.loop-index.invariant in
+    let h : k < length changes = one_before c.args.start c.loop-index.index c.args.end (length changes) c.loop-index-test.true c.loop-index.auto.index c.requires.laid_out.within in
+    let next : c.loop-index.index ≡ k + 1 = next_is c.args.start c.loop-index.index c.loop-index-test.true in
     let states = c.requires.chained.0 in
-    let chained = c.requires.chained.1 in
-    let can = can_back c.args.rows.now.rows c.args.changes.now c.args.end None c.requires.laid_out c.loop-index.arena states k h (subst (AreChained (changes_in c.args.rows.now.rows c.args.changes.now) c.loop-index.arena states) next (inv.chained states chained)) in
-    (states k, can.0, can.1)
+    let can = can_back rows changes c.args.end None c.requires.laid_out c.loop-index.arena states k h (subst (AreChained (changes_in rows changes) c.loop-index.arena states) next (c.loop-index.invariant.chained states c.requires.chained.1)) in
+    record {
+      from = end_high rows changes c.args.end None c.requires.laid_out k h;
+      from_end = rows_high rows changes c.args.end None c.requires.laid_out k h;
+      to = middle_high rows changes c.args.end None c.requires.laid_out k h;
+      to_end = middle_within rows changes c.args.end None c.requires.laid_out k h;
+      can = (states k, can.0, can.1);
+    }
 
 pub loop-index-preserved : goal.loop-index-preserved
 loop-index-preserved g c =
+    let rows = c.args.rows.now.rows in
+    let changes = c.args.changes.now in
     let k = c.loop-index.index - 1 in
-    let h : k < length c.args.changes.now = omega (arith, c.loop-index-test.true, c.loop-index.auto.index, c.requires.laid_out.within) in
-    let next : c.loop-index.index ≡ k + 1 = omega (arith, c.loop-index-test.true) in
+    let h : k < length changes = one_before c.args.start c.loop-index.index c.args.end (length changes) c.loop-index-test.true c.loop-index.auto.index c.requires.laid_out.within in
+    let next : c.loop-index.index ≡ k + 1 = next_is c.args.start c.loop-index.index c.loop-index-test.true in
     let inv = c.loop-index.invariant in
     let room = c.write.ensures.room in
     let dim : c.loop-index.arena.schema.dim ≡ c.args.arena.now.schema.dim = ap (λ s. s.dim) inv.room.schema in
     let cost = rw dim at c.write.ensures.cost in
-    let each = cost_next c.args.rows.now.rows c.args.changes.now c.args.end None c.requires.laid_out c.args.arena.now.schema.dim k h in
     record {
       chained = λ states chained.
-          let here = subst (AreChained (changes_in c.args.rows.now.rows c.args.changes.now) c.loop-index.arena states) next (inv.chained states chained) in
-          let can = can_back c.args.rows.now.rows c.args.changes.now c.args.end None c.requires.laid_out c.loop-index.arena states k h here in
-          moved (changes_in c.args.rows.now.rows c.args.changes.now) c.loop-index.arena c.write.new.arena states (k + 1) k here room (c.write.ensures.rows (states k) can.0 can.1);
+          let here = subst (AreChained (changes_in rows changes) c.loop-index.arena states) next (inv.chained states chained) in
+          let can = can_back rows changes c.args.end None c.requires.laid_out c.loop-index.arena states k h here in
+          moved (changes_in rows changes) c.loop-index.arena c.write.new.arena states (k + 1) k here room (c.write.ensures.rows (states k) can.0 can.1);
       room = room_more c.args.arena.now c.loop-index.arena c.write.new.arena inv.room room;
-      most = let there = rw next at inv.most in omega (arith, there, cost, each);
-      least = omega (arith, c.loop-index-test.true);
-      rises = omega (arith, inv.rises, c.write.ensures.rises);
+      most = paid_back c.args.steps.now c.loop-index.steps c.write.new.steps _ _ _ _ _ _ (rw next at inv.most) cost (cost_next rows changes c.args.end None c.requires.laid_out c.args.arena.now.schema.dim k h);
+      least = still_behind c.args.start c.loop-index.index c.loop-index-test.true;
+      rises = le_trans inv.rises c.write.ensures.rises;
     }
 
-pub returns-clause-chained : goal.returns-clause-chained
-returns-clause-chained g c states chained = subst (AreChained (changes_in c.args.rows.now.rows c.args.changes.now) c.loop-index.arena states) (let e : c.loop-index.index ≡ c.args.start = omega (arith, c.loop-index-test.false, c.loop-index.invariant.least) in e) (c.loop-index.invariant.chained states chained)
-
-pub returns-clause-cost : goal.returns-clause-cost
-returns-clause-cost g c = let all : c.loop-index.index ≡ c.args.start = omega (arith, c.loop-index-test.false, c.loop-index.invariant.least) in rw all at c.loop-index.invariant.most
+pub returns : goal.returns
+returns g c =
+    let changes = changes_in c.args.rows.now.rows c.args.changes.now in
+    let dim = c.args.arena.now.schema.dim in
+    let inv = c.loop-index.invariant in
+    let all : c.loop-index.index ≡ c.args.start = le_antisymm c.loop-index-test.false inv.least in
+    record {
+      chained = λ states chained. subst (AreChained changes c.loop-index.arena states) all (inv.chained states chained);
+      room = inv.room;
+      cost = subst (λ k. c.loop-index.steps + cost_to dim changes k ≤ c.args.steps.now + cost_to dim changes c.args.end) all inv.most;
+      rises = inv.rises;
+    }

@@ -1,12 +1,14 @@
-use Rattle.gm_undo.proofs.Sums.{never_more}
-use Rattle.std.proofs.Common.{◌≡◌, ◌+◌, ◌++◌, true, [], ◌∷◌}
+use Rattle.gm_undo.proofs.Sums.{never_more, one_stays}
+use Rattle.std.proofs.Common.{◌≡◌, ℕ, ◌+◌, ◌-◌, ◌*◌, ◌<◌, ◌≤◌, ◌++◌, length, true, [], ◌∷◌}
+use Rattle.std.proofs.Math.Nat.{le_antisymm, le_refl, le-add_right, lt_of_lt_of_le}
+use Rattle.std.proofs.lemmas.List.{length-set}
 use Rattle.gm_arena.specs.ArenaMap.{IsLiveName}
 use Rattle.std.proofs.Common.{sym, ap, subst, ◌∙◌, arith, Some}
 use Rattle.gm_arena.specs.ArenaMap.{Dart, name_at}
 use Rattle.gm_arena.proofs.InsideLemmas.{some_of}
 use Rattle.gm_arena.proofs.MapLemmas.{name_at-is}
 use Rattle.std.specs.FinMap.{get}
-use Rattle.gm_undo.proofs.Keep.{behind_more, behind_gone, behind_all}
+use Rattle.gm_undo.proofs.Keep.{AreBehindTo, behind_none, behind_more, behind_gone, behind_all}
 use Rattle.gm_undo.specs.Flat.{RowsOf, row_in}
 use Rattle.gm_undo.proofs.Sides.{one_more}
 use Rattle.gm_undo.proofs.keeping.keep_staying.Goals.{in-Some, in_default}
@@ -39,10 +41,40 @@ loop-index-preserved g c = elim c.match-slot_of.branch [
       }
 ]
 
-pub returns-clause-kept : goal.returns-clause-kept
-returns-clause-kept g c =
-    let all : c.loop-index.index ≡ c.args.end = omega (arith, c.loop-index-test.false, c.loop-index.auto.index-end c.requires.first) in
-    behind_all c.args.arena.now c.args.first c.args.end c.args.rows.now c.loop-index.rows (rw all at c.loop-index.invariant.kept)
-
 pub prove-unreachable-requires : goal.prove-unreachable-requires
 prove-unreachable-requires g c = never_more c.args.arena.now c.count.result c.count.ensures.lawful c.count.ensures.count c.if-prove.true
+
+pub loop-index-init : goal.loop-index-init
+loop-index-init g c = record {
+  kept = behind_none c.args.arena.now c.args.first c.args.end c.args.rows.now c.requires.end;
+  most = le-add_right _ _;
+  rises = le_refl _;
+}
+
+pub name-requires : goal.name-requires
+name-requires g c = lt_of_lt_of_le (subst (λ n. c.loop-index.index < n) c.requires.end c.loop-index-test.true) c.loop-index.invariant.kept.more.long
+
+pub mark_staying-requires : goal.mark_staying-requires
+mark_staying-requires g c = lt_of_lt_of_le (subst (λ n. c.loop-index.index < n) c.requires.end c.loop-index-test.true) c.loop-index.invariant.kept.more.long
+
+pub push-requires-clause-room : goal.push-requires-clause-room
+push-requires-clause-room g c =
+    let kept = c.loop-index.invariant.kept in
+    let long : length c.mark_staying.new.self.rows ≡ length c.loop-index.rows.rows = ap (λ (r : RowsOf). length r.rows) c.mark_staying.ensures ∙ length-set c.loop-index.rows.rows c.loop-index.index _ in
+    one_stays (length c.mark_staying.new.self.rows) (length c.loop-index.rows.rows) c.args.first c.args.end c.loop-index.index c.args.rows.now.room c.mark_staying.new.self.room long kept.few c.loop-index.auto.index c.loop-index-test.true c.requires.room
+    (ap (λ (r : RowsOf). r.room) c.mark_staying.ensures ∙ kept.more.room)
+
+pub push-requires-clause-labels : goal.push-requires-clause-labels
+push-requires-clause-labels g c = ap (λ (r : RowsOf). r.labels) c.mark_staying.ensures ∙ c.loop-index.invariant.kept.more.labels ∙ c.requires.labels
+
+pub push-requires-clause-width : goal.push-requires-clause-width
+push-requires-clause-width g c = ap (λ (r : RowsOf). r.width) c.mark_staying.ensures ∙ c.loop-index.invariant.kept.more.width ∙ c.requires.width
+
+pub returns : goal.returns
+returns g c =
+    let all : c.loop-index.index ≡ c.args.end = le_antisymm (c.loop-index.auto.index-end c.requires.first) c.loop-index-test.false in
+    record {
+      kept = behind_all c.args.arena.now c.args.first c.args.end c.args.rows.now c.loop-index.rows (subst (λ index. AreBehindTo c.args.arena.now c.args.first c.args.end c.args.rows.now index c.loop-index.rows) all c.loop-index.invariant.kept);
+      cost = subst (λ index. c.loop-index.steps ≤ c.args.steps.now + (c.args.arena.now.schema.dim + 3) * (index - c.args.first)) all c.loop-index.invariant.most;
+      rises = c.loop-index.invariant.rises;
+    }
