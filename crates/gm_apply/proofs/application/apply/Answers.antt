@@ -12,255 +12,139 @@ use Rattle.gm_apply.proofs.Readying.{names_there, edits_there, new_is, old_is, d
 use Rattle.gm_apply.proofs.Sums.{stays, no_less, rises_twice, rises_thrice, rises_to_the_end, steps_of_darts, names_reserved, still_above, room_reserved, spare_then, spare_stays, spare_stays_then}
 use Rattle.gm_apply.proofs.application.apply.Goals as goal
 
-pub returns-in_err-found-clause-outcome : goal.returns-in_err-found-clause-outcome
-returns-in_err-found-clause-outcome g c =
-    let p = err_from_is_err_and c.from_residual-in_err-found.result c.from_residual-in_err-found.ensures.1 in
-    rw (p.1, p.2) (refused_match (application_of c.args.arena.now (rule_of c.args.plan.now.table) c.args.hooks.now c.args.params.now) c.in_err-found.field-0.0 (c.in_err-found.ensures.answer c.args.params.now), refl)
-
-pub returns-in_err-found-clause-most : goal.returns-in_err-found-clause-most
-returns-in_err-found-clause-most g c most budget = find_within c.args.arena.now (rule_of c.args.plan.now.table) c.args.hooks.now c.args.params.now most c.args.steps.now c.find.new.steps budget (c.in_err-found.ensures.cost c.args.params.now)
-
-pub ready-requires-clause-readable : goal.ready-requires-clause-readable
-ready-requires-clause-readable g c = (c.args.hooks.now, readable_at _ _ c.requires.sound c.requires.schema c.rule.ensures.planned c.requires.params c.in_ok-found.ensures.answer)
-
-pub returns-in_err-applied-clause-outcome : goal.returns-in_err-applied-clause-outcome
-returns-in_err-applied-clause-outcome g c =
-    let p = err_from_is_err_and c.from_residual-in_err-applied.result c.from_residual-in_err-applied.ensures.1 in
-    rw (p.1, p.2) ((c.in_err-applied.ensures.ready c.args.hooks.now (readable_at _ _ c.requires.sound c.requires.schema c.rule.ensures.planned c.requires.params c.in_ok-found.ensures.answer)).refused, refl)
-
-pub returns-in_err-applied-clause-most : goal.returns-in_err-applied-clause-most
-returns-in_err-applied-clause-most g c most budget = (c.in_err-applied.ensures.ready c.args.hooks.now (readable_at _ _ c.requires.sound c.requires.schema c.rule.ensures.planned c.requires.params c.in_ok-found.ensures.answer)).within most c.args.steps.now budget (c.in_ok-found.ensures.cost c.args.params.now)
-
-pub returns-in_err-applied-clause-rises : goal.returns-in_err-applied-clause-rises
-returns-in_err-applied-clause-rises g c = rises_twice _ _ _ c.in_ok-found.ensures.least (c.in_err-applied.ensures.ready c.args.hooks.now (readable_at _ _ c.requires.sound c.requires.schema c.rule.ensures.planned c.requires.params c.in_ok-found.ensures.answer)).rises
-
-pub returns-in_err-applied-clause-untouched : goal.returns-in_err-applied-clause-untouched
-returns-in_err-applied-clause-untouched g c =
-    let p = err_from_is_err_and c.from_residual-in_err-applied.result c.from_residual-in_err-applied.ensures.1 in
-    rw p.1 (λ apart. refl)
-
-pub reserve-requires-clause-darts : goal.reserve-requires-clause-darts
-reserve-requires-clause-darts g c = (c.in_ok-applied.ensures.ready c.args.hooks.now (readable_at _ _ c.requires.sound c.requires.schema c.rule.ensures.planned c.requires.params c.in_ok-found.ensures.answer)).few
-
-pub reserve-requires-clause-names : goal.reserve-requires-clause-names
-reserve-requires-clause-names g c = names_there _ _ (readable_at _ _ c.requires.sound c.requires.schema c.rule.ensures.planned c.requires.params c.in_ok-found.ensures.answer) _ _ _ _ _ (c.in_ok-applied.ensures.ready c.args.hooks.now (readable_at _ _ c.requires.sound c.requires.schema c.rule.ensures.planned c.requires.params c.in_ok-found.ensures.answer)) _ refl
-
-pub returns-in_err-reserve-clause-rises : goal.returns-in_err-reserve-clause-rises
-returns-in_err-reserve-clause-rises g c =
-    let ready = c.in_ok-applied.ensures.ready c.args.hooks.now (readable_at _ _ c.requires.sound c.requires.schema c.rule.ensures.planned c.requires.params c.in_ok-found.ensures.answer) in
-    rises_thrice _ _ _ _ c.in_ok-found.ensures.least ready.rises ready.edited.rises
-
-pub returns-in_err-reserve-clause-most : goal.returns-in_err-reserve-clause-most
-returns-in_err-reserve-clause-most g c most budget = within_ready _ _ (readable_at _ _ c.requires.sound c.requires.schema c.rule.ensures.planned c.requires.params c.in_ok-found.ensures.answer) _ _ _ _ _ (c.in_ok-applied.ensures.ready c.args.hooks.now (readable_at _ _ c.requires.sound c.requires.schema c.rule.ensures.planned c.requires.params c.in_ok-found.ensures.answer)) c.reserve.ensures.lawful.schema most c.args.steps.now budget (c.in_ok-found.ensures.cost c.args.params.now)
-
-pub returns-in_err-reserve-clause-untouched : goal.returns-in_err-reserve-clause-untouched
-returns-in_err-reserve-clause-untouched g c =
-    let p = err_from_is_err_and c.from_residual-in_err-reserve.result c.from_residual-in_err-reserve.ensures.1 in
-    rw p.1 (λ apart. absurd (apart p.2))
-
-pub returns-in_err-reserve-clause-sound : goal.returns-in_err-reserve-clause-sound
-returns-in_err-reserve-clause-sound g c = sound_again c.args.arena.now c.reserve.new.arena c.reserve.ensures.rows c.requires.sound
-
-pub returns-in_err-reserve-clause-spare_stays : goal.returns-in_err-reserve-clause-spare_stays
-returns-in_err-reserve-clause-spare_stays g c = spare_stays c.args.arena.now.count c.args.arena.now.spare _ _ (ap (λ m. m.count) c.reserve.ensures.rows) c.reserve.ensures.spare_stays
-
-pub returns-in_err-reserve-clause-no_more : goal.returns-in_err-reserve-clause-no_more
-returns-in_err-reserve-clause-no_more g c =
-    let p = err_from_is_err_and c.from_residual-in_err-reserve.result c.from_residual-in_err-reserve.ensures.1 in
-    rw p.1 (ForResult _ _ _ (c.in_ok-applied.ensures.ready c.args.hooks.now (readable_at _ _ c.requires.sound c.requires.schema c.rule.ensures.planned c.requires.params c.in_ok-found.ensures.answer)).room c.reserve.ensures.spare_most c.reserve.ensures.reserved_most)
-
-pub commit-left-requires-clause-edits : goal.commit-left-requires-clause-edits
-commit-left-requires-clause-edits g c = edits_there _ _ (readable_at _ _ c.requires.sound c.requires.schema c.rule.ensures.planned c.requires.params c.in_ok-found.ensures.answer) _ _ _ _ _ (c.in_ok-applied.ensures.ready c.args.hooks.now (readable_at _ _ c.requires.sound c.requires.schema c.rule.ensures.planned c.requires.params c.in_ok-found.ensures.answer)) c.reserve.new.arena c.in_ok-reserve.ensures.rows
-
-pub commit-left-requires-clause-names : goal.commit-left-requires-clause-names
-commit-left-requires-clause-names g c = names_reserved c.args.arena.now.next c.args.arena.now.reserved c.in_ok-applied.applied.added _ _ _ (new_is _ _ (readable_at _ _ c.requires.sound c.requires.schema c.rule.ensures.planned c.requires.params c.in_ok-found.ensures.answer) _ _ _ _ _ (c.in_ok-applied.ensures.ready c.args.hooks.now (readable_at _ _ c.requires.sound c.requires.schema c.rule.ensures.planned c.requires.params c.in_ok-found.ensures.answer))) (ap (λ m. m.next) c.in_ok-reserve.ensures.rows) c.in_ok-reserve.ensures.reserved
-
-pub commit-left-requires-clause-room : goal.commit-left-requires-clause-room
-commit-left-requires-clause-room g c = room_reserved c.args.arena.now.spare c.in_ok-applied.applied.added c.in_ok-applied.applied.removed _ _ _ (new_is _ _ (readable_at _ _ c.requires.sound c.requires.schema c.rule.ensures.planned c.requires.params c.in_ok-found.ensures.answer) _ _ _ _ _ (c.in_ok-applied.ensures.ready c.args.hooks.now (readable_at _ _ c.requires.sound c.requires.schema c.rule.ensures.planned c.requires.params c.in_ok-found.ensures.answer))) (old_is _ _ (readable_at _ _ c.requires.sound c.requires.schema c.rule.ensures.planned c.requires.params c.in_ok-found.ensures.answer) _ _ _ _ _ (c.in_ok-applied.ensures.ready c.args.hooks.now (readable_at _ _ c.requires.sound c.requires.schema c.rule.ensures.planned c.requires.params c.in_ok-found.ensures.answer))) c.in_ok-reserve.ensures.spare
-
-pub returns-clause-outcome : goal.returns-clause-outcome
-returns-clause-outcome g c = done _ _ (readable_at _ _ c.requires.sound c.requires.schema c.rule.ensures.planned c.requires.params c.in_ok-found.ensures.answer) _ _ _ _ _ (c.in_ok-applied.ensures.ready c.args.hooks.now (readable_at _ _ c.requires.sound c.requires.schema c.rule.ensures.planned c.requires.params c.in_ok-found.ensures.answer)) c.reserve.new.arena c.commit-left.new.arena c.in_ok-reserve.ensures.rows c.commit-left.ensures.unfolded
-
-pub returns-clause-sound : goal.returns-clause-sound
-returns-clause-sound g c =
-    applications_keep_sound_maps (application_of c.args.arena.now (rule_of c.args.plan.now.table) c.args.hooks.now c.args.params.now) _ _ _ c.reserve.ensures.lawful.schema c.requires.sound (accepted_for c.args.arena.now c.args.plan.now.schema (rule_of c.args.plan.now.table) c.requires.schema c.rule.ensures.planned) c.requires.params
-    (done _ _ (readable_at _ _ c.requires.sound c.requires.schema c.rule.ensures.planned c.requires.params c.in_ok-found.ensures.answer) _ _ _ _ _ (c.in_ok-applied.ensures.ready c.args.hooks.now (readable_at _ _ c.requires.sound c.requires.schema c.rule.ensures.planned c.requires.params c.in_ok-found.ensures.answer)) c.reserve.new.arena c.commit-left.new.arena c.in_ok-reserve.ensures.rows c.commit-left.ensures.unfolded)
-
-pub returns-clause-schema : goal.returns-clause-schema
-returns-clause-schema g c = c.commit-left.ensures.schema ∙ ap (λ m. m.schema) c.in_ok-reserve.ensures.rows
-
-pub returns-clause-most : goal.returns-clause-most
-returns-clause-most g c most budget = within_done _ _ (readable_at _ _ c.requires.sound c.requires.schema c.rule.ensures.planned c.requires.params c.in_ok-found.ensures.answer) _ _ _ _ _ (c.in_ok-applied.ensures.ready c.args.hooks.now (readable_at _ _ c.requires.sound c.requires.schema c.rule.ensures.planned c.requires.params c.in_ok-found.ensures.answer)) c.reserve.ensures.lawful.schema most c.args.steps.now budget (c.in_ok-found.ensures.cost c.args.params.now) c.commit-left.new.steps c.commit-left.ensures.most
-
-pub returns-clause-rises : goal.returns-clause-rises
-returns-clause-rises g c =
-    let ready = c.in_ok-applied.ensures.ready c.args.hooks.now (readable_at _ _ c.requires.sound c.requires.schema c.rule.ensures.planned c.requires.params c.in_ok-found.ensures.answer) in
-    rises_to_the_end _ _ _ _ _ _ _ c.in_ok-found.ensures.least ready.rises ready.edited.rises c.commit-left.ensures.least
-
-pub returns-clause-spare : goal.returns-clause-spare
-returns-clause-spare g c = spare_then c.args.arena.now.spare c.in_ok-applied.applied.added c.in_ok-applied.applied.removed _ _ _ _ (new_is _ _ (readable_at _ _ c.requires.sound c.requires.schema c.rule.ensures.planned c.requires.params c.in_ok-found.ensures.answer) _ _ _ _ _ (c.in_ok-applied.ensures.ready c.args.hooks.now (readable_at _ _ c.requires.sound c.requires.schema c.rule.ensures.planned c.requires.params c.in_ok-found.ensures.answer))) (old_is _ _ (readable_at _ _ c.requires.sound c.requires.schema c.rule.ensures.planned c.requires.params c.in_ok-found.ensures.answer) _ _ _ _ _ (c.in_ok-applied.ensures.ready c.args.hooks.now (readable_at _ _ c.requires.sound c.requires.schema c.rule.ensures.planned c.requires.params c.in_ok-found.ensures.answer))) c.in_ok-reserve.ensures.spare c.commit-left.ensures.spare
-
-pub returns-clause-reserved : goal.returns-clause-reserved
-returns-clause-reserved g c = c.commit-left.ensures.reserved ∙ c.in_ok-reserve.ensures.reserved
-
-pub returns-clause-spare_stays : goal.returns-clause-spare_stays
-returns-clause-spare_stays g c = spare_stays_then c.args.arena.now.count c.args.arena.now.spare _ _ _ _ _ _ (ap (λ m. m.count) c.in_ok-reserve.ensures.rows) c.in_ok-reserve.ensures.spare_stays c.commit-left.ensures.count c.commit-left.ensures.spare
-
-pub returns-clause-reserved_stays : goal.returns-clause-reserved_stays
-returns-clause-reserved_stays g c = still_above _ _ _ c.in_ok-reserve.ensures.reserved_stays c.commit-left.ensures.reserved
-
-pub returns-clause-least : goal.returns-clause-least
-returns-clause-least g c =
-    let ready = c.in_ok-applied.ensures.ready c.args.hooks.now (readable_at _ _ c.requires.sound c.requires.schema c.rule.ensures.planned c.requires.params c.in_ok-found.ensures.answer) in
-    steps_of_darts _ _ _ _ _ _ _ _ _ c.in_ok-found.ensures.least ready.rises ready.edited.rises c.commit-left.ensures.least (new_is _ _ (readable_at _ _ c.requires.sound c.requires.schema c.rule.ensures.planned c.requires.params c.in_ok-found.ensures.answer) _ _ _ _ _ (c.in_ok-applied.ensures.ready c.args.hooks.now (readable_at _ _ c.requires.sound c.requires.schema c.rule.ensures.planned c.requires.params c.in_ok-found.ensures.answer))) (old_is _ _ (readable_at _ _ c.requires.sound c.requires.schema c.rule.ensures.planned c.requires.params c.in_ok-found.ensures.answer) _ _ _ _ _ (c.in_ok-applied.ensures.ready c.args.hooks.now (readable_at _ _ c.requires.sound c.requires.schema c.rule.ensures.planned c.requires.params c.in_ok-found.ensures.answer)))
-
-pub returns-in_err-fit-clause-outcome : goal.returns-in_err-fit-clause-outcome
-returns-in_err-fit-clause-outcome g c =
-    let p = err_from_is_err_and c.from_residual.result c.from_residual.ensures.1 in
-    rw (p.1, p.2) (tt, refl)
-
-pub returns-in_err-fit-clause-sound : goal.returns-in_err-fit-clause-sound
-returns-in_err-fit-clause-sound g c = c.requires.sound
-
-pub returns-in_err-fit-clause-most : goal.returns-in_err-fit-clause-most
-returns-in_err-fit-clause-most g c most budget = no_less _ _
-
-pub returns-in_err-fit-clause-rises : goal.returns-in_err-fit-clause-rises
-returns-in_err-fit-clause-rises g c = stays _
-
-pub returns-in_err-fit-clause-room : goal.returns-in_err-fit-clause-room
-returns-in_err-fit-clause-room g c = c.fit.ensures.kept
-
-pub returns-in_err-fit-clause-least : goal.returns-in_err-fit-clause-least
-returns-in_err-fit-clause-least g c = unless_ok _ c.from_residual.result c.from_residual.ensures.0
-
-pub returns-in_err-fit-clause-spare : goal.returns-in_err-fit-clause-spare
-returns-in_err-fit-clause-spare g c = unless_ok _ c.from_residual.result c.from_residual.ensures.0
-
-pub returns-in_err-fit-clause-reserved : goal.returns-in_err-fit-clause-reserved
-returns-in_err-fit-clause-reserved g c = unless_ok _ c.from_residual.result c.from_residual.ensures.0
-
-pub returns-in_err-fit-clause-no_more : goal.returns-in_err-fit-clause-no_more
-returns-in_err-fit-clause-no_more g c = rw (err_from_is_err_and c.from_residual.result c.from_residual.ensures.1).1 (AsBefore refl)
-
-pub returns-in_err-fit-clause-untouched : goal.returns-in_err-fit-clause-untouched
-returns-in_err-fit-clause-untouched g c = rw (err_from_is_err_and c.from_residual.result c.from_residual.ensures.1).1 (λ apart. refl)
-
-pub returns-in_err-fit-clause-spare_stays : goal.returns-in_err-fit-clause-spare_stays
-returns-in_err-fit-clause-spare_stays g c = stays _
-
-pub returns-in_err-fit-clause-reserved_stays : goal.returns-in_err-fit-clause-reserved_stays
-returns-in_err-fit-clause-reserved_stays g c = stays _
-
-pub returns-in_err-fit-clause-schema : goal.returns-in_err-fit-clause-schema
-returns-in_err-fit-clause-schema g c = refl
-
-pub returns-in_err-found-clause-least : goal.returns-in_err-found-clause-least
-returns-in_err-found-clause-least g c = unless_ok _ c.from_residual-in_err-found.result c.from_residual-in_err-found.ensures.0
-
-pub returns-in_err-found-clause-spare : goal.returns-in_err-found-clause-spare
-returns-in_err-found-clause-spare g c = unless_ok _ c.from_residual-in_err-found.result c.from_residual-in_err-found.ensures.0
-
-pub returns-in_err-found-clause-reserved : goal.returns-in_err-found-clause-reserved
-returns-in_err-found-clause-reserved g c = unless_ok _ c.from_residual-in_err-found.result c.from_residual-in_err-found.ensures.0
-
-pub returns-in_err-found-clause-no_more : goal.returns-in_err-found-clause-no_more
-returns-in_err-found-clause-no_more g c = rw (err_from_is_err_and c.from_residual-in_err-found.result c.from_residual-in_err-found.ensures.1).1 (AsBefore refl)
-
-pub returns-in_err-found-clause-untouched : goal.returns-in_err-found-clause-untouched
-returns-in_err-found-clause-untouched g c = rw (err_from_is_err_and c.from_residual-in_err-found.result c.from_residual-in_err-found.ensures.1).1 (λ apart. refl)
-
-pub returns-in_err-found-clause-spare_stays : goal.returns-in_err-found-clause-spare_stays
-returns-in_err-found-clause-spare_stays g c = stays _
-
-pub returns-in_err-found-clause-reserved_stays : goal.returns-in_err-found-clause-reserved_stays
-returns-in_err-found-clause-reserved_stays g c = stays _
-
-pub returns-in_err-found-clause-schema : goal.returns-in_err-found-clause-schema
-returns-in_err-found-clause-schema g c = refl
-
-pub returns-in_err-found-clause-sound : goal.returns-in_err-found-clause-sound
-returns-in_err-found-clause-sound g c = c.requires.sound
-
-pub returns-in_err-found-clause-rises : goal.returns-in_err-found-clause-rises
-returns-in_err-found-clause-rises g c = c.in_err-found.ensures.least
-
-pub returns-in_err-applied-clause-least : goal.returns-in_err-applied-clause-least
-returns-in_err-applied-clause-least g c = unless_ok _ c.from_residual-in_err-applied.result c.from_residual-in_err-applied.ensures.0
-
-pub returns-in_err-applied-clause-spare : goal.returns-in_err-applied-clause-spare
-returns-in_err-applied-clause-spare g c = unless_ok _ c.from_residual-in_err-applied.result c.from_residual-in_err-applied.ensures.0
-
-pub returns-in_err-applied-clause-reserved : goal.returns-in_err-applied-clause-reserved
-returns-in_err-applied-clause-reserved g c = unless_ok _ c.from_residual-in_err-applied.result c.from_residual-in_err-applied.ensures.0
-
-pub returns-in_err-applied-clause-no_more : goal.returns-in_err-applied-clause-no_more
-returns-in_err-applied-clause-no_more g c = rw (err_from_is_err_and c.from_residual-in_err-applied.result c.from_residual-in_err-applied.ensures.1).1 (AsBefore refl)
-
-pub returns-in_err-applied-clause-spare_stays : goal.returns-in_err-applied-clause-spare_stays
-returns-in_err-applied-clause-spare_stays g c = stays _
-
-pub returns-in_err-applied-clause-reserved_stays : goal.returns-in_err-applied-clause-reserved_stays
-returns-in_err-applied-clause-reserved_stays g c = stays _
-
-pub returns-in_err-applied-clause-schema : goal.returns-in_err-applied-clause-schema
-returns-in_err-applied-clause-schema g c = refl
-
-pub returns-in_err-applied-clause-sound : goal.returns-in_err-applied-clause-sound
-returns-in_err-applied-clause-sound g c = c.requires.sound
-
-pub returns-in_err-reserve-clause-least : goal.returns-in_err-reserve-clause-least
-returns-in_err-reserve-clause-least g c = unless_ok _ c.from_residual-in_err-reserve.result c.from_residual-in_err-reserve.ensures.0
-
-pub returns-in_err-reserve-clause-spare : goal.returns-in_err-reserve-clause-spare
-returns-in_err-reserve-clause-spare g c = unless_ok _ c.from_residual-in_err-reserve.result c.from_residual-in_err-reserve.ensures.0
-
-pub returns-in_err-reserve-clause-reserved : goal.returns-in_err-reserve-clause-reserved
-returns-in_err-reserve-clause-reserved g c = unless_ok _ c.from_residual-in_err-reserve.result c.from_residual-in_err-reserve.ensures.0
-
-pub returns-in_err-reserve-clause-schema : goal.returns-in_err-reserve-clause-schema
-returns-in_err-reserve-clause-schema g c = ap (λ m. m.schema) c.reserve.ensures.rows
-
-pub returns-in_err-reserve-clause-reserved_stays : goal.returns-in_err-reserve-clause-reserved_stays
-returns-in_err-reserve-clause-reserved_stays g c = c.reserve.ensures.reserved_stays
-
 pub prove-unreachable-requires : goal.prove-unreachable-requires
 prove-unreachable-requires g c = c.if-prove.true (ap length (c.as_slice.ensures ∙ ap (λ (table : RuleTable). table.hooks) c.rule.ensures.rule) ∙ sym c.requires.hooks)
 
-pub find-requires-clause-map : goal.find-requires-clause-map
-find-requires-clause-map g c = c.requires.sound.generalised
+pub returns-in_err-fit : goal.returns-in_err-fit
+returns-in_err-fit g c =
+    let p = err_from_is_err_and c.from_residual.result c.from_residual.ensures.1 in
+    record {
+      outcome = rw (p.1, p.2) (tt, refl);
+      sound = c.requires.sound;
+      schema = refl;
+      most = λ most budget. no_less _ _;
+      least = unless_ok _ c.from_residual.result c.from_residual.ensures.0;
+      rises = stays _;
+      room = c.fit.ensures.kept;
+      spare = unless_ok _ c.from_residual.result c.from_residual.ensures.0;
+      reserved = unless_ok _ c.from_residual.result c.from_residual.ensures.0;
+      no_more = rw p.1 (AsBefore refl);
+      untouched = rw p.1 (λ apart. refl);
+      spare_stays = stays _;
+      reserved_stays = stays _;
+    }
 
-pub find-requires-clause-schema : goal.find-requires-clause-schema
-find-requires-clause-schema g c = c.requires.schema
+pub find-requires : goal.find-requires
+find-requires g c = record {
+  map = c.requires.sound.generalised;
+  schema = c.requires.schema;
+  hooks = c.requires.hooks;
+  fits = c.in_ok-fit.ensures.fits;
+}
 
-pub find-requires-clause-hooks : goal.find-requires-clause-hooks
-find-requires-clause-hooks g c = c.requires.hooks
+pub returns-in_err-found : goal.returns-in_err-found
+returns-in_err-found g c =
+    let p = err_from_is_err_and c.from_residual-in_err-found.result c.from_residual-in_err-found.ensures.1 in
+    record {
+      outcome = rw (p.1, p.2) (refused_match (application_of c.args.arena.now (rule_of c.args.plan.now.table) c.args.hooks.now c.args.params.now) c.in_err-found.field-0.0 (c.in_err-found.ensures.answer c.args.params.now), refl);
+      sound = c.requires.sound;
+      schema = refl;
+      most = λ most budget. find_within c.args.arena.now (rule_of c.args.plan.now.table) c.args.hooks.now c.args.params.now most c.args.steps.now c.find.new.steps budget (c.in_err-found.ensures.cost c.args.params.now);
+      least = unless_ok _ c.from_residual-in_err-found.result c.from_residual-in_err-found.ensures.0;
+      rises = c.in_err-found.ensures.least;
+      room = still_above _ _ _ c.fit.ensures.kept c.find.ensures.room;
+      spare = unless_ok _ c.from_residual-in_err-found.result c.from_residual-in_err-found.ensures.0;
+      reserved = unless_ok _ c.from_residual-in_err-found.result c.from_residual-in_err-found.ensures.0;
+      no_more = rw p.1 (AsBefore refl);
+      untouched = rw p.1 (λ apart. refl);
+      spare_stays = stays _;
+      reserved_stays = stays _;
+    }
 
-pub find-requires-clause-fits : goal.find-requires-clause-fits
-find-requires-clause-fits g c = c.in_ok-fit.ensures.fits
+pub ready-requires : goal.ready-requires
+ready-requires g c = record {
+  readable = (c.args.hooks.now, readable_at _ _ c.requires.sound c.requires.schema c.rule.ensures.planned c.requires.params c.in_ok-found.ensures.answer);
+  fits = subst (λ n. c.args.arena.now.bound ≤ n) (sym c.find.ensures.room) c.in_ok-fit.ensures.fits;
+}
 
-pub returns-in_err-found-clause-room : goal.returns-in_err-found-clause-room
-returns-in_err-found-clause-room g c = still_above _ _ _ c.fit.ensures.kept c.find.ensures.room
+pub returns-in_err-applied : goal.returns-in_err-applied
+returns-in_err-applied g c =
+    let readable = readable_at _ _ c.requires.sound c.requires.schema c.rule.ensures.planned c.requires.params c.in_ok-found.ensures.answer in
+    let refused = c.in_err-applied.ensures.ready c.args.hooks.now readable in
+    let p = err_from_is_err_and c.from_residual-in_err-applied.result c.from_residual-in_err-applied.ensures.1 in
+    record {
+      outcome = rw (p.1, p.2) (refused.refused, refl);
+      sound = c.requires.sound;
+      schema = refl;
+      most = λ most budget. refused.within most c.args.steps.now budget (c.in_ok-found.ensures.cost c.args.params.now);
+      least = unless_ok _ c.from_residual-in_err-applied.result c.from_residual-in_err-applied.ensures.0;
+      rises = rises_twice _ _ _ c.in_ok-found.ensures.least refused.rises;
+      room = still_above _ _ _ c.fit.ensures.kept (c.ready.ensures.room ∙ c.find.ensures.room);
+      spare = unless_ok _ c.from_residual-in_err-applied.result c.from_residual-in_err-applied.ensures.0;
+      reserved = unless_ok _ c.from_residual-in_err-applied.result c.from_residual-in_err-applied.ensures.0;
+      no_more = rw p.1 (AsBefore refl);
+      untouched = rw p.1 (λ apart. refl);
+      spare_stays = stays _;
+      reserved_stays = stays _;
+    }
 
-pub ready-requires-clause-fits : goal.ready-requires-clause-fits
-ready-requires-clause-fits g c = subst (λ n. c.args.arena.now.bound ≤ n) (sym c.find.ensures.room) c.in_ok-fit.ensures.fits
+pub reserve-requires : goal.reserve-requires
+reserve-requires g c =
+    let readable = readable_at _ _ c.requires.sound c.requires.schema c.rule.ensures.planned c.requires.params c.in_ok-found.ensures.answer in
+    let ready = c.in_ok-applied.ensures.ready c.args.hooks.now readable in
+    record {
+      darts = ready.few;
+      names = names_there _ _ readable _ _ _ _ _ ready _ refl;
+    }
 
-pub returns-in_err-applied-clause-room : goal.returns-in_err-applied-clause-room
-returns-in_err-applied-clause-room g c = still_above _ _ _ c.fit.ensures.kept (c.ready.ensures.room ∙ c.find.ensures.room)
-
-pub returns-in_err-reserve-clause-outcome : goal.returns-in_err-reserve-clause-outcome
-returns-in_err-reserve-clause-outcome g c =
+pub returns-in_err-reserve : goal.returns-in_err-reserve
+returns-in_err-reserve g c =
+    let readable = readable_at _ _ c.requires.sound c.requires.schema c.rule.ensures.planned c.requires.params c.in_ok-found.ensures.answer in
+    let ready = c.in_ok-applied.ensures.ready c.args.hooks.now readable in
     let p = err_from_is_err_and c.from_residual-in_err-reserve.result c.from_residual-in_err-reserve.ensures.1 in
-    rw (p.1, p.2) (tt, c.reserve.ensures.rows)
+    record {
+      outcome = rw (p.1, p.2) (tt, c.reserve.ensures.rows);
+      sound = sound_again c.args.arena.now c.reserve.new.arena c.reserve.ensures.rows c.requires.sound;
+      schema = ap (λ m. m.schema) c.reserve.ensures.rows;
+      most = λ most budget. within_ready _ _ readable _ _ _ _ _ ready c.reserve.ensures.lawful.schema most c.args.steps.now budget (c.in_ok-found.ensures.cost c.args.params.now);
+      least = unless_ok _ c.from_residual-in_err-reserve.result c.from_residual-in_err-reserve.ensures.0;
+      rises = rises_thrice _ _ _ _ c.in_ok-found.ensures.least ready.rises ready.edited.rises;
+      room = still_above _ _ _ c.fit.ensures.kept (c.ready.ensures.room ∙ c.find.ensures.room);
+      spare = unless_ok _ c.from_residual-in_err-reserve.result c.from_residual-in_err-reserve.ensures.0;
+      reserved = unless_ok _ c.from_residual-in_err-reserve.result c.from_residual-in_err-reserve.ensures.0;
+      no_more = rw p.1 (ForResult _ _ _ ready.room c.reserve.ensures.spare_most c.reserve.ensures.reserved_most);
+      untouched = rw p.1 (λ apart. absurd (apart p.2));
+      spare_stays = spare_stays c.args.arena.now.count c.args.arena.now.spare _ _ (ap (λ m. m.count) c.reserve.ensures.rows) c.reserve.ensures.spare_stays;
+      reserved_stays = c.reserve.ensures.reserved_stays;
+    }
 
-pub returns-in_err-reserve-clause-room : goal.returns-in_err-reserve-clause-room
-returns-in_err-reserve-clause-room g c = still_above _ _ _ c.fit.ensures.kept (c.ready.ensures.room ∙ c.find.ensures.room)
+pub commit-left-requires : goal.commit-left-requires
+commit-left-requires g c =
+    let readable = readable_at _ _ c.requires.sound c.requires.schema c.rule.ensures.planned c.requires.params c.in_ok-found.ensures.answer in
+    let ready = c.in_ok-applied.ensures.ready c.args.hooks.now readable in
+    record {
+      edits = edits_there _ _ readable _ _ _ _ _ ready c.reserve.new.arena c.in_ok-reserve.ensures.rows;
+      names = names_reserved c.args.arena.now.next c.args.arena.now.reserved c.in_ok-applied.applied.added _ _ _ (new_is _ _ readable _ _ _ _ _ ready) (ap (λ m. m.next) c.in_ok-reserve.ensures.rows) c.in_ok-reserve.ensures.reserved;
+      room = room_reserved c.args.arena.now.spare c.in_ok-applied.applied.added c.in_ok-applied.applied.removed _ _ _ (new_is _ _ readable _ _ _ _ _ ready) (old_is _ _ readable _ _ _ _ _ ready) c.in_ok-reserve.ensures.spare;
+    }
 
-pub returns-clause-room : goal.returns-clause-room
-returns-clause-room g c = still_above _ _ _ c.fit.ensures.kept (ap (λ room. room.bound) (c.keep_rows.ensures ∙ c.keep_room.ensures) ∙ c.ready.ensures.room ∙ c.find.ensures.room)
-
-pub returns-clause-no_more : goal.returns-clause-no_more
-returns-clause-no_more g c = tt
-
-pub returns-clause-untouched : goal.returns-clause-untouched
-returns-clause-untouched g c = tt
+pub returns : goal.returns
+returns g c =
+    let readable = readable_at _ _ c.requires.sound c.requires.schema c.rule.ensures.planned c.requires.params c.in_ok-found.ensures.answer in
+    let ready = c.in_ok-applied.ensures.ready c.args.hooks.now readable in
+    record {
+      outcome = done _ _ readable _ _ _ _ _ ready c.reserve.new.arena c.commit-left.new.arena c.in_ok-reserve.ensures.rows c.commit-left.ensures.unfolded;
+      sound = applications_keep_sound_maps (application_of c.args.arena.now (rule_of c.args.plan.now.table) c.args.hooks.now c.args.params.now) _ _ _ c.reserve.ensures.lawful.schema c.requires.sound (accepted_for c.args.arena.now c.args.plan.now.schema (rule_of c.args.plan.now.table) c.requires.schema c.rule.ensures.planned) c.requires.params
+          (done _ _ readable _ _ _ _ _ ready c.reserve.new.arena c.commit-left.new.arena c.in_ok-reserve.ensures.rows c.commit-left.ensures.unfolded);
+      schema = c.commit-left.ensures.schema ∙ ap (λ m. m.schema) c.in_ok-reserve.ensures.rows;
+      most = λ most budget. within_done _ _ readable _ _ _ _ _ ready c.reserve.ensures.lawful.schema most c.args.steps.now budget (c.in_ok-found.ensures.cost c.args.params.now) c.commit-left.new.steps c.commit-left.ensures.most;
+      least = steps_of_darts _ _ _ _ _ _ _ _ _ c.in_ok-found.ensures.least ready.rises ready.edited.rises c.commit-left.ensures.least (new_is _ _ readable _ _ _ _ _ ready) (old_is _ _ readable _ _ _ _ _ ready);
+      rises = rises_to_the_end _ _ _ _ _ _ _ c.in_ok-found.ensures.least ready.rises ready.edited.rises c.commit-left.ensures.least;
+      room = still_above _ _ _ c.fit.ensures.kept (ap (λ room. room.bound) (c.keep_rows.ensures ∙ c.keep_room.ensures) ∙ c.ready.ensures.room ∙ c.find.ensures.room);
+      spare = spare_then c.args.arena.now.spare c.in_ok-applied.applied.added c.in_ok-applied.applied.removed _ _ _ _ (new_is _ _ readable _ _ _ _ _ ready) (old_is _ _ readable _ _ _ _ _ ready) c.in_ok-reserve.ensures.spare c.commit-left.ensures.spare;
+      reserved = c.commit-left.ensures.reserved ∙ c.in_ok-reserve.ensures.reserved;
+      no_more = tt;
+      untouched = tt;
+      spare_stays = spare_stays_then c.args.arena.now.count c.args.arena.now.spare _ _ _ _ _ _ (ap (λ m. m.count) c.in_ok-reserve.ensures.rows) c.in_ok-reserve.ensures.spare_stays c.commit-left.ensures.count c.commit-left.ensures.spare;
+      reserved_stays = still_above _ _ _ c.in_ok-reserve.ensures.reserved_stays c.commit-left.ensures.reserved;
+    }
