@@ -1,5 +1,5 @@
 use Rattle.gm_undo.proofs.Sums.{never_more, one_stays}
-use Rattle.std.proofs.Common.{◌≡◌, ℕ, ◌+◌, ◌-◌, ◌*◌, ◌<◌, ◌≤◌, ◌++◌, length, true, [], ◌∷◌}
+use Rattle.std.proofs.Common.{◌≡◌, ◌+◌, ◌-◌, ◌*◌, ◌<◌, ◌≤◌, ◌++◌, length, true, [], ◌∷◌}
 use Rattle.std.proofs.Math.Nat.{le_antisymm, le_refl, le-add_right, lt_of_lt_of_le}
 use Rattle.std.proofs.lemmas.List.{length-set}
 use Rattle.gm_arena.specs.ArenaMap.{IsLiveName}
