@@ -1,12 +1,22 @@
-use Rattle.std.proofs.Common.{◌++◌, ◌∷◌, [], take, sym, ap, ◌∙◌, subst}
-use Rattle.std.proofs.lemmas.List.{take_more}
+use Rattle.std.proofs.Common.{◌≡◌, ℕ, ◌++◌, ◌∷◌, [], None, length, take, sym, ap, ◌∙◌, subst}
+use borrow.Author.Count.{falls}
+use Rattle.std.proofs.lemmas.List.{take_all, take_more}
+use Rattle.gm_theory.proofs.Lists.{contained_at, none_some}
 use Rattle.gm_walk.specs.declared.mark.Mark.{Mark}
+use Rattle.gm_plan.specs.declared.index.Index.{Index}
 use Rattle.gm_plan.specs.Indices.{index_at}
 use Rattle.gm_walk.specs.Keys.{key_of}
-use Rattle.gm_pending.specs.Marks.{HasKey, IsIndex}
+use Rattle.gm_pending.specs.Marks.{ByKey, HasKey, IsIndex}
 use Rattle.gm_pending.proofs.Reached.{put_fresh, fresh_key}
 use Rattle.gm_model.proofs.Exits.{unless_ok}
 use Rattle.gm_pending.proofs.marks.index.Goals as goal
+
+-- an index without an entry is that of no darts
+none_indexed : (by_key : ByKey) → ((key : ℕ) → by_key key ≡ None) → IsIndex [] by_key
+none_indexed by_key none = record {
+  marked = λ entry among. none_some entry (contained_at [] entry among);
+  only = λ key k is. none_some k (sym (none key) ∙ is);
+}
 
 pub loop-entry-preserved : goal.loop-entry-preserved
 loop-entry-preserved c =
@@ -28,3 +38,17 @@ returns-in_err-put c = unless_ok _ c.from_residual-in_err-put.result c.from_resi
 
 pub returns-in_err-new : goal.returns-in_err-new
 returns-in_err-new c = unless_ok _ c.from_residual-in_err-new.result c.from_residual-in_err-new.ensures.0
+
+pub loop-entry-init : goal.loop-entry-init
+loop-entry-init c = none_indexed (index_at c.in_ok-index.index) (c.in_ok-index.ensures)
+
+pub returns : goal.returns
+returns c =
+    let all = subst (λ xs. IsIndex xs (index_at c.loop-entry.index)) (take_all c.loop-entry.entry-index c.args.reached.now c.loop-entry-test.false) c.loop-entry.invariant in
+    subst (λ (b : Index). IsIndex c.args.reached.now (index_at b)) (sym c.in_ok-new.ensures.ok) all
+
+pub loop-entry-smaller : goal.loop-entry-smaller
+loop-entry-smaller c = falls (length c.args.reached.now) c.loop-entry.entry-index c.loop-entry-test.true
+
+pub bounds-reached-entry-index : goal.bounds-reached-entry-index
+bounds-reached-entry-index c = c.loop-entry-test.true
