@@ -38,5 +38,6 @@ pub mod ManyArcs
 pub mod Collected
 pub mod Told
 pub mod KeptArcs
+pub mod Marking
 pub mod Taken
 pub mod ToldValues

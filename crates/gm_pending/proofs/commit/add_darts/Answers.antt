@@ -1,10 +1,12 @@
-use Rattle.std.proofs.Common.{◌≡◌, ℕ, ◌+◌, ◌-◌, ◌*◌, ◌<◌, List, [], ◌∷◌, ◌++◌, length, take, drop, refl, sym, ap, ap₂, ◌∙◌, arith, append-nil, append_assoc, length-append}
+use Rattle.std.proofs.Common.{◌≡◌, ℕ, ◌+◌, ◌-◌, ◌*◌, ◌<◌, ◌≤◌, List, [], ◌∷◌, ◌++◌, length, take, drop, refl, sym, ap, ap₂, ◌∙◌, arith, append-nil, le-add_right, le_of_eq, append_assoc, length-append}
+use borrow.Author.Count.{falls}
 use Rattle.std.proofs.Math.Seq.{drop-append_seam}
 use Rattle.std.proofs.lemmas.List.{length_push}
 use Rattle.gm_model.specs.declared.schema.Schema.{Schema}
 use Rattle.gm_model.specs.declared.value.Value.{Value}
 use Rattle.gm_arena.specs.declared.slot.Slot.{Slot}
 use Rattle.gm_arena.specs.Parts.{part_of}
+use Rattle.gm_arena.proofs.ValueLemmas.{stretch}
 use Rattle.gm_pending.proofs.Extended.{none_extended, next_is_new, extended_more}
 use Rattle.gm_pending.proofs.commit.add_darts.Goals as goal
 
@@ -17,6 +19,19 @@ lent values number other width wide e f =
 -- one more slot behind those that were made
 one_behind : (start made now after : List Slot) (slot : Slot) → now ≡ start ++ made → after ≡ now ++ slot ∷ [] → after ≡ start ++ (made ++ slot ∷ [])
 one_behind start made now after slot so_far put = put ∙ ap (λ slots. slots ++ slot ∷ []) so_far ∙ append_assoc start made (slot ∷ [])
+
+-- a dart's values are among those of all
+own_within : (number added width wide long : ℕ) → number < added → width ≡ wide → long ≡ added * wide → number * width + width ≤ long
+own_within number added width wide long below same is = rw same (stretch number added wide long below (le_of_eq (sym is)))
+
+pub slice_bounds-own-count : goal.slice_bounds-own-count
+slice_bounds-own-count g c = le-add_right (c.loop-number.number * length c.as_slice-width.result.now) (length c.as_slice-width.result.now)
+
+pub slice_bounds-own-end : goal.slice_bounds-own-end
+slice_bounds-own-end g c = own_within c.loop-number.number c.args.added (length c.as_slice-width.result.now) (length c.args.arena.now.schema.embeds) (length c.args.values.now) c.loop-number-test.true (ap length (c.as_slice-width.ensures ∙ ap (λ (s : Schema). s.embeds) c.schema.ensures)) c.requires.long
+
+pub loop-number-smaller : goal.loop-number-smaller
+loop-number-smaller g c = falls c.args.added c.loop-number.number c.loop-number-test.true
 
 pub loop-number-init : goal.loop-number-init
 loop-number-init g c = record {

@@ -1,11 +1,12 @@
-use Rattle.std.proofs.Common.{◌≡◌, ℕ, ◌<◌, true, false, List, [], ◌∷◌, ◌++◌, Option, None, Some, IfSome, MatchOption, refl, sym, ◌∙◌, ap, subst, inl, inr, arith}
+use Rattle.std.proofs.Common.{◌≡◌, ℕ, true, false, List, [], ◌∷◌, ◌++◌, Option, None, Some, IfSome, MatchOption, refl, sym, ◌∙◌, ap, subst, inl, inr, arith}
 use Rattle.std.specs.Option.{is_some, option_map}
 use Rattle.std.proofs.lemmas.Bool.{false≢true}
 use Rattle.gm_plan.specs.declared.index.Index.{Index}
 use Rattle.gm_walk.specs.declared.mark.Mark.{Mark}
-use Rattle.gm_pending.specs.Marks.{bit_of, ByKey, AreMarked, AreSeen, HasDistinctKeys, HasKey, IsIndex, IsQuick}
+use Rattle.gm_pending.specs.Marks.{ByKey, AreMarked, AreSeen, HasDistinctKeys, HasKey, IsIndex}
 use Rattle.gm_plan.specs.Indices.{AreTheSame, IsOneMore, index_at}
 use Rattle.gm_walk.specs.Keys.{key_of}
+use Rattle.gm_pending.proofs.Marking.{bit_below, not_quick}
 use Rattle.gm_pending.proofs.Reached.{distinct_more, put_again, put_new, seen_more}
 use Rattle.gm_model.proofs.Exits.{never_ok, on_err, unless_ok}
 use Rattle.gm_pending.proofs.marks.Marks.put.Goals as goal
@@ -15,10 +16,6 @@ index_kept : {B : Type 0} (by_key : B → ByKey) (index : Option B) (reached : L
 index_kept by_key None reached kept = tt
 index_kept by_key (Some b) reached kept = kept
 
--- without quickness nothing is asked of the room
-not_quick : {I : Type 0} (capacity : ℕ) (index : Option I) → IsQuick 0 capacity index
-not_quick capacity index = (omega arith, λ some. absurd (omega (arith, some)))
-
 -- the marks stay as they were, but for the index
 marks_kept : (before after : List Mark) (by_key : Option ByKey) (bits : ℕ) → after ≡ before → HasDistinctKeys before → IfSome by_key (IsIndex before) → AreSeen before bits → AreMarked after by_key bits
 marks_kept before after by_key bits same distinct indexed seen = rw same (record { distinct = distinct; indexed = indexed; seen = seen })
@@ -26,10 +23,6 @@ marks_kept before after by_key bits same distinct indexed seen = rw same (record
 -- an index that was taken has nothing to answer for
 none_kept : {B : Type 0} (by_key : B → ByKey) (index : Option B) (reached : List Mark) → index ≡ None → IfSome (option_map by_key index) (IsIndex reached)
 none_kept by_key index reached none = rw none tt
-
--- a bit is one of 64
-bit_below : (bit key : ℕ) → bit ≡ bit_of key → bit < 64
-bit_below bit key is = rw is (omega arith)
 
 -- what it tells that the dart was put into the index that was made of the marks
 module _ (reached lent : List Mark) (made held after : Index) (mark : Mark) (key : ℕ) (had : Option ℕ) (same : lent ≡ reached) (is : held ≡ made) (own : key ≡ key_of mark.at) (indexed : IsIndex lent (index_at made)) (found : had ≡ index_at held key) (was : MatchOption had (IsOneMore (index_at held) (index_at after) key mark.instance) (λ k. AreTheSame (index_at held) (index_at after))) where

@@ -1,4 +1,5 @@
 use Rattle.std.proofs.Common.{◌≡◌, ◌*◌, length, IsSome, None, Some, refl, sym, ap, ◌∙◌, subst, arith, mul_comm}
+use borrow.Author.Count.{falls}
 use Rattle.std.proofs.lemmas.Bool.{false≢true}
 use Rattle.std.proofs.lemmas.Nat.{mul-add-lt}
 use Rattle.std.proofs.lemmas.Option.{slice_get_read}
@@ -99,3 +100,9 @@ overflow_add-value c =
       mul-add-lt c.new_number-number.result (length app.map.schema.embeds) c.args.embed (app.placed.positions * added_nodes (rule_in app)) c.new_number-number.ensures.most c.requires.embed,
       mul_comm (length app.map.schema.embeds) (app.placed.positions * added_nodes (rule_in app)),
     ))
+
+pub loop-entry-smaller : goal.loop-entry-smaller
+loop-entry-smaller c = falls (length c.as_slice-entry-items.result.now) c.loop-entry.entry-index c.loop-entry-test.true
+
+pub bounds-entry-items-entry-index : goal.bounds-entry-items-entry-index
+bounds-entry-items-entry-index c = c.loop-entry-test.true
