@@ -18,64 +18,58 @@ few_reads start after dim width adds count k added reached some few fewer is cos
     let labels : 12 * (count * k + reached + 1) ≤ 6 * (dim + 1) * (count * k + reached + 1) = mul-le 12 (count * k + reached + 1) (6 * (dim + 1)) (count * k + reached + 1) (omega arith) (omega arith) in
     omega (arith, once, labels, cost)
 
-pub returns-in_err-added_values-clause-cost : goal.returns-in_err-added_values-clause-cost
-returns-in_err-added_values-clause-cost g c =
-    let app = c.args.self in
-    let prepared : IsPrepared app = subst IsPrepared c.self.view_is c.self.invariant.0 in
-    let added : c.added-new_nodes.result * c.positions.result ≡ app.placed.positions * added_nodes (rule_in app) =
-    ap₂ (λ a b. a * b) (c.added-new_nodes.ensures ∙ ap (λ (a : PendingOf). added_nodes (rule_in a)) c.self.view_is) (c.positions.ensures.value ∙ ap (λ (a : PendingOf). a.placed.positions) c.self.view_is)
-    ∙ mul_comm (added_nodes (rule_in app)) app.placed.positions in
-    λ reached sum.
-    few_reads c.args.steps.now c.added_values.new.steps app.map.schema.dim (length app.map.schema.embeds) (added_nodes (rule_in app)) (length (rule_in app).nodes) app.placed.positions (c.added-new_nodes.result * c.positions.result) reached
-    prepared.lawful.dim.0 prepared.lawful.schema.count (few_added app prepared (length (rule_in app).nodes)) added (omega (arith, c.added_values.ensures.cost))
+pub returns-in_err-added_values : goal.returns-in_err-added_values
+returns-in_err-added_values g c =
+    record {
+      edits = unless_ok _ c.from_residual-in_err-added_values.result c.from_residual-in_err-added_values.ensures.0;
+      cost = let app = c.args.self in
+        let prepared : IsPrepared app = subst IsPrepared c.self.view_is c.self.invariant.0 in
+        let added : c.added-new_nodes.result * c.positions.result ≡ app.placed.positions * added_nodes (rule_in app) =
+        ap₂ (λ a b. a * b) (c.added-new_nodes.ensures ∙ ap (λ (a : PendingOf). added_nodes (rule_in a)) c.self.view_is) (c.positions.ensures.value ∙ ap (λ (a : PendingOf). a.placed.positions) c.self.view_is)
+        ∙ mul_comm (added_nodes (rule_in app)) app.placed.positions in
+        λ reached sum.
+        few_reads c.args.steps.now c.added_values.new.steps app.map.schema.dim (length app.map.schema.embeds) (added_nodes (rule_in app)) (length (rule_in app).nodes) app.placed.positions (c.added-new_nodes.result * c.positions.result) reached
+        prepared.lawful.dim.0 prepared.lawful.schema.count (few_added app prepared (length (rule_in app).nodes)) added (omega (arith, c.added_values.ensures.cost));
+      least = c.added_values.ensures.least;
+    }
 
-pub returns-clause-cost : goal.returns-clause-cost
-returns-clause-cost g c =
-    let app = c.args.self in
-    let prepared : IsPrepared app = subst IsPrepared c.self.view_is c.self.invariant.0 in
-    let added : c.added-new_nodes.result * c.positions.result ≡ app.placed.positions * added_nodes (rule_in app) =
-    ap₂ (λ a b. a * b) (c.added-new_nodes.ensures ∙ ap (λ (a : PendingOf). added_nodes (rule_in a)) c.self.view_is) (c.positions.ensures.value ∙ ap (λ (a : PendingOf). a.placed.positions) c.self.view_is)
-    ∙ mul_comm (added_nodes (rule_in app)) app.placed.positions in
-    λ reached sum.
-    few_reads c.args.steps.now c.added_values.new.steps app.map.schema.dim (length app.map.schema.embeds) (added_nodes (rule_in app)) (length (rule_in app).nodes) app.placed.positions (c.added-new_nodes.result * c.positions.result) reached
-    prepared.lawful.dim.0 prepared.lawful.schema.count (few_added app prepared (length (rule_in app).nodes)) added (omega (arith, c.added_values.ensures.cost))
+pub returns : goal.returns
+returns g c =
+    record {
+      edits = let app = c.args.self in
+        let prepared : IsPrepared app = subst IsPrepared c.self.view_is c.self.invariant.0 in
+        let added : c.added-new_nodes.result * c.positions.result ≡ app.placed.positions * added_nodes (rule_in app) =
+        ap₂ (λ a b. a * b) (c.added-new_nodes.ensures ∙ ap (λ (a : PendingOf). added_nodes (rule_in a)) c.self.view_is) (c.positions.ensures.value ∙ ap (λ (a : PendingOf). a.placed.positions) c.self.view_is)
+        ∙ mul_comm (added_nodes (rule_in app)) app.placed.positions in
+        let alike = c.rewrite-rewrite.ensures in
+        are_edits app prepared _ c.in_ok-added_values.ensures.values c.into_orbits-orbits.ensures.values (same_left _ _ alike) (same_arcs _ _ alike Freed) (same_removed _ _ alike) (same_arcs _ _ alike Made) added;
+      cost = let app = c.args.self in
+        let prepared : IsPrepared app = subst IsPrepared c.self.view_is c.self.invariant.0 in
+        let added : c.added-new_nodes.result * c.positions.result ≡ app.placed.positions * added_nodes (rule_in app) =
+        ap₂ (λ a b. a * b) (c.added-new_nodes.ensures ∙ ap (λ (a : PendingOf). added_nodes (rule_in a)) c.self.view_is) (c.positions.ensures.value ∙ ap (λ (a : PendingOf). a.placed.positions) c.self.view_is)
+        ∙ mul_comm (added_nodes (rule_in app)) app.placed.positions in
+        λ reached sum.
+        few_reads c.args.steps.now c.added_values.new.steps app.map.schema.dim (length app.map.schema.embeds) (added_nodes (rule_in app)) (length (rule_in app).nodes) app.placed.positions (c.added-new_nodes.result * c.positions.result) reached
+        prepared.lawful.dim.0 prepared.lawful.schema.count (few_added app prepared (length (rule_in app).nodes)) added (omega (arith, c.added_values.ensures.cost));
+      least = c.added_values.ensures.least;
+    }
 
-pub returns-clause-edits : goal.returns-clause-edits
-returns-clause-edits g c =
-    let app = c.args.self in
-    let prepared : IsPrepared app = subst IsPrepared c.self.view_is c.self.invariant.0 in
-    let added : c.added-new_nodes.result * c.positions.result ≡ app.placed.positions * added_nodes (rule_in app) =
-    ap₂ (λ a b. a * b) (c.added-new_nodes.ensures ∙ ap (λ (a : PendingOf). added_nodes (rule_in a)) c.self.view_is) (c.positions.ensures.value ∙ ap (λ (a : PendingOf). a.placed.positions) c.self.view_is)
-    ∙ mul_comm (added_nodes (rule_in app)) app.placed.positions in
-    let alike = c.rewrite-rewrite.ensures in
-    are_edits app prepared _ c.in_ok-added_values.ensures.values c.into_orbits-orbits.ensures.values (same_left _ _ alike) (same_arcs _ _ alike Freed) (same_removed _ _ alike) (same_arcs _ _ alike Made) added
+pub returns-in_err-left_slots : goal.returns-in_err-left_slots
+returns-in_err-left_slots g c =
+    record {
+      edits = unless_ok _ c.from_residual.result c.from_residual.ensures.0;
+      cost = λ reached sum. omega arith;
+      least = omega arith;
+    }
 
-pub returns-in_err-left_slots-clause-edits : goal.returns-in_err-left_slots-clause-edits
-returns-in_err-left_slots-clause-edits g c = unless_ok _ c.from_residual.result c.from_residual.ensures.0
-
-pub returns-in_err-left_slots-clause-cost : goal.returns-in_err-left_slots-clause-cost
-returns-in_err-left_slots-clause-cost g c = λ reached sum. omega arith
-
-pub returns-in_err-left_slots-clause-least : goal.returns-in_err-left_slots-clause-least
-returns-in_err-left_slots-clause-least g c = omega arith
-
-pub added_values-requires-clause-added : goal.added_values-requires-clause-added
-added_values-requires-clause-added g c =
-    let app = c.args.self in
-    ap₂ (λ a b. a * b) (c.added-new_nodes.ensures ∙ ap (λ (a : PendingOf). added_nodes (rule_in a)) c.self.view_is) (c.positions.ensures.value ∙ ap (λ (a : PendingOf). a.placed.positions) c.self.view_is)
-    ∙ mul_comm (added_nodes (rule_in app)) app.placed.positions
-
-pub added_values-requires-clause-given : goal.added_values-requires-clause-given
-added_values-requires-clause-given g c = c.requires.given
-
-pub returns-in_err-added_values-clause-edits : goal.returns-in_err-added_values-clause-edits
-returns-in_err-added_values-clause-edits g c = unless_ok _ c.from_residual-in_err-added_values.result c.from_residual-in_err-added_values.ensures.0
-
-pub returns-in_err-added_values-clause-least : goal.returns-in_err-added_values-clause-least
-returns-in_err-added_values-clause-least g c = c.added_values.ensures.least
-
-pub returns-clause-least : goal.returns-clause-least
-returns-clause-least g c = c.added_values.ensures.least
+pub added_values-requires : goal.added_values-requires
+added_values-requires g c =
+    record {
+      added = let app = c.args.self in
+        ap₂ (λ a b. a * b) (c.added-new_nodes.ensures ∙ ap (λ (a : PendingOf). added_nodes (rule_in a)) c.self.view_is) (c.positions.ensures.value ∙ ap (λ (a : PendingOf). a.placed.positions) c.self.view_is)
+        ∙ mul_comm (added_nodes (rule_in app)) app.placed.positions;
+      given = c.requires.given;
+    }
 
 pub overflow_mul-added : goal.overflow_mul-added
 overflow_mul-added g c = omega (arith, mul-le c.added-new_nodes.result c.positions.result 255 4294967295 (omega arith) (omega arith))

@@ -14,14 +14,13 @@ loop-label-init g c = record {
   least = omega arith;
 }
 
-pub neighbour-to-requires-clause-dart : goal.neighbour-to-requires-clause-dart
-neighbour-to-requires-clause-dart g c = c.requires.darts c.args.from c.requires.from
-
-pub neighbour-to-requires-clause-label : goal.neighbour-to-requires-clause-label
-neighbour-to-requires-clause-label g c = c.requires.prepared.lawful.schema.labels c.args.embed c.in-Some.label c.args.declared.now c.requires.embed (c.loop-label.invariant.followed.3.0 c.in-Some.label c.in-Some.ensures.0 c.in-Some.ensures.1).1
-
-pub neighbour-to-requires-clause-kept : goal.neighbour-to-requires-clause-kept
-neighbour-to-requires-clause-kept g c h = (c.made_labels-made.ensures c.in-Some.label c.in-Some.ensures.0).0 (sym c.has.ensures ∙ h)
+pub neighbour-to-requires : goal.neighbour-to-requires
+neighbour-to-requires g c =
+    record {
+      dart = c.requires.darts c.args.from c.requires.from;
+      label = c.requires.prepared.lawful.schema.labels c.args.embed c.in-Some.label c.args.declared.now c.requires.embed (c.loop-label.invariant.followed.3.0 c.in-Some.label c.in-Some.ensures.0 c.in-Some.ensures.1).1;
+      kept = λ h. (c.made_labels-made.ensures c.in-Some.label c.in-Some.ensures.0).0 (sym c.has.ensures ∙ h);
+    }
 
 pub loop-label-preserved : goal.loop-label-preserved
 loop-label-preserved g c =
@@ -49,41 +48,34 @@ loop-label-preserved g c =
       least = omega (arith, l.invariant.least, to.ensures.least);
     }
 
-pub returns-in_err-mark_beside-clause-darts : goal.returns-in_err-mark_beside-clause-darts
-returns-in_err-mark_beside-clause-darts g c = rw c.in_err-mark_beside.ensures.err c.loop-label.invariant.darts
+pub returns-in_err-mark_beside : goal.returns-in_err-mark_beside
+returns-in_err-mark_beside g c =
+    record {
+      darts = rw c.in_err-mark_beside.ensures.err c.loop-label.invariant.darts;
+      followed = never_ok _ c.from_residual.result c.from_residual.ensures.0;
+      grown = rw c.in_err-mark_beside.ensures.err
+        (followed_some c.args.self.now c.requires.prepared c.args.embed c.args.declared.now c.requires.embed c.args.from c.args.marks.now c.loop-label.marks c.loop-label.invariant.followed.0 c.loop-label.invariant.followed.2);
+      longer = rw c.in_err-mark_beside.ensures.err (stays_longer c.args.marks.now c.loop-label.marks c.loop-label.invariant.kept);
+      cost = let l = c.loop-label in
+        let asked = l.invariant.followed.3.0 c.in-Some.label c.in-Some.ensures.0 c.in-Some.ensures.1 in
+        let within : c.in-Some.label ≤ c.args.self.now.map.schema.dim = c.requires.prepared.lawful.schema.labels c.args.embed c.in-Some.label c.args.declared.now c.requires.embed asked.1 in
+        omega (arith, within, asked.0, l.invariant.followed.4, c.neighbour-to.ensures.cost);
+      least = omega (arith, c.loop-label.invariant.least, c.neighbour-to.ensures.least);
+    }
 
-pub returns-in_err-mark_beside-clause-grown : goal.returns-in_err-mark_beside-clause-grown
-returns-in_err-mark_beside-clause-grown g c = rw c.in_err-mark_beside.ensures.err
-    (followed_some c.args.self.now c.requires.prepared c.args.embed c.args.declared.now c.requires.embed c.args.from c.args.marks.now c.loop-label.marks c.loop-label.invariant.followed.0 c.loop-label.invariant.followed.2)
-
-pub returns-in_err-mark_beside-clause-longer : goal.returns-in_err-mark_beside-clause-longer
-returns-in_err-mark_beside-clause-longer g c = rw c.in_err-mark_beside.ensures.err (stays_longer c.args.marks.now c.loop-label.marks c.loop-label.invariant.kept)
-
-pub returns-in_err-mark_beside-clause-cost : goal.returns-in_err-mark_beside-clause-cost
-returns-in_err-mark_beside-clause-cost g c =
-    let l = c.loop-label in
-    let asked = l.invariant.followed.3.0 c.in-Some.label c.in-Some.ensures.0 c.in-Some.ensures.1 in
-    let within : c.in-Some.label ≤ c.args.self.now.map.schema.dim = c.requires.prepared.lawful.schema.labels c.args.embed c.in-Some.label c.args.declared.now c.requires.embed asked.1 in
-    omega (arith, within, asked.0, l.invariant.followed.4, c.neighbour-to.ensures.cost)
-
-pub returns-clause-followed : goal.returns-clause-followed
-returns-clause-followed g c =
-    let l = c.loop-label in
-    let dim = c.args.self.now.map.schema.dim in
-    followed_up_to c.args.self.now c.requires.prepared c.args.embed c.args.declared.now c.requires.embed c.args.from c.args.marks.now l.marks l.invariant.kept l.asked l.invariant.followed.0 (dim + 1) l.invariant.followed.1
-    (omega (arith, c.requires.prepared.lawful.dim)) l.invariant.followed.2 l.invariant.followed.3 (λ i h. c.in_default.ensures i (omega (arith, h, c.requires.prepared.lawful.dim)))
-
-pub returns-clause-longer : goal.returns-clause-longer
-returns-clause-longer g c = stays_longer c.args.marks.now c.loop-label.marks c.loop-label.invariant.kept
-
-pub returns-clause-darts : goal.returns-clause-darts
-returns-clause-darts g c = c.loop-label.invariant.darts
-
-pub returns-clause-grown : goal.returns-clause-grown
-returns-clause-grown g c = followed_some c.args.self.now c.requires.prepared c.args.embed c.args.declared.now c.requires.embed c.args.from c.args.marks.now c.loop-label.marks c.loop-label.invariant.followed.0 c.loop-label.invariant.followed.2
-
-pub returns-clause-cost : goal.returns-clause-cost
-returns-clause-cost g c = omega (arith, c.loop-label.invariant.followed.1, c.loop-label.invariant.followed.4)
+pub returns : goal.returns
+returns g c =
+    record {
+      darts = c.loop-label.invariant.darts;
+      followed = let l = c.loop-label in
+        let dim = c.args.self.now.map.schema.dim in
+        followed_up_to c.args.self.now c.requires.prepared c.args.embed c.args.declared.now c.requires.embed c.args.from c.args.marks.now l.marks l.invariant.kept l.asked l.invariant.followed.0 (dim + 1) l.invariant.followed.1
+        (omega (arith, c.requires.prepared.lawful.dim)) l.invariant.followed.2 l.invariant.followed.3 (λ i h. c.in_default.ensures i (omega (arith, h, c.requires.prepared.lawful.dim)));
+      grown = followed_some c.args.self.now c.requires.prepared c.args.embed c.args.declared.now c.requires.embed c.args.from c.args.marks.now c.loop-label.marks c.loop-label.invariant.followed.0 c.loop-label.invariant.followed.2;
+      longer = stays_longer c.args.marks.now c.loop-label.marks c.loop-label.invariant.kept;
+      cost = omega (arith, c.loop-label.invariant.followed.1, c.loop-label.invariant.followed.4);
+      least = c.loop-label.invariant.least;
+    }
 
 pub mark_beside-requires : goal.mark_beside-requires
 mark_beside-requires g c =
@@ -92,12 +84,3 @@ mark_beside-requires g c =
 
 pub loop-label-smaller : goal.loop-label-smaller
 loop-label-smaller g c = c.without-asked-in-Some.ensures.fewer c.in-Some.label c.in-Some.ensures.0 refl c.in-Some.ensures.1
-
-pub returns-in_err-mark_beside-clause-followed : goal.returns-in_err-mark_beside-clause-followed
-returns-in_err-mark_beside-clause-followed g c = never_ok _ c.from_residual.result c.from_residual.ensures.0
-
-pub returns-in_err-mark_beside-clause-least : goal.returns-in_err-mark_beside-clause-least
-returns-in_err-mark_beside-clause-least g c = omega (arith, c.loop-label.invariant.least, c.neighbour-to.ensures.least)
-
-pub returns-clause-least : goal.returns-clause-least
-returns-clause-least g c = c.loop-label.invariant.least

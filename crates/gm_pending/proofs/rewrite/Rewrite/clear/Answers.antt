@@ -6,25 +6,27 @@ use Rattle.gm_pending.proofs.Table.{left_alone}
 use Rattle.gm_pending.proofs.Unremoved.{nothing_freed, nothing_removed}
 use Rattle.gm_pending.proofs.rewrite.Rewrite.clear.Goals as goal
 
-pub write-requires-clause-slots : goal.write-requires-clause-slots
-write-requires-clause-slots g c = (left_alone (told_by c.args.self.now) c.args.slots.now c.requires.slots).1
-
-pub write-requires-clause-arcs : goal.write-requires-clause-arcs
-write-requires-clause-arcs g c = rw (left_alone (told_by c.args.self.now) c.args.slots.now c.requires.slots).0 c.requires.freed
+pub write-requires : goal.write-requires
+write-requires g c =
+    record {
+      slots = (left_alone (told_by c.args.self.now) c.args.slots.now c.requires.slots).1;
+      arcs = rw (left_alone (told_by c.args.self.now) c.args.slots.now c.requires.slots).0 c.requires.freed;
+    }
 
 pub remove-requires : goal.remove-requires
 remove-requires g c = rw (c.write.ensures.map, (left_alone (told_by c.args.self.now) c.args.slots.now c.requires.slots).0) c.requires.removed
 
-pub returns-clause-map : goal.returns-clause-map
-returns-clause-map g c =
-    c.remove.ensures.map
-    ∙ ap (λ m. without_darts m (all_removed (told_by c.args.self.now))) (c.write.ensures.map ∙ ap (λ made. with_arcs (end_at c.args.arena.now made) c.args.arena.now (all_arcs (told_by c.args.self.now) Freed)) (left_alone (told_by c.args.self.now) c.args.slots.now c.requires.slots).0)
+pub returns : goal.returns
+returns g c =
+    record {
+      map = c.remove.ensures.map
+        ∙ ap (λ m. without_darts m (all_removed (told_by c.args.self.now))) (c.write.ensures.map ∙ ap (λ made. with_arcs (end_at c.args.arena.now made) c.args.arena.now (all_arcs (told_by c.args.self.now) Freed)) (left_alone (told_by c.args.self.now) c.args.slots.now c.requires.slots).0);
+      cost = omega (arith, c.write.ensures.cost, c.remove.ensures.cost);
+    }
 
-pub returns-clause-cost : goal.returns-clause-cost
-returns-clause-cost g c = omega (arith, c.write.ensures.cost, c.remove.ensures.cost)
-
-pub returns-then-not-self-clause-map : goal.returns-then-not-self-clause-map
-returns-then-not-self-clause-map g c = rw (← c.self.view_is) (rw (nothing_freed _ c.self.invariant c.if-not-self.true, nothing_removed _ c.self.invariant c.if-not-self.true) refl)
-
-pub returns-then-not-self-clause-cost : goal.returns-then-not-self-clause-cost
-returns-then-not-self-clause-cost g c = rw (← c.self.view_is) (rw (nothing_freed _ c.self.invariant c.if-not-self.true, nothing_removed _ c.self.invariant c.if-not-self.true) (omega arith))
+pub returns-then-not-self : goal.returns-then-not-self
+returns-then-not-self g c =
+    record {
+      map = rw (← c.self.view_is) (rw (nothing_freed _ c.self.invariant c.if-not-self.true, nothing_removed _ c.self.invariant c.if-not-self.true) refl);
+      cost = rw (← c.self.view_is) (rw (nothing_freed _ c.self.invariant c.if-not-self.true, nothing_removed _ c.self.invariant c.if-not-self.true) (omega arith));
+    }

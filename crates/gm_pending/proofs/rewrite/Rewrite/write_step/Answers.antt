@@ -7,23 +7,31 @@ use Rattle.gm_pending.proofs.Ends.{no_arcs}
 use Rattle.gm_pending.proofs.StepArcs.{freed_arcs, linked_arcs, turned_arcs, writable_at, all_written}
 use Rattle.gm_pending.proofs.rewrite.Rewrite.write_step.Goals as goal
 
-pub link_nodes-requires-in-Freed-default-clause-arcs : goal.link_nodes-requires-in-Freed-default-clause-arcs
-link_nodes-requires-in-Freed-default-clause-arcs g c =
-    let freed : c.args.arcs ≡ Freed = search rules in
-    let some : c.written_step.result ≢ Absent = search rules in
-    writable_at (told_by c.args.self.now) c.args.node c.args.label c.args.arena.now (made_in (told_by c.args.self.now) c.args.slots.now) _ (λ p. (c.args.node, p)) (freed_arcs (told_by c.args.self.now) c.args.node c.args.label c.args.arcs c.written_step.result freed some c.written_step.ensures) c.requires.arcs
+pub link_nodes-requires-in-Freed-default : goal.link_nodes-requires-in-Freed-default
+link_nodes-requires-in-Freed-default g c =
+    record {
+      slots = c.requires.slots;
+      arcs = let freed : c.args.arcs ≡ Freed = search rules in
+        let some : c.written_step.result ≢ Absent = search rules in
+        writable_at (told_by c.args.self.now) c.args.node c.args.label c.args.arena.now (made_in (told_by c.args.self.now) c.args.slots.now) _ (λ p. (c.args.node, p)) (freed_arcs (told_by c.args.self.now) c.args.node c.args.label c.args.arcs c.written_step.result freed some c.written_step.ensures) c.requires.arcs;
+    }
 
-pub link_nodes-requires-clause-arcs : goal.link_nodes-requires-clause-arcs
-link_nodes-requires-clause-arcs g c = writable_at (told_by c.args.self.now) c.args.node c.args.label c.args.arena.now (made_in (told_by c.args.self.now) c.args.slots.now) _ (λ p. (c.in-Made-Exp.other, p)) (linked_arcs (told_by c.args.self.now) c.args.node c.args.label c.args.arcs c.written_step.result c.in-Made-Exp.other c.in-Made-Exp.is-0 c.in-Made-Exp.is-1 c.written_step.ensures) c.requires.arcs
+pub link_nodes-requires : goal.link_nodes-requires
+link_nodes-requires g c =
+    record {
+      slots = c.requires.slots;
+      arcs = writable_at (told_by c.args.self.now) c.args.node c.args.label c.args.arena.now (made_in (told_by c.args.self.now) c.args.slots.now) _ (λ p. (c.in-Made-Exp.other, p)) (linked_arcs (told_by c.args.self.now) c.args.node c.args.label c.args.arcs c.written_step.result c.in-Made-Exp.other c.in-Made-Exp.is-0 c.in-Made-Exp.is-1 c.written_step.ensures) c.requires.arcs;
+    }
 
 pub link_turns-requires-clause-arcs : goal.link_turns-requires-clause-arcs
 link_turns-requires-clause-arcs g c = writable_at (told_by c.args.self.now) c.args.node c.args.label c.args.arena.now (made_in (told_by c.args.self.now) c.args.slots.now) _ (λ p. (c.args.node, turn_at c.args.self.now.placed p c.in-Made-Imp.place)) (turned_arcs (told_by c.args.self.now) c.args.node c.args.label c.args.arcs c.written_step.result c.in-Made-Imp.place c.in-Made-Imp.is-0 c.in-Made-Imp.is-1 c.written_step.ensures) c.requires.arcs
 
-pub returns-in_default-Absent-clause-map : goal.returns-in_default-Absent-clause-map
-returns-in_default-Absent-clause-map g c = rw (no_arcs (told_by c.args.self.now) c.args.arcs c.args.node c.args.label c.written_step.result c.written_step.ensures c.in_default-Absent.is-1) refl
-
-pub returns-in_default-Absent-clause-cost : goal.returns-in_default-Absent-clause-cost
-returns-in_default-Absent-clause-cost g c = rw (no_arcs (told_by c.args.self.now) c.args.arcs c.args.node c.args.label c.written_step.result c.written_step.ensures c.in_default-Absent.is-1) (omega arith)
+pub returns-in_default-Absent : goal.returns-in_default-Absent
+returns-in_default-Absent g c =
+    record {
+      map = rw (no_arcs (told_by c.args.self.now) c.args.arcs c.args.node c.args.label c.written_step.result c.written_step.ensures c.in_default-Absent.is-1) refl;
+      cost = rw (no_arcs (told_by c.args.self.now) c.args.arcs c.args.node c.args.label c.written_step.result c.written_step.ensures c.in_default-Absent.is-1) (omega arith);
+    }
 
 pub returns-in-Made-Exp : goal.returns-in-Made-Exp
 returns-in-Made-Exp g c =
