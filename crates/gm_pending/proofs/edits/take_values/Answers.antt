@@ -1,4 +1,5 @@
 use Rattle.std.proofs.Common.{List, subst, sym, take, ◌∙◌}
+use borrow.Author.Count.{falls}
 use Rattle.std.proofs.lemmas.List.{take_more}
 use Rattle.gm_pending.specs.declared.changes.ValueAt.{ValueAt}
 use Rattle.gm_pending.specs.Touched.{AreTaken}
@@ -15,3 +16,9 @@ loop-entry-preserved c = record {
       (take_value slots (take c.loop-entry.entry-index c.args.values.now) c.loop-entry.scratch c.take_in.new.self _ (c.loop-entry.invariant.taken slots earlier) c.take_in.ensures);
   bound = same_bound _ _ _ c.take_in.ensures ∙ c.loop-entry.invariant.bound;
 }
+
+pub loop-entry-smaller : goal.loop-entry-smaller
+loop-entry-smaller c = falls _ _ c.loop-entry-test.true
+
+pub bounds-values-entry-index : goal.bounds-values-entry-index
+bounds-values-entry-index c = c.loop-entry-test.true

@@ -1,4 +1,5 @@
 use Rattle.std.proofs.Common.{◌≡◌, ◌<◌, length, refl, arith}
+use borrow.Author.Count.{falls}
 use Rattle.gm_pending.specs.Gathered.{new_number}
 use Rattle.gm_pending.proofs.AddedValues.{none_put, more_put, more_kept}
 use Rattle.gm_pending.proofs.Valued.{keeper_preserved, keeper_source}
@@ -26,3 +27,6 @@ pub returns-clause-values : goal.returns-clause-values
 returns-clause-values g c =
     let whole : c.loop-embed.embed ≡ length c.args.self.now.map.schema.embeds = omega (arith, c.loop-embed-test.false, c.loop-embed.auto.embed-end, c.embeds-embed-end.ensures.embeds) in
     more_kept c.args.self.now (new_number c.args.self.now c.args.node c.args.position) c.loop-embed.embed c.args.values.now.items c.loop-embed.values.items whole c.requires.earlier c.loop-embed.invariant.put
+
+pub loop-embed-smaller : goal.loop-embed-smaller
+loop-embed-smaller g c = falls _ _ c.loop-embed-test.true

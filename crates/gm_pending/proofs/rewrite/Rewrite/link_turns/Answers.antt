@@ -1,4 +1,5 @@
 use Rattle.std.proofs.Common.{◌≡◌, ℕ, ◌<◌, ◌≤◌, List, length, slice_index_or, sym, ap, ◌∙◌, subst, arith}
+use borrow.Author.Count.{falls}
 use Rattle.gm_model.specs.declared.step.Step.TheVariants.{Imp}
 use Rattle.gm_arena.specs.declared.slot.Slot.{Slot}
 use Rattle.gm_plan.specs.Placed.{turn_at}
@@ -47,3 +48,6 @@ returns g c =
     let end : c.loop-position.position ≡ c.args.self.now.placed.positions = omega (arith, c.loop-position-test.false, c.loop-position.auto.position-end, c.positions-position-end.ensures) in
     let written = rw end at c.loop-position.invariant in
     record { map = written.map; cost = written.cost }
+
+pub loop-position-smaller : goal.loop-position-smaller
+loop-position-smaller g c = falls _ _ c.loop-position-test.true
