@@ -1,4 +1,5 @@
-use Rattle.std.proofs.Common.{subst}
+use Rattle.std.proofs.Common.{◌≤◌, IsSome, subst, sym}
+use Rattle.std.specs.FinMap.{get}
 use Rattle.gm_arena.specs.ArenaMap.{IsAt, name_at, alpha}
 use Rattle.gm_pending.specs.Results.{PendingOf, IsPrepared}
 use Rattle.gm_pending.proofs.Darts.{old_kept, unmade_old}
@@ -38,3 +39,19 @@ returns-clause-dart g c =
     let prepared : IsPrepared app = subst IsPrepared c.self.view_is c.self.invariant.0 in
     let at = subst (λ (a : PendingOf). IsAt a.map c.alpha-2.result.at (alpha a.map c.args.label (name_at a.map c.slot-2.result.at))) c.self.view_is c.alpha-2.ensures.neighbour in
     rw c.old-2.ensures ((old_kept app prepared c.slot-2.result.at c.alpha-2.result.at c.args.label (rw c.slot-2.ensures at c.requires.dart) c.requires.label (rw c.slot-2.ensures at c.in_default.ensures) at).1)
+
+pub alpha-requires : goal.alpha-requires
+alpha-requires g c =
+    let dart = rw c.slot.ensures at c.requires.dart in
+    record {
+      live = subst (λ (a : PendingOf). IsSome (get a.map.slots c.slot.result.at)) (sym c.self.view_is) dart.0;
+      label = subst (λ (a : PendingOf). c.args.label ≤ a.map.schema.dim) (sym c.self.view_is) c.requires.label;
+    }
+
+pub alpha-requires-2 : goal.alpha-requires-2
+alpha-requires-2 g c =
+    let dart = rw c.slot-2.ensures at c.requires.dart in
+    record {
+      live = subst (λ (a : PendingOf). IsSome (get a.map.slots c.slot-2.result.at)) (sym c.self.view_is) dart.0;
+      label = subst (λ (a : PendingOf). c.args.label ≤ a.map.schema.dim) (sym c.self.view_is) c.requires.label;
+    }
