@@ -1,5 +1,5 @@
 -- What marking a dart asks of plain numbers, and what is found of a dart.
-use Rattle.std.proofs.Common.{◌≡◌, ℕ, ◌<◌, ◌≤◌, true, List, Option, None, Some, MatchOption, sym, arith}
+use Rattle.std.proofs.Common.{◌≡◌, ℕ, ◌<◌, true, List, Option, None, Some, MatchOption, arith}
 use Rattle.std.specs.Option.{is_some}
 use Rattle.std.proofs.lemmas.Bool.{false≢true}
 use Rattle.gm_walk.specs.declared.mark.Mark.{Mark}

@@ -1,4 +1,4 @@
-use Rattle.std.proofs.Common.{◌≡◌, ℕ, ◌⊎◌, List, [], ◌∷◌, ◌++◌, Option, inl, inr, subst, arith}
+use Rattle.std.proofs.Common.{◌≡◌, ℕ, List, [], ◌∷◌, ◌++◌, Option, inl, inr, subst, arith}
 use Rattle.std.specs.Prelude.{OnOk, OnErr}
 use Rattle.gm_model.proofs.Exits.{never_ok, on_err}
 use Rattle.gm_walk.specs.declared.at.At.{At}

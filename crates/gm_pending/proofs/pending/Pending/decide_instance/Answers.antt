@@ -13,8 +13,8 @@ pub returns-then-is_some : goal.returns-then-is_some
 returns-then-is_some g c =
     record {
       decided = instance_passed c.args.self.now c.requires.prepared c.args.embed c.args.declared.now c.requires.embed c.args.orbits.now.instances.items c.args.orbits.now.marks c.args.node c.args.position c.place-at.result
-        c.requires.earlier (c.requires.assigned, c.requires.position) c.place-at.ensures.dart c.place-at.ensures.name
-        (key_there c.args.orbits.now.marks (key_of c.place-at.result) c.decided_by.result c.decided_by.ensures.instance (sym c.is_some.ensures ∙ c.if-is_some.true));
+          c.requires.earlier (c.requires.assigned, c.requires.position) c.place-at.ensures.dart c.place-at.ensures.name
+          (key_there c.args.orbits.now.marks (key_of c.place-at.result) c.decided_by.result c.decided_by.ensures.instance (sym c.is_some.ensures ∙ c.if-is_some.true));
       darts = c.requires.earlier.darts;
       reached = decided_reached c.args.self.now c.requires.prepared c.args.embed c.args.declared.now c.requires.embed c.args.orbits.now.instances.items c.args.orbits.now.marks c.args.node c.args.position c.requires.earlier;
       cost = omega arith;
@@ -35,20 +35,20 @@ pub returns : goal.returns
 returns g c =
     record {
       decided = let app = c.args.self.now in
-        let marks = c.args.orbits.now.marks in
-        let instances = c.args.orbits.now.instances.items in
-        on_ok c.reach.result c.reach.ensures.spread (λ spread. rw c.in_ok-index.ensures.added
-        (instance_decides app c.requires.prepared c.args.embed c.args.declared.now c.requires.embed instances marks c.args.node c.args.position c.place-at.result
-        c.requires.earlier (c.requires.assigned, c.requires.position) c.place-at.ensures.dart c.place-at.ensures.name c.reach.new.marks
-        (key_absent marks (key_of c.place-at.result) c.decided_by.result c.decided_by.ensures.instance (sym c.is_some.ensures ∙ c.if-is_some.false))
-        c.reach.ensures.darts c.in_ok-index.ensures.few
-        (λ result unfolded. subst (λ k. IsSpreadTo app c.args.declared.now result marks c.reach.new.marks k (name_of app c.place-at.result) (length c.reach.new.marks) 0) c.in_ok-index.ensures.index (spread result unfolded (c.requires.earlier.walked result unfolded).closed))));
+          let marks = c.args.orbits.now.marks in
+          let instances = c.args.orbits.now.instances.items in
+          on_ok c.reach.result c.reach.ensures.spread (λ spread. rw c.in_ok-index.ensures.added
+          (instance_decides app c.requires.prepared c.args.embed c.args.declared.now c.requires.embed instances marks c.args.node c.args.position c.place-at.result
+          c.requires.earlier (c.requires.assigned, c.requires.position) c.place-at.ensures.dart c.place-at.ensures.name c.reach.new.marks
+          (key_absent marks (key_of c.place-at.result) c.decided_by.result c.decided_by.ensures.instance (sym c.is_some.ensures ∙ c.if-is_some.false))
+          c.reach.ensures.darts c.in_ok-index.ensures.few
+          (λ result unfolded. subst (λ k. IsSpreadTo app c.args.declared.now result marks c.reach.new.marks k (name_of app c.place-at.result) (length c.reach.new.marks) 0) c.in_ok-index.ensures.index (spread result unfolded (c.requires.earlier.walked result unfolded).closed))));
       darts = c.reach.ensures.darts;
       reached = let app = c.args.self.now in
-        some_grown app c.requires.prepared c.args.embed c.args.declared.now c.requires.embed c.args.orbits.now.marks c.reach.new.marks c.in_ok-index.index c.args.node c.args.position c.place-at.result
-        (c.requires.assigned, c.requires.position) c.place-at.ensures.dart c.place-at.ensures.name c.reach.ensures.darts
-        (decided_reached app c.requires.prepared c.args.embed c.args.declared.now c.requires.embed c.args.orbits.now.instances.items c.args.orbits.now.marks c.args.node c.args.position c.requires.earlier)
-        (λ result unfolded. c.reach.ensures.grown result unfolded (c.requires.earlier.walked result unfolded).closed);
+          some_grown app c.requires.prepared c.args.embed c.args.declared.now c.requires.embed c.args.orbits.now.marks c.reach.new.marks c.in_ok-index.index c.args.node c.args.position c.place-at.result
+          (c.requires.assigned, c.requires.position) c.place-at.ensures.dart c.place-at.ensures.name c.reach.ensures.darts
+          (decided_reached app c.requires.prepared c.args.embed c.args.declared.now c.requires.embed c.args.orbits.now.instances.items c.args.orbits.now.marks c.args.node c.args.position c.requires.earlier)
+          (λ result unfolded. c.reach.ensures.grown result unfolded (c.requires.earlier.walked result unfolded).closed);
       cost = c.reach.ensures.cost;
       least = c.reach.ensures.least;
     }

@@ -18,10 +18,10 @@ pub returns : goal.returns
 returns g c =
     record {
       decided = let app = c.args.self.now in
-        let orbits = c.loop-position.orbits in
-        let end : c.loop-position.position ≡ app.placed.positions = omega (arith, c.loop-position.auto.position-end, c.loop-position-test.false, c.positions-position-end.ensures.positions) in
-        node_decided app c.positions-position-end.ensures.prepared c.args.embed c.args.declared.now c.requires.embed orbits.instances.items orbits.marks c.args.node
-        (subst (λ p. IsDecidedUpTo app c.args.embed c.args.declared.now orbits.instances.items orbits.marks c.args.node p) end c.loop-position.invariant.decided);
+          let orbits = c.loop-position.orbits in
+          let end : c.loop-position.position ≡ app.placed.positions = omega (arith, c.loop-position.auto.position-end, c.loop-position-test.false, c.positions-position-end.ensures.positions) in
+          node_decided app c.positions-position-end.ensures.prepared c.args.embed c.args.declared.now c.requires.embed orbits.instances.items orbits.marks c.args.node
+          (subst (λ p. IsDecidedUpTo app c.args.embed c.args.declared.now orbits.instances.items orbits.marks c.args.node p) end c.loop-position.invariant.decided);
       darts = c.loop-position.invariant.decided.darts;
       reached = decided_reached c.args.self.now c.positions-position-end.ensures.prepared c.args.embed c.args.declared.now c.requires.embed c.loop-position.orbits.instances.items c.loop-position.orbits.marks c.args.node c.loop-position.position c.loop-position.invariant.decided;
       cost = c.loop-position.invariant.cost;
@@ -57,11 +57,11 @@ decide_orbit-requires g c =
       embed = c.requires.embed;
       assigned = c.requires.assigned;
       orbit = let app = c.args.self.now in
-        let prepared : IsPrepared app = subst IsPrepared c.self.view_is c.self.invariant.0 in
-        let by_plan = subst (λ (s : Schema). (embed : Embed) → IsEmbedAt s c.args.embed embed → HasExactLetters s.dim (rule_of c.self.inside.plan.now.table) (type_of embed) c.args.node) (sym c.self.invariant.1) (c.is_exact.ensures c.if-is_exact.true) in
-        let exact = subst (λ (a : PendingOf). (embed : Embed) → IsEmbedAt a.map.schema c.args.embed embed → HasExactLetters a.map.schema.dim (rule_in a) (type_of embed) c.args.node) c.self.view_is by_plan c.args.declared.now c.requires.embed in
-        let wide = prepared.planned.accepted.incidence.structured.widths c.args.node (word_below (rule_in app) Right c.args.node exact.right) Right exact.right in
-        is_one_orbit app prepared c.args.node exact.right c.args.embed c.args.declared.now c.requires.embed (λ m b. exact.among m (omega (arith, b, wide))) exact.each;
+          let prepared : IsPrepared app = subst IsPrepared c.self.view_is c.self.invariant.0 in
+          let by_plan = subst (λ (s : Schema). (embed : Embed) → IsEmbedAt s c.args.embed embed → HasExactLetters s.dim (rule_of c.self.inside.plan.now.table) (type_of embed) c.args.node) (sym c.self.invariant.1) (c.is_exact.ensures c.if-is_exact.true) in
+          let exact = subst (λ (a : PendingOf). (embed : Embed) → IsEmbedAt a.map.schema c.args.embed embed → HasExactLetters a.map.schema.dim (rule_in a) (type_of embed) c.args.node) c.self.view_is by_plan c.args.declared.now c.requires.embed in
+          let wide = prepared.planned.accepted.incidence.structured.widths c.args.node (word_below (rule_in app) Right c.args.node exact.right) Right exact.right in
+          is_one_orbit app prepared c.args.node exact.right c.args.embed c.args.declared.now c.requires.embed (λ m b. exact.among m (omega (arith, b, wide))) exact.each;
       earlier = c.requires.earlier;
     }
 

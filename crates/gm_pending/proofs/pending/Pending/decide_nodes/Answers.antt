@@ -27,7 +27,7 @@ pub returns : goal.returns
 returns g c =
     record {
       decided = let end : c.loop-node.node ≡ length (rule_in c.args.self.now).nodes = omega (arith, c.loop-node-test.false, c.loop-node.auto.node-end, c.nodes-nodes.ensures.nodes) in
-        subst (λ n. IsDecidedUpTo c.args.self.now c.args.embed c.args.declared.now c.loop-node.orbits.instances.items c.loop-node.orbits.marks n 0) end c.loop-node.invariant.decided;
+          subst (λ n. IsDecidedUpTo c.args.self.now c.args.embed c.args.declared.now c.loop-node.orbits.instances.items c.loop-node.orbits.marks n 0) end c.loop-node.invariant.decided;
       darts = c.loop-node.invariant.decided.darts;
       reached = decided_reached c.args.self.now c.nodes-nodes.ensures.prepared c.args.embed c.args.declared.now c.requires.embed c.loop-node.orbits.instances.items c.loop-node.orbits.marks c.loop-node.node 0 c.loop-node.invariant.decided;
       cost = c.loop-node.invariant.cost;

@@ -17,7 +17,7 @@ returns-in_err-orbits g c =
       count = unless_ok _ c.from_residual-in_err-orbits.result c.from_residual-in_err-orbits.ensures.0;
       err = on_err c.from_residual-in_err-orbits.result (c.in_ok-look_up.ensures ∙ c.take_room-room.ensures.stays);
       cost = λ kept at. subst (λ (a : PendingOf). IsWithinReach a c.args.embed kept c.args.steps.now c.decide.new.steps) (c.in_ok-look_up.ensures ∙ c.take_room-room.ensures.stays)
-        (c.decide.ensures.cost kept (subst (λ (a : PendingOf). IsEmbedAt a.map.schema c.args.embed kept) (sym (c.in_ok-look_up.ensures ∙ c.take_room-room.ensures.stays)) at));
+          (c.decide.ensures.cost kept (subst (λ (a : PendingOf). IsEmbedAt a.map.schema c.args.embed kept) (sym (c.in_ok-look_up.ensures ∙ c.take_room-room.ensures.stays)) at));
       least = c.decide.ensures.least;
     }
 
@@ -25,34 +25,34 @@ pub returns : goal.returns
 returns g c =
     record {
       asked = let s = c.self.inside in
-        let orbits = c.in_ok-orbits.orbits in
-        let within = subst (λ (a : PendingOf). c.args.embed < length a.map.schema.embeds) (sym (c.in_ok-look_up.ensures ∙ c.take_room-room.ensures.stays)) c.requires.embed in
-        let good = good_if_ungiven orbits.instances.items c.in_ok-orbits.ensures.ungiven in
-        rw (← (c.in_ok-look_up.ensures ∙ c.take_room-room.ensures.stays)) (kept_asked s.arena.now s.plan.now.table s.found.now s.orbits.items c.args.embed orbits c.look_up.new.self c.self.view_is c.self.invariant.0 c.self.invariant.2 within (set s.orbits.items c.args.embed (Some orbits)) refl c.in_ok-orbits.ensures.deciders c.in_ok-orbits.ensures.reached (λ x p embed v at given. good x p embed v given));
+          let orbits = c.in_ok-orbits.orbits in
+          let within = subst (λ (a : PendingOf). c.args.embed < length a.map.schema.embeds) (sym (c.in_ok-look_up.ensures ∙ c.take_room-room.ensures.stays)) c.requires.embed in
+          let good = good_if_ungiven orbits.instances.items c.in_ok-orbits.ensures.ungiven in
+          rw (← (c.in_ok-look_up.ensures ∙ c.take_room-room.ensures.stays)) (kept_asked s.arena.now s.plan.now.table s.found.now s.orbits.items c.args.embed orbits c.look_up.new.self c.self.view_is c.self.invariant.0 c.self.invariant.2 within (set s.orbits.items c.args.embed (Some orbits)) refl c.in_ok-orbits.ensures.deciders c.in_ok-orbits.ensures.reached (λ x p embed v at given. good x p embed v given));
       deciders = λ kept at.
-        let s = c.self.inside in
-        let orbits = c.in_ok-orbits.orbits in
-        let within = subst (λ (a : PendingOf). c.args.embed < length a.map.schema.embeds) (sym (c.in_ok-look_up.ensures ∙ c.take_room-room.ensures.stays)) c.requires.embed in
-        let good = good_if_ungiven orbits.instances.items c.in_ok-orbits.ensures.ungiven in
-        let here = kept_deciders s.arena.now s.plan.now.table s.found.now s.orbits.items c.args.embed orbits c.look_up.new.self c.self.view_is c.self.invariant.0 c.self.invariant.2 within (set s.orbits.items c.args.embed (Some orbits)) refl c.in_ok-orbits.ensures.deciders c.in_ok-orbits.ensures.reached (λ x p embed v at' given. good x p embed v given) in
-        subst (AreDecidingInstances c.args.self.now c.args.embed kept) (sym here)
-        (subst (λ (a : PendingOf). AreDecidingInstances a c.args.embed kept orbits.instances.items) (c.in_ok-look_up.ensures ∙ c.take_room-room.ensures.stays) (c.in_ok-orbits.ensures.deciders kept (subst (λ (a : PendingOf). IsEmbedAt a.map.schema c.args.embed kept) (sym (c.in_ok-look_up.ensures ∙ c.take_room-room.ensures.stays)) at)));
+          let s = c.self.inside in
+          let orbits = c.in_ok-orbits.orbits in
+          let within = subst (λ (a : PendingOf). c.args.embed < length a.map.schema.embeds) (sym (c.in_ok-look_up.ensures ∙ c.take_room-room.ensures.stays)) c.requires.embed in
+          let good = good_if_ungiven orbits.instances.items c.in_ok-orbits.ensures.ungiven in
+          let here = kept_deciders s.arena.now s.plan.now.table s.found.now s.orbits.items c.args.embed orbits c.look_up.new.self c.self.view_is c.self.invariant.0 c.self.invariant.2 within (set s.orbits.items c.args.embed (Some orbits)) refl c.in_ok-orbits.ensures.deciders c.in_ok-orbits.ensures.reached (λ x p embed v at' given. good x p embed v given) in
+          subst (AreDecidingInstances c.args.self.now c.args.embed kept) (sym here)
+          (subst (λ (a : PendingOf). AreDecidingInstances a c.args.embed kept orbits.instances.items) (c.in_ok-look_up.ensures ∙ c.take_room-room.ensures.stays) (c.in_ok-orbits.ensures.deciders kept (subst (λ (a : PendingOf). IsEmbedAt a.map.schema c.args.embed kept) (sym (c.in_ok-look_up.ensures ∙ c.take_room-room.ensures.stays)) at)));
       ungiven = λ instance among.
-        let s = c.self.inside in
-        let orbits = c.in_ok-orbits.orbits in
-        let within = subst (λ (a : PendingOf). c.args.embed < length a.map.schema.embeds) (sym (c.in_ok-look_up.ensures ∙ c.take_room-room.ensures.stays)) c.requires.embed in
-        let good = good_if_ungiven orbits.instances.items c.in_ok-orbits.ensures.ungiven in
-        let here = kept_deciders s.arena.now s.plan.now.table s.found.now s.orbits.items c.args.embed orbits c.look_up.new.self c.self.view_is c.self.invariant.0 c.self.invariant.2 within (set s.orbits.items c.args.embed (Some orbits)) refl c.in_ok-orbits.ensures.deciders c.in_ok-orbits.ensures.reached (λ x p embed v at given. good x p embed v given) in
-        c.in_ok-orbits.ensures.ungiven instance (subst (λ ds. Contains ds instance) here among);
+          let s = c.self.inside in
+          let orbits = c.in_ok-orbits.orbits in
+          let within = subst (λ (a : PendingOf). c.args.embed < length a.map.schema.embeds) (sym (c.in_ok-look_up.ensures ∙ c.take_room-room.ensures.stays)) c.requires.embed in
+          let good = good_if_ungiven orbits.instances.items c.in_ok-orbits.ensures.ungiven in
+          let here = kept_deciders s.arena.now s.plan.now.table s.found.now s.orbits.items c.args.embed orbits c.look_up.new.self c.self.view_is c.self.invariant.0 c.self.invariant.2 within (set s.orbits.items c.args.embed (Some orbits)) refl c.in_ok-orbits.ensures.deciders c.in_ok-orbits.ensures.reached (λ x p embed v at given. good x p embed v given) in
+          c.in_ok-orbits.ensures.ungiven instance (subst (λ ds. Contains ds instance) here among);
       count = let s = c.self.inside in
-        let orbits = c.in_ok-orbits.orbits in
-        let within = subst (λ (a : PendingOf). c.args.embed < length a.map.schema.embeds) (sym (c.in_ok-look_up.ensures ∙ c.take_room-room.ensures.stays)) c.requires.embed in
-        let good = good_if_ungiven orbits.instances.items c.in_ok-orbits.ensures.ungiven in
-        let here = kept_deciders s.arena.now s.plan.now.table s.found.now s.orbits.items c.args.embed orbits c.look_up.new.self c.self.view_is c.self.invariant.0 c.self.invariant.2 within (set s.orbits.items c.args.embed (Some orbits)) refl c.in_ok-orbits.ensures.deciders c.in_ok-orbits.ensures.reached (λ x p embed v at given. good x p embed v given) in
-        omega (arith, c.len-count.ensures, c.in_ok-orbits.ensures.few, ap (λ (ds : List DecidingInstance). length ds) here);
+          let orbits = c.in_ok-orbits.orbits in
+          let within = subst (λ (a : PendingOf). c.args.embed < length a.map.schema.embeds) (sym (c.in_ok-look_up.ensures ∙ c.take_room-room.ensures.stays)) c.requires.embed in
+          let good = good_if_ungiven orbits.instances.items c.in_ok-orbits.ensures.ungiven in
+          let here = kept_deciders s.arena.now s.plan.now.table s.found.now s.orbits.items c.args.embed orbits c.look_up.new.self c.self.view_is c.self.invariant.0 c.self.invariant.2 within (set s.orbits.items c.args.embed (Some orbits)) refl c.in_ok-orbits.ensures.deciders c.in_ok-orbits.ensures.reached (λ x p embed v at given. good x p embed v given) in
+          omega (arith, c.len-count.ensures, c.in_ok-orbits.ensures.few, ap (λ (ds : List DecidingInstance). length ds) here);
       err = tt;
       cost = λ kept at. subst (λ (a : PendingOf). IsWithinReach a c.args.embed kept c.args.steps.now c.decide.new.steps) (c.in_ok-look_up.ensures ∙ c.take_room-room.ensures.stays)
-        (c.decide.ensures.cost kept (subst (λ (a : PendingOf). IsEmbedAt a.map.schema c.args.embed kept) (sym (c.in_ok-look_up.ensures ∙ c.take_room-room.ensures.stays)) at));
+          (c.decide.ensures.cost kept (subst (λ (a : PendingOf). IsEmbedAt a.map.schema c.args.embed kept) (sym (c.in_ok-look_up.ensures ∙ c.take_room-room.ensures.stays)) at));
       least = c.decide.ensures.least;
     }
 

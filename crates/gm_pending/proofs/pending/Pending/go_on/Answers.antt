@@ -44,7 +44,7 @@ pub returns-then-is_new : goal.returns-then-is_new
 returns-then-is_new g c =
     record {
       on = gone_on c.args.self.now c.requires.prepared c.args.index c.args.label c.args.start c.args.at c.neighbour-to.result c.args.marks.now c.mark_on.new.self c.requires.darts c.requires.dart c.neighbour-to.ensures.dart c.neighbour-to.ensures.arc c.in_ok-is_new.ensures.ok
-        c.requires.from (c.in_ok-is_new.ensures.new.0 c.if-is_new.true);
+          c.requires.from (c.in_ok-is_new.ensures.new.0 c.if-is_new.true);
       darts = marked_darts c.args.self.now c.requires.prepared c.args.marks.now c.mark_on.new.self c.neighbour-to.result c.args.index None c.in_ok-is_new.ensures.ok c.neighbour-to.ensures.dart c.requires.darts;
       begun = key_kept c.args.marks.now c.mark_on.new.self c.neighbour-to.result c.args.index None (key_of c.args.start) c.in_ok-is_new.ensures.ok c.requires.begun;
       err = tt;
@@ -60,7 +60,7 @@ pub returns-else-is_new : goal.returns-else-is_new
 returns-else-is_new g c =
     record {
       on = gone_out c.args.self.now c.requires.prepared c.args.index c.args.label c.args.start c.args.at c.neighbour-to.result c.args.marks.now c.mark_on.new.self c.requires.darts c.requires.dart c.neighbour-to.ensures.dart c.neighbour-to.ensures.arc c.in_ok-is_new.ensures.ok
-        c.in_ok-is_new.ensures.distinct (λ absent. false≢true (sym c.if-is_new.false ∙ c.in_ok-is_new.ensures.new.1 absent));
+          c.in_ok-is_new.ensures.distinct (λ absent. false≢true (sym c.if-is_new.false ∙ c.in_ok-is_new.ensures.new.1 absent));
       darts = marked_darts c.args.self.now c.requires.prepared c.args.marks.now c.mark_on.new.self c.neighbour-to.result c.args.index None c.in_ok-is_new.ensures.ok c.neighbour-to.ensures.dart c.requires.darts;
       begun = key_kept c.args.marks.now c.mark_on.new.self c.neighbour-to.result c.args.index None (key_of c.args.start) c.in_ok-is_new.ensures.ok c.requires.begun;
       err = tt;

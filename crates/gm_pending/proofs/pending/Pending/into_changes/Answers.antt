@@ -23,13 +23,13 @@ returns-in_err-added_values g c =
     record {
       edits = unless_ok _ c.from_residual-in_err-added_values.result c.from_residual-in_err-added_values.ensures.0;
       cost = let app = c.args.self in
-        let prepared : IsPrepared app = subst IsPrepared c.self.view_is c.self.invariant.0 in
-        let added : c.added-new_nodes.result * c.positions.result ≡ app.placed.positions * added_nodes (rule_in app) =
-        ap₂ (λ a b. a * b) (c.added-new_nodes.ensures ∙ ap (λ (a : PendingOf). added_nodes (rule_in a)) c.self.view_is) (c.positions.ensures.value ∙ ap (λ (a : PendingOf). a.placed.positions) c.self.view_is)
-        ∙ mul_comm (added_nodes (rule_in app)) app.placed.positions in
-        λ reached sum.
-        few_reads c.args.steps.now c.added_values.new.steps app.map.schema.dim (length app.map.schema.embeds) (added_nodes (rule_in app)) (length (rule_in app).nodes) app.placed.positions (c.added-new_nodes.result * c.positions.result) reached
-        prepared.lawful.dim.0 prepared.lawful.schema.count (few_added app prepared (length (rule_in app).nodes)) added (omega (arith, c.added_values.ensures.cost));
+          let prepared : IsPrepared app = subst IsPrepared c.self.view_is c.self.invariant.0 in
+          let added : c.added-new_nodes.result * c.positions.result ≡ app.placed.positions * added_nodes (rule_in app) =
+          ap₂ (λ a b. a * b) (c.added-new_nodes.ensures ∙ ap (λ (a : PendingOf). added_nodes (rule_in a)) c.self.view_is) (c.positions.ensures.value ∙ ap (λ (a : PendingOf). a.placed.positions) c.self.view_is)
+          ∙ mul_comm (added_nodes (rule_in app)) app.placed.positions in
+          λ reached sum.
+          few_reads c.args.steps.now c.added_values.new.steps app.map.schema.dim (length app.map.schema.embeds) (added_nodes (rule_in app)) (length (rule_in app).nodes) app.placed.positions (c.added-new_nodes.result * c.positions.result) reached
+          prepared.lawful.dim.0 prepared.lawful.schema.count (few_added app prepared (length (rule_in app).nodes)) added (omega (arith, c.added_values.ensures.cost));
       least = c.added_values.ensures.least;
     }
 
@@ -37,20 +37,20 @@ pub returns : goal.returns
 returns g c =
     record {
       edits = let app = c.args.self in
-        let prepared : IsPrepared app = subst IsPrepared c.self.view_is c.self.invariant.0 in
-        let added : c.added-new_nodes.result * c.positions.result ≡ app.placed.positions * added_nodes (rule_in app) =
-        ap₂ (λ a b. a * b) (c.added-new_nodes.ensures ∙ ap (λ (a : PendingOf). added_nodes (rule_in a)) c.self.view_is) (c.positions.ensures.value ∙ ap (λ (a : PendingOf). a.placed.positions) c.self.view_is)
-        ∙ mul_comm (added_nodes (rule_in app)) app.placed.positions in
-        let alike = c.rewrite-rewrite.ensures in
-        are_edits app prepared _ c.in_ok-added_values.ensures.values c.into_orbits-orbits.ensures.values (same_left _ _ alike) (same_arcs _ _ alike Freed) (same_removed _ _ alike) (same_arcs _ _ alike Made) added;
+          let prepared : IsPrepared app = subst IsPrepared c.self.view_is c.self.invariant.0 in
+          let added : c.added-new_nodes.result * c.positions.result ≡ app.placed.positions * added_nodes (rule_in app) =
+          ap₂ (λ a b. a * b) (c.added-new_nodes.ensures ∙ ap (λ (a : PendingOf). added_nodes (rule_in a)) c.self.view_is) (c.positions.ensures.value ∙ ap (λ (a : PendingOf). a.placed.positions) c.self.view_is)
+          ∙ mul_comm (added_nodes (rule_in app)) app.placed.positions in
+          let alike = c.rewrite-rewrite.ensures in
+          are_edits app prepared _ c.in_ok-added_values.ensures.values c.into_orbits-orbits.ensures.values (same_left _ _ alike) (same_arcs _ _ alike Freed) (same_removed _ _ alike) (same_arcs _ _ alike Made) added;
       cost = let app = c.args.self in
-        let prepared : IsPrepared app = subst IsPrepared c.self.view_is c.self.invariant.0 in
-        let added : c.added-new_nodes.result * c.positions.result ≡ app.placed.positions * added_nodes (rule_in app) =
-        ap₂ (λ a b. a * b) (c.added-new_nodes.ensures ∙ ap (λ (a : PendingOf). added_nodes (rule_in a)) c.self.view_is) (c.positions.ensures.value ∙ ap (λ (a : PendingOf). a.placed.positions) c.self.view_is)
-        ∙ mul_comm (added_nodes (rule_in app)) app.placed.positions in
-        λ reached sum.
-        few_reads c.args.steps.now c.added_values.new.steps app.map.schema.dim (length app.map.schema.embeds) (added_nodes (rule_in app)) (length (rule_in app).nodes) app.placed.positions (c.added-new_nodes.result * c.positions.result) reached
-        prepared.lawful.dim.0 prepared.lawful.schema.count (few_added app prepared (length (rule_in app).nodes)) added (omega (arith, c.added_values.ensures.cost));
+          let prepared : IsPrepared app = subst IsPrepared c.self.view_is c.self.invariant.0 in
+          let added : c.added-new_nodes.result * c.positions.result ≡ app.placed.positions * added_nodes (rule_in app) =
+          ap₂ (λ a b. a * b) (c.added-new_nodes.ensures ∙ ap (λ (a : PendingOf). added_nodes (rule_in a)) c.self.view_is) (c.positions.ensures.value ∙ ap (λ (a : PendingOf). a.placed.positions) c.self.view_is)
+          ∙ mul_comm (added_nodes (rule_in app)) app.placed.positions in
+          λ reached sum.
+          few_reads c.args.steps.now c.added_values.new.steps app.map.schema.dim (length app.map.schema.embeds) (added_nodes (rule_in app)) (length (rule_in app).nodes) app.placed.positions (c.added-new_nodes.result * c.positions.result) reached
+          prepared.lawful.dim.0 prepared.lawful.schema.count (few_added app prepared (length (rule_in app).nodes)) added (omega (arith, c.added_values.ensures.cost));
       least = c.added_values.ensures.least;
     }
 
@@ -66,8 +66,8 @@ pub added_values-requires : goal.added_values-requires
 added_values-requires g c =
     record {
       added = let app = c.args.self in
-        ap₂ (λ a b. a * b) (c.added-new_nodes.ensures ∙ ap (λ (a : PendingOf). added_nodes (rule_in a)) c.self.view_is) (c.positions.ensures.value ∙ ap (λ (a : PendingOf). a.placed.positions) c.self.view_is)
-        ∙ mul_comm (added_nodes (rule_in app)) app.placed.positions;
+          ap₂ (λ a b. a * b) (c.added-new_nodes.ensures ∙ ap (λ (a : PendingOf). added_nodes (rule_in a)) c.self.view_is) (c.positions.ensures.value ∙ ap (λ (a : PendingOf). a.placed.positions) c.self.view_is)
+          ∙ mul_comm (added_nodes (rule_in app)) app.placed.positions;
       given = c.requires.given;
     }
 

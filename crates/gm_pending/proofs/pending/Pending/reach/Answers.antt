@@ -41,7 +41,7 @@ returns-in_err-mark_first g c =
       darts = rw c.in_err-mark_first.ensures.err c.requires.darts;
       spread = never_ok _ c.from_residual.result c.from_residual.ensures.0;
       grown = λ result unfolded closed. rw c.in_err-mark_first.ensures.err
-        (nothing_grown c.args.self.now c.requires.prepared c.args.embed c.args.declared.now c.requires.embed result unfolded c.args.marks.now c.args.index (name_of c.args.self.now c.args.at));
+          (nothing_grown c.args.self.now c.requires.prepared c.args.embed c.args.declared.now c.requires.embed result unfolded c.args.marks.now c.args.index (name_of c.args.self.now c.args.at));
       cost = rw c.in_err-mark_first.ensures.err (le_refl _);
       least = le_refl _;
     }
@@ -68,10 +68,10 @@ returns-in_err-spread g c =
       darts = c.spread.ensures.darts;
       spread = never_ok _ c.from_residual-in_err-spread.result c.from_residual-in_err-spread.ensures.0;
       grown = let l = c.loop-next in
-        λ result unfolded closed. walked_some c.args.self.now c.requires.prepared c.args.embed c.args.declared.now c.requires.embed c.args.marks.now l.marks c.spread.new.marks c.args.index (name_of c.args.self.now c.args.at) l.next
-        _ l.invariant.late (slice_get_read l.marks _ l.next c.index-as_slice-next.result c.len.ensures.len c.loop-next-test.true (c.index-as_slice-next.is ∙ ap (λ (marks : List Mark). get_or marks l.next c.index-as_slice-next.result) c.as_slice.ensures.reached)) result unfolded (l.invariant.spread result unfolded closed) c.spread.ensures.grown;
+          λ result unfolded closed. walked_some c.args.self.now c.requires.prepared c.args.embed c.args.declared.now c.requires.embed c.args.marks.now l.marks c.spread.new.marks c.args.index (name_of c.args.self.now c.args.at) l.next
+          _ l.invariant.late (slice_get_read l.marks _ l.next c.index-as_slice-next.result c.len.ensures.len c.loop-next-test.true (c.index-as_slice-next.is ∙ ap (λ (marks : List Mark). get_or marks l.next c.index-as_slice-next.result) c.as_slice.ensures.reached)) result unfolded (l.invariant.spread result unfolded closed) c.spread.ensures.grown;
       cost = let within : c.loop-next.next < length c.loop-next.marks = below_long _ _ _ c.loop-next-test.true c.len.ensures.len in
-        walked_cost c.args.self.now.map.schema.dim c.loop-next.next (length c.spread.new.marks) (length c.args.marks.now) c.args.steps.now c.loop-next.steps c.spread.new.steps (behind _ _ _ within c.spread.ensures.longer) c.loop-next.invariant.cost c.spread.ensures.cost;
+          walked_cost c.args.self.now.map.schema.dim c.loop-next.next (length c.spread.new.marks) (length c.args.marks.now) c.args.steps.now c.loop-next.steps c.spread.new.steps (behind _ _ _ within c.spread.ensures.longer) c.loop-next.invariant.cost c.spread.ensures.cost;
       least = no_less _ _ _ c.loop-next.invariant.least c.spread.ensures.least;
     }
 
@@ -94,12 +94,12 @@ returns g c =
     record {
       darts = c.loop-next.invariant.darts;
       spread = let l = c.loop-next in
-        let end : l.next ≡ length l.marks = at_end _ _ _ l.invariant.within c.loop-next-test.false c.len.ensures.len in
-        λ result unfolded closed. subst (λ n. IsSpreadTo c.args.self.now c.args.declared.now result c.args.marks.now l.marks c.args.index (name_of c.args.self.now c.args.at) n 0) end (l.invariant.spread result unfolded closed);
+          let end : l.next ≡ length l.marks = at_end _ _ _ l.invariant.within c.loop-next-test.false c.len.ensures.len in
+          λ result unfolded closed. subst (λ n. IsSpreadTo c.args.self.now c.args.declared.now result c.args.marks.now l.marks c.args.index (name_of c.args.self.now c.args.at) n 0) end (l.invariant.spread result unfolded closed);
       grown = λ result unfolded closed. (c.loop-next.invariant.spread result unfolded closed).grown;
       cost = let l = c.loop-next in
-        let end : l.next ≡ length l.marks = at_end _ _ _ l.invariant.within c.loop-next-test.false c.len.ensures.len in
-        subst (λ n. l.steps + (c.args.self.now.map.schema.dim + 1) * length c.args.marks.now ≤ c.args.steps.now + (c.args.self.now.map.schema.dim + 1) * n) end l.invariant.cost;
+          let end : l.next ≡ length l.marks = at_end _ _ _ l.invariant.within c.loop-next-test.false c.len.ensures.len in
+          subst (λ n. l.steps + (c.args.self.now.map.schema.dim + 1) * length c.args.marks.now ≤ c.args.steps.now + (c.args.self.now.map.schema.dim + 1) * n) end l.invariant.cost;
       least = c.loop-next.invariant.least;
     }
 
@@ -110,7 +110,7 @@ spread-requires g c =
       embed = c.requires.embed;
       darts = c.loop-next.invariant.darts;
       from = let l = c.loop-next in
-        get_contained l.marks l.next _ (slice_get_read l.marks _ l.next c.index-as_slice-next.result c.len.ensures.len c.loop-next-test.true (c.index-as_slice-next.is ∙ ap (λ (marks : List Mark). get_or marks l.next c.index-as_slice-next.result) c.as_slice.ensures.reached));
+          get_contained l.marks l.next _ (slice_get_read l.marks _ l.next c.index-as_slice-next.result c.len.ensures.len c.loop-next-test.true (c.index-as_slice-next.is ∙ ap (λ (marks : List Mark). get_or marks l.next c.index-as_slice-next.result) c.as_slice.ensures.reached));
     }
 
 pub overflow_add-next : goal.overflow_add-next
@@ -137,13 +137,13 @@ returns-in_err-follow g c =
       darts = c.follow.ensures.darts;
       spread = never_ok _ c.from_residual-in_err-follow.result c.from_residual-in_err-follow.ensures.0;
       grown = λ result unfolded closed. c.follow.ensures.grown result c.args.marks.now c.in-Some.other unfolded
-        (follow_starts c.args.self.now c.requires.prepared c.args.embed c.args.declared.now c.requires.embed result unfolded c.args.marks.now c.mark_first.new.self c.args.at c.args.index c.in-Some.one c.in-Some.other c.in-Some.ensures closed c.requires.absent c.in_ok-mark_first.ensures.ok);
+          (follow_starts c.args.self.now c.requires.prepared c.args.embed c.args.declared.now c.requires.embed result unfolded c.args.marks.now c.mark_first.new.self c.args.at c.args.index c.in-Some.one c.in-Some.other c.in-Some.ensures closed c.requires.absent c.in_ok-mark_first.ensures.ok);
       cost = let app = c.args.self.now in
-        let labels = c.requires.prepared.lawful.schema.labels in
-        let pair = c.in-Some.ensures in
-        let wide : 1 ≤ app.map.schema.dim = pair_wide app.map.schema.dim c.in-Some.one c.in-Some.other pair.apart (labels c.args.embed c.in-Some.one c.args.declared.now c.requires.embed pair.has_one) (labels c.args.embed c.in-Some.other c.args.declared.now c.requires.embed pair.has_other) in
-        let long : length c.mark_first.new.self ≡ length c.args.marks.now + 1 = one_longer c.args.marks.now c.mark_first.new.self c.args.at c.args.index None c.in_ok-mark_first.ensures.ok c.requires.absent in
-        pair_cost app.map.schema.dim (length c.args.marks.now) (length c.follow.new.marks) c.args.steps.now c.follow.new.steps wide (omega (arith, long, c.follow.ensures.longer)) (omega (arith, long, c.follow.ensures.cost));
+          let labels = c.requires.prepared.lawful.schema.labels in
+          let pair = c.in-Some.ensures in
+          let wide : 1 ≤ app.map.schema.dim = pair_wide app.map.schema.dim c.in-Some.one c.in-Some.other pair.apart (labels c.args.embed c.in-Some.one c.args.declared.now c.requires.embed pair.has_one) (labels c.args.embed c.in-Some.other c.args.declared.now c.requires.embed pair.has_other) in
+          let long : length c.mark_first.new.self ≡ length c.args.marks.now + 1 = one_longer c.args.marks.now c.mark_first.new.self c.args.at c.args.index None c.in_ok-mark_first.ensures.ok c.requires.absent in
+          pair_cost app.map.schema.dim (length c.args.marks.now) (length c.follow.new.marks) c.args.steps.now c.follow.new.steps wide (omega (arith, long, c.follow.ensures.longer)) (omega (arith, long, c.follow.ensures.cost));
       least = c.follow.ensures.least;
     }
 
@@ -152,29 +152,29 @@ returns-in-Some g c =
     record {
       darts = c.follow-in-Some.ensures.darts;
       spread = let app = c.args.self.now in
-        let prepared = c.requires.prepared in
-        let dim = app.map.schema.dim in
-        let d = name_of app c.args.at in
-        let one = c.in-Some.one in
-        let other = c.in-Some.other in
-        on_ok c.follow-in-Some.result c.follow-in-Some.ensures.followed (λ followed result unfolded closed.
-        let first = c.in_ok-follow.ensures.followed result c.args.marks.now other unfolded (follow_starts app prepared c.args.embed c.args.declared.now c.requires.embed result unfolded c.args.marks.now c.mark_first.new.self c.args.at c.args.index one other c.in-Some.ensures closed c.requires.absent c.in_ok-mark_first.ensures.ok) in
-        let second = followed result c.args.marks.now (dim + 1) unfolded (follow_other app prepared c.args.embed c.args.declared.now c.requires.embed result unfolded c.args.marks.now c.follow.new.marks c.args.index d other (dim + 1) first) in
-        follow_spreads app prepared c.args.embed c.args.declared.now c.requires.embed result unfolded c.args.marks.now c.follow-in-Some.new.marks c.args.index d second);
+          let prepared = c.requires.prepared in
+          let dim = app.map.schema.dim in
+          let d = name_of app c.args.at in
+          let one = c.in-Some.one in
+          let other = c.in-Some.other in
+          on_ok c.follow-in-Some.result c.follow-in-Some.ensures.followed (λ followed result unfolded closed.
+          let first = c.in_ok-follow.ensures.followed result c.args.marks.now other unfolded (follow_starts app prepared c.args.embed c.args.declared.now c.requires.embed result unfolded c.args.marks.now c.mark_first.new.self c.args.at c.args.index one other c.in-Some.ensures closed c.requires.absent c.in_ok-mark_first.ensures.ok) in
+          let second = followed result c.args.marks.now (dim + 1) unfolded (follow_other app prepared c.args.embed c.args.declared.now c.requires.embed result unfolded c.args.marks.now c.follow.new.marks c.args.index d other (dim + 1) first) in
+          follow_spreads app prepared c.args.embed c.args.declared.now c.requires.embed result unfolded c.args.marks.now c.follow-in-Some.new.marks c.args.index d second);
       grown = λ result unfolded closed.
-        let app = c.args.self.now in
-        let prepared = c.requires.prepared in
-        let dim = app.map.schema.dim in
-        let other = c.in-Some.other in
-        let first = c.in_ok-follow.ensures.followed result c.args.marks.now other unfolded (follow_starts app prepared c.args.embed c.args.declared.now c.requires.embed result unfolded c.args.marks.now c.mark_first.new.self c.args.at c.args.index c.in-Some.one other c.in-Some.ensures closed c.requires.absent c.in_ok-mark_first.ensures.ok) in
-        c.follow-in-Some.ensures.grown result c.args.marks.now (dim + 1) unfolded (follow_other app prepared c.args.embed c.args.declared.now c.requires.embed result unfolded c.args.marks.now c.follow.new.marks c.args.index (name_of app c.args.at) other (dim + 1) first);
+          let app = c.args.self.now in
+          let prepared = c.requires.prepared in
+          let dim = app.map.schema.dim in
+          let other = c.in-Some.other in
+          let first = c.in_ok-follow.ensures.followed result c.args.marks.now other unfolded (follow_starts app prepared c.args.embed c.args.declared.now c.requires.embed result unfolded c.args.marks.now c.mark_first.new.self c.args.at c.args.index c.in-Some.one other c.in-Some.ensures closed c.requires.absent c.in_ok-mark_first.ensures.ok) in
+          c.follow-in-Some.ensures.grown result c.args.marks.now (dim + 1) unfolded (follow_other app prepared c.args.embed c.args.declared.now c.requires.embed result unfolded c.args.marks.now c.follow.new.marks c.args.index (name_of app c.args.at) other (dim + 1) first);
       cost = let app = c.args.self.now in
-        let labels = c.requires.prepared.lawful.schema.labels in
-        let pair = c.in-Some.ensures in
-        let wide : 1 ≤ app.map.schema.dim = pair_wide app.map.schema.dim c.in-Some.one c.in-Some.other pair.apart (labels c.args.embed c.in-Some.one c.args.declared.now c.requires.embed pair.has_one) (labels c.args.embed c.in-Some.other c.args.declared.now c.requires.embed pair.has_other) in
-        let long : length c.mark_first.new.self ≡ length c.args.marks.now + 1 = one_longer c.args.marks.now c.mark_first.new.self c.args.at c.args.index None c.in_ok-mark_first.ensures.ok c.requires.absent in
-        pair_cost app.map.schema.dim (length c.args.marks.now) (length c.follow-in-Some.new.marks) c.args.steps.now c.follow-in-Some.new.steps wide
-        (omega (arith, long, c.follow.ensures.longer, c.follow-in-Some.ensures.longer)) (omega (arith, long, c.follow.ensures.cost, c.follow-in-Some.ensures.cost));
+          let labels = c.requires.prepared.lawful.schema.labels in
+          let pair = c.in-Some.ensures in
+          let wide : 1 ≤ app.map.schema.dim = pair_wide app.map.schema.dim c.in-Some.one c.in-Some.other pair.apart (labels c.args.embed c.in-Some.one c.args.declared.now c.requires.embed pair.has_one) (labels c.args.embed c.in-Some.other c.args.declared.now c.requires.embed pair.has_other) in
+          let long : length c.mark_first.new.self ≡ length c.args.marks.now + 1 = one_longer c.args.marks.now c.mark_first.new.self c.args.at c.args.index None c.in_ok-mark_first.ensures.ok c.requires.absent in
+          pair_cost app.map.schema.dim (length c.args.marks.now) (length c.follow-in-Some.new.marks) c.args.steps.now c.follow-in-Some.new.steps wide
+          (omega (arith, long, c.follow.ensures.longer, c.follow-in-Some.ensures.longer)) (omega (arith, long, c.follow.ensures.cost, c.follow-in-Some.ensures.cost));
       least = no_less _ _ _ c.follow.ensures.least c.follow-in-Some.ensures.least;
     }
 
@@ -188,12 +188,12 @@ follow-requires-in-Some g c =
       darts = c.follow.ensures.darts;
       here = c.in_ok-follow.ensures.here;
       begun = λ unfolded is.
-        let app = c.args.self.now in
-        let prepared = c.requires.prepared in
-        let dim = app.map.schema.dim in
-        let other = c.in-Some.other in
-        let first = c.in_ok-follow.ensures.followed unfolded c.args.marks.now other is (follow_starts app prepared c.args.embed c.args.declared.now c.requires.embed unfolded is c.args.marks.now c.mark_first.new.self c.args.at c.args.index c.in-Some.one other c.in-Some.ensures (c.requires.closed unfolded is) c.requires.absent c.in_ok-mark_first.ensures.ok) in
-        (c.args.marks.now, dim + 1, follow_other app prepared c.args.embed c.args.declared.now c.requires.embed unfolded is c.args.marks.now c.follow.new.marks c.args.index (name_of app c.args.at) other (dim + 1) first);
+          let app = c.args.self.now in
+          let prepared = c.requires.prepared in
+          let dim = app.map.schema.dim in
+          let other = c.in-Some.other in
+          let first = c.in_ok-follow.ensures.followed unfolded c.args.marks.now other is (follow_starts app prepared c.args.embed c.args.declared.now c.requires.embed unfolded is c.args.marks.now c.mark_first.new.self c.args.at c.args.index c.in-Some.one other c.in-Some.ensures (c.requires.closed unfolded is) c.requires.absent c.in_ok-mark_first.ensures.ok) in
+          (c.args.marks.now, dim + 1, follow_other app prepared c.args.embed c.args.declared.now c.requires.embed unfolded is c.args.marks.now c.follow.new.marks c.args.index (name_of app c.args.at) other (dim + 1) first);
     }
 
 pub bounds-as_slice-next : goal.bounds-as_slice-next

@@ -54,12 +54,12 @@ returns-in_err-mark_beside g c =
       darts = rw c.in_err-mark_beside.ensures.err c.loop-label.invariant.darts;
       followed = never_ok _ c.from_residual.result c.from_residual.ensures.0;
       grown = rw c.in_err-mark_beside.ensures.err
-        (followed_some c.args.self.now c.requires.prepared c.args.embed c.args.declared.now c.requires.embed c.args.from c.args.marks.now c.loop-label.marks c.loop-label.invariant.followed.0 c.loop-label.invariant.followed.2);
+          (followed_some c.args.self.now c.requires.prepared c.args.embed c.args.declared.now c.requires.embed c.args.from c.args.marks.now c.loop-label.marks c.loop-label.invariant.followed.0 c.loop-label.invariant.followed.2);
       longer = rw c.in_err-mark_beside.ensures.err (stays_longer c.args.marks.now c.loop-label.marks c.loop-label.invariant.kept);
       cost = let l = c.loop-label in
-        let asked = l.invariant.followed.3.0 c.in-Some.label c.in-Some.ensures.0 c.in-Some.ensures.1 in
-        let within : c.in-Some.label ≤ c.args.self.now.map.schema.dim = c.requires.prepared.lawful.schema.labels c.args.embed c.in-Some.label c.args.declared.now c.requires.embed asked.1 in
-        omega (arith, within, asked.0, l.invariant.followed.4, c.neighbour-to.ensures.cost);
+          let asked = l.invariant.followed.3.0 c.in-Some.label c.in-Some.ensures.0 c.in-Some.ensures.1 in
+          let within : c.in-Some.label ≤ c.args.self.now.map.schema.dim = c.requires.prepared.lawful.schema.labels c.args.embed c.in-Some.label c.args.declared.now c.requires.embed asked.1 in
+          omega (arith, within, asked.0, l.invariant.followed.4, c.neighbour-to.ensures.cost);
       least = omega (arith, c.loop-label.invariant.least, c.neighbour-to.ensures.least);
     }
 
@@ -68,9 +68,9 @@ returns g c =
     record {
       darts = c.loop-label.invariant.darts;
       followed = let l = c.loop-label in
-        let dim = c.args.self.now.map.schema.dim in
-        followed_up_to c.args.self.now c.requires.prepared c.args.embed c.args.declared.now c.requires.embed c.args.from c.args.marks.now l.marks l.invariant.kept l.asked l.invariant.followed.0 (dim + 1) l.invariant.followed.1
-        (omega (arith, c.requires.prepared.lawful.dim)) l.invariant.followed.2 l.invariant.followed.3 (λ i h. c.in_default.ensures i (omega (arith, h, c.requires.prepared.lawful.dim)));
+          let dim = c.args.self.now.map.schema.dim in
+          followed_up_to c.args.self.now c.requires.prepared c.args.embed c.args.declared.now c.requires.embed c.args.from c.args.marks.now l.marks l.invariant.kept l.asked l.invariant.followed.0 (dim + 1) l.invariant.followed.1
+          (omega (arith, c.requires.prepared.lawful.dim)) l.invariant.followed.2 l.invariant.followed.3 (λ i h. c.in_default.ensures i (omega (arith, h, c.requires.prepared.lawful.dim)));
       grown = followed_some c.args.self.now c.requires.prepared c.args.embed c.args.declared.now c.requires.embed c.args.from c.args.marks.now c.loop-label.marks c.loop-label.invariant.followed.0 c.loop-label.invariant.followed.2;
       longer = stays_longer c.args.marks.now c.loop-label.marks c.loop-label.invariant.kept;
       cost = omega (arith, c.loop-label.invariant.followed.1, c.loop-label.invariant.followed.4);

@@ -20,7 +20,7 @@ pub returns : goal.returns
 returns g c =
     record {
       map = c.remove.ensures.map
-        ∙ ap (λ m. without_darts m (all_removed (told_by c.args.self.now))) (c.write.ensures.map ∙ ap (λ made. with_arcs (end_at c.args.arena.now made) c.args.arena.now (all_arcs (told_by c.args.self.now) Freed)) (left_alone (told_by c.args.self.now) c.args.slots.now c.requires.slots).0);
+          ∙ ap (λ m. without_darts m (all_removed (told_by c.args.self.now))) (c.write.ensures.map ∙ ap (λ made. with_arcs (end_at c.args.arena.now made) c.args.arena.now (all_arcs (told_by c.args.self.now) Freed)) (left_alone (told_by c.args.self.now) c.args.slots.now c.requires.slots).0);
       cost = omega (arith, c.write.ensures.cost, c.remove.ensures.cost);
     }
 

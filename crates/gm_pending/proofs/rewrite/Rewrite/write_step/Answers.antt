@@ -12,8 +12,8 @@ link_nodes-requires-in-Freed-default g c =
     record {
       slots = c.requires.slots;
       arcs = let freed : c.args.arcs ≡ Freed = search rules in
-        let some : c.written_step.result ≢ Absent = search rules in
-        writable_at (told_by c.args.self.now) c.args.node c.args.label c.args.arena.now (made_in (told_by c.args.self.now) c.args.slots.now) _ (λ p. (c.args.node, p)) (freed_arcs (told_by c.args.self.now) c.args.node c.args.label c.args.arcs c.written_step.result freed some c.written_step.ensures) c.requires.arcs;
+          let some : c.written_step.result ≢ Absent = search rules in
+          writable_at (told_by c.args.self.now) c.args.node c.args.label c.args.arena.now (made_in (told_by c.args.self.now) c.args.slots.now) _ (λ p. (c.args.node, p)) (freed_arcs (told_by c.args.self.now) c.args.node c.args.label c.args.arcs c.written_step.result freed some c.written_step.ensures) c.requires.arcs;
     }
 
 pub link_nodes-requires : goal.link_nodes-requires
