@@ -59,6 +59,19 @@ outcome found = found
 abbrev found_as : Result Stand FormFault → Result Stand FormFault
 found_as found = found
 
+-- what contradicts itself, and what is the same, over plain variables
+no_ok : (stop : Stop exprs.Spot LimitKind) (to : exprs.Spot) → outcome (Err stop) ≡ outcome (Ok to) → ⊥
+no_ok stop to is = cc is
+
+no_end : (spot : exprs.Spot) (mark : Mark) (what : LimitKind) (place : ℕ) → outcome (Err (Ends spot mark)) ≡ outcome (Err (Passes what place)) → ⊥
+no_end spot mark what place is = cc is
+
+same_end : (spot stop : exprs.Spot) (first mark : Mark) → outcome (Err (Ends spot first)) ≡ outcome (Err (Ends stop mark)) → (spot ≡ stop) × (first ≡ mark)
+same_end spot stop first mark is = (cc is, cc is)
+
+same_ok : (spot to : exprs.Spot) → outcome (Ok spot) ≡ outcome (Ok to) → spot ≡ to
+same_ok spot to is = cc is
+
 module _ (slot : Slot) where
   abbrev cases : (spot : exprs.Spot) (last : ℕ) (mark : Mark) → machine.Stepped limit_in never (spot_role (dim_of slot)) spot_move spot last mark
   cases spot last mark = machine.stepped limit_in never (spot_role (dim_of slot)) spot_move spot last mark
@@ -66,11 +79,11 @@ module _ (slot : Slot) where
   over_expr : (spot to : exprs.Spot) (before rest : List Mark) (last : ℕ) (held : Held) → run_in (dim_of slot) spot last before ≡ Ok to
       → read_on (at_expr slot spot last held) (before ++ rest) ≡ read_on (at_expr slot to (last_of last before) (holding (with_tokens (tokens_from (dim_of slot) spot before) held.part) held)) rest
   unfolding stepped
-  over_expr spot to [] rest last held e = let same : spot ≡ to = cc e in ap (λ (s : exprs.Spot). read_on (at_expr slot s last held) rest) same
+  over_expr spot to [] rest last held e = ap (λ (s : exprs.Spot). read_on (at_expr slot s last held) rest) (same_ok spot to e)
   over_expr spot to (mark ∷ before) rest last held e =
       elim (cases spot last mark) [
-        | Refused moves is ↦ (let none : outcome (Err (Ends spot mark)) ≡ outcome (Ok to) = rw is at e in absurd cc)
-        | Limited next what moves limit is ↦ (let none : outcome (Err (Passes what mark.place)) ≡ outcome (Ok to) = rw is at e in absurd cc)
+        | Refused moves is ↦ absurd (no_ok (Ends spot mark) to (rw is at e))
+        | Limited next what moves limit is ↦ absurd (no_ok (Passes what mark.place) to (rw is at e))
         | Moved next moves limit is ↦ rw (moves, limit, moves)
             (over_expr next to before rest mark.place (holding (with_token (token_at slot spot mark.symbol mark.place) held.part) held) (rw is at e))
       ]
@@ -78,16 +91,14 @@ module _ (slot : Slot) where
   stops_at : (spot stop : exprs.Spot) (marks : List Mark) (mark : Mark) (last : ℕ) (held : Held) → run_in (dim_of slot) spot last marks ≡ Err (Ends stop mark) → is_whole_spot stop ≡ false
       → read_on (at_expr slot spot last held) marks ≡ Err (faults.Text mark.place)
   unfolding stepped
-  stops_at spot stop [] mark last held e part = absurd cc
+  stops_at spot stop [] mark last held e part = absurd (no_ok (Ends stop mark) spot (sym e))
   stops_at spot stop (first ∷ marks) mark last held e part =
       elim (cases spot last first) [
         | Refused moves is ↦
-            (let same : outcome (Err (Ends spot first)) ≡ outcome (Err (Ends stop mark)) = rw is at e in
-            let at : spot ≡ stop = cc same in
-            let here : first ≡ mark = cc same in
-            let not_whole : is_whole_spot spot ≡ false = ap is_whole_spot at ∙ part in
-            rw (moves, not_whole) (ap (λ (m : Mark). Err (faults.Text m.place)) here))
-        | Limited next what moves limit is ↦ (let none : outcome (Err (Passes what first.place)) ≡ outcome (Err (Ends stop mark)) = rw is at e in absurd cc)
+            (let same = same_end spot stop first mark (rw is at e) in
+            let not_whole : is_whole_spot spot ≡ false = ap is_whole_spot same.0 ∙ part in
+            rw (moves, not_whole) (ap (λ (m : Mark). Err (faults.Text m.place)) same.1))
+        | Limited next what moves limit is ↦ absurd (no_end stop mark what first.place (sym (rw is at e)))
         | Moved next moves limit is ↦ rw (moves, limit, moves)
             (stops_at next stop marks mark first.place (holding (with_token (token_at slot spot first.symbol first.place) held.part) held) (rw is at e) part)
       ]
@@ -95,10 +106,10 @@ module _ (slot : Slot) where
   passes_at : (spot : exprs.Spot) (marks : List Mark) (what : LimitKind) (place last : ℕ) (held : Held) → run_in (dim_of slot) spot last marks ≡ Err (Passes what place)
       → read_on (at_expr slot spot last held) marks ≡ Err (faults.Limit what place)
   unfolding stepped
-  passes_at spot [] what place last held e = absurd cc
+  passes_at spot [] what place last held e = absurd (no_ok (Passes what place) spot (sym e))
   passes_at spot (first ∷ marks) what place last held e =
       elim (cases spot last first) [
-        | Refused moves is ↦ (let none : outcome (Err (Ends spot first)) ≡ outcome (Err (Passes what place)) = rw is at e in absurd cc)
+        | Refused moves is ↦ absurd (no_end spot first what place (rw is at e))
         | Limited next some moves limit is ↦ (let same : outcome (Err (Passes some first.place)) ≡ outcome (Err (Passes what place)) = rw is at e in rw (moves, limit) (limits some first.place same))
         | Moved next moves limit is ↦ rw (moves, limit, moves)
             (passes_at next marks what place first.place (holding (with_token (token_at slot spot first.symbol first.place) held.part) held) (rw is at e))
