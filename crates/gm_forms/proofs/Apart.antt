@@ -1,5 +1,7 @@
 -- What can follow an expression in a book doesn't go on with it, and a symbol's role in it depends on its place as a name's does.
-use Rattle.std.proofs.Common.{◌≡◌, ℕ, ◌+◌, Bool, true, false, cond, List, [], Option, Some, None, refl, ap, ◌∙◌, codes}
+use Rattle.std.proofs.Common.{◌≡◌, ℕ, ◌+◌, Bool, true, false, cond, List, [], Option, Some, None, refl, sym, ap, ◌∙◌, codes}
+use Rattle.std.proofs.lemmas.Bool.{false≢true}
+use Rattle.std.proofs.lemmas.Option.{none-some}
 use Rattle.std.specs.Option.{option_map}
 use Rattle.std.specs.Prelude.{IsTrue}
 use Rattle.std.specs.Str.{bytes_eq}
@@ -47,7 +49,7 @@ other_stuck spot symbol other = ap (option_map (spot_at (spot.count + 1))) (ap (
 name_stuck : (count : ℕ) (brackets : List Bracket) (compared : Bool) (place : Place) → IsTrue (exprs.is_whole_at brackets place) → move_by (state_at brackets compared place) place keys.Name ≡ None
 name_stuck count [] compared places.Behind whole = refl
 name_stuck count [] compared places.BehindName whole = refl
-name_stuck count brackets compared place whole = absurd cc
+name_stuck count brackets compared place whole = absurd (false≢true whole)
 
 free_stuck : (spot : exprs.Spot) (w : List ℕ) → IsTrue (is_whole_spot spot) → is_among reserved w ≡ false → spot_move spot (Word w) ≡ None
 free_stuck spot w whole free = ap (option_map (spot_at (spot.count + 1)))
@@ -59,7 +61,7 @@ free_of : (w : List ℕ) (state next : State) → unless_reserved w state ≡ So
 free_of w state next e = go (is_among reserved w) refl
   where
     go : (b : Bool) → is_among reserved w ≡ b → is_among reserved w ≡ false
-    go true is = let one : None ≡ Some next = rw is at e in absurd cc
+    go true is = absurd (none-some next (rw is at e))
     go false is = is
 
 wanted : (word found : List ℕ) (state next : State) → expect word found state ≡ Some next → found ≡ word
@@ -67,15 +69,15 @@ wanted word found state next e = go (bytes_eq found word) refl
   where
     go : (b : Bool) → bytes_eq found word ≡ b → found ≡ word
     go true is = (bytes_eq-Decides found word).0 is
-    go false is = let one : None ≡ Some next = rw is at e in absurd cc
+    go false is = absurd (none-some next (rw is at e))
 
 module _ (expr : exprs.Spot) (whole : IsTrue (is_whole_spot expr)) where
   word_stuck : (w known : List ℕ) → w ≡ known → key_of (Word known) ≡ keys.Other → spot_move expr (Word w) ≡ None
   word_stuck w known e other = ap (λ (v : List ℕ). spot_move expr (Word v)) e ∙ other_stuck expr (Word known) other
 
   item_free : (w : List ℕ) (one two state next : State) (b c : Bool) → b ≡ false → c ≡ false → cond b (Some one) (cond c (Some two) (unless_reserved w state)) ≡ Some next → is_among reserved w ≡ false
-  item_free w one two state next true c e f moves = absurd cc
-  item_free w one two state next false true e f moves = absurd cc
+  item_free w one two state next true c e f moves = absurd (false≢true (sym e))
+  item_free w one two state next false true e f moves = absurd (false≢true (sym f))
   item_free w one two state next false false e f moves = free_of w state next moves
 
   item_apart : (spot : Spot) (w : List ℕ) (next : State) → item_move (on_right spot) w ≡ Some next → spot_move expr (Word w) ≡ None
@@ -87,7 +89,7 @@ module _ (expr : exprs.Spot) (whole : IsTrue (is_whole_spot expr)) where
       go false e false f = free_stuck expr w whole (item_free w (closed (on_right spot) Right) (AtExpr (PreSlot spot.heading spot.rules) first_spot) (AtSign (on_right spot) w) next (bytes_eq w (codes "rule")) (bytes_eq w (codes "pre")) e f moves)
 
   set_free : (one next : State) (rest : Option State) (b : Bool) → b ≡ false → cond b (Some one) rest ≡ Some next → rest ≡ Some next
-  set_free one next rest true e moves = absurd cc
+  set_free one next rest true e moves = absurd (false≢true (sym e))
   set_free one next rest false e moves = moves
 
   behind_apart : (spot : Spot) (w : List ℕ) (next : State) → behind_move (on_right spot) w ≡ Some next → spot_move expr (Word w) ≡ None
@@ -101,16 +103,16 @@ module _ (expr : exprs.Spot) (whole : IsTrue (is_whole_spot expr)) where
   pub apart : (slot : Slot) (symbol : Symbol) (next : State) → plain_move (behind_slot slot) symbol ≡ Some next → spot_move expr symbol ≡ None
   apart (SetSlot spot) (Word w) next moves = behind_apart spot w next moves
   apart (SetSlot spot) End next moves = other_stuck expr End refl
-  apart (SetSlot spot) (Numeral n) next moves = absurd cc
-  apart (SetSlot spot) (Sign s) next moves = absurd cc
-  apart (SetSlot spot) Gone next moves = absurd cc
-  apart (SetSlot spot) Stray next moves = absurd cc
+  apart (SetSlot spot) (Numeral n) next moves = absurd (none-some next moves)
+  apart (SetSlot spot) (Sign s) next moves = absurd (none-some next moves)
+  apart (SetSlot spot) Gone next moves = absurd (none-some next moves)
+  apart (SetSlot spot) Stray next moves = absurd (none-some next moves)
   apart (PreSlot heading k) (Word w) next moves = word_stuck w (codes "rule") (wanted (codes "rule") w (AtName heading (k + 1)) next moves) refl
   apart (PreSlot heading k) End next moves = other_stuck expr End refl
-  apart (PreSlot heading k) (Numeral n) next moves = absurd cc
-  apart (PreSlot heading k) (Sign s) next moves = absurd cc
-  apart (PreSlot heading k) Gone next moves = absurd cc
-  apart (PreSlot heading k) Stray next moves = absurd cc
+  apart (PreSlot heading k) (Numeral n) next moves = absurd (none-some next moves)
+  apart (PreSlot heading k) (Sign s) next moves = absurd (none-some next moves)
+  apart (PreSlot heading k) Gone next moves = absurd (none-some next moves)
+  apart (PreSlot heading k) Stray next moves = absurd (none-some next moves)
 
 -- ---- roles
 

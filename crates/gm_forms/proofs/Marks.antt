@@ -1,5 +1,6 @@
 -- What leads through the states to the end are rules, and these are what is held.
 use Rattle.std.proofs.Common.{◌≡◌, ℕ, ◌+◌, Bool, true, false, cond, Option, List, [], ◌∷◌, ◌++◌, map, length, Some, None, refl, sym, ap, subst, ◌∙◌, codes, append_assoc}
+use Rattle.std.proofs.lemmas.Option.{none-some}
 use Rattle.std.proofs.lemmas.Bool.{and_parts}
 use Rattle.std.proofs.lemmas.List.{append-nil}
 use Rattle.std.proofs.lemmas.Slice.Eq.{bytes_eq-Decides}
@@ -151,7 +152,7 @@ kind_read : (h : Heading) (k count : ℕ) (w : List ℕ) (place : ℕ) (marks : 
 kind_read h k count w place marks parts next moves rest = go (param_kind w) refl
   where
     go : (found : Option Kind) → param_kind w ≡ found → After (AtKind h k count) (mark_at (Word w) place ∷ marks) (part_in (AtKind h k count) (Word w) place ∷ parts)
-    go None is = let none : None ≡ Some next = rw is at moves in absurd cc
+    go None is = absurd (none-some next (rw is at moves))
     go (Some kind) is =
         let one : Some (AtComma h k count) ≡ Some next = rw is at moves in
         let e : AtComma h k count ≡ next = cc one in
@@ -242,7 +243,7 @@ value_is n rest =
 
 item_end : (h : Heading) (k : ℕ) (side : Side) (count : Count) (hook_before : Bool) (place : ℕ) (marks : List Mark) (parts : Parts) (next : State) → end_move side ≡ Some next → After next marks parts
     → After (AtItem (spot_at h k side count hook_before)) (mark_at End place ∷ marks) (part_in (AtItem (spot_at h k side count hook_before)) End place ∷ parts)
-item_end h k Left count hook_before place marks parts next moves rest = absurd cc
+item_end h k Left count hook_before place marks parts next moves rest = absurd (none-some next moves)
 item_end h k Right count hook_before place marks parts next moves rest =
     let e : AtEnd ≡ next = cc moves in
     let behind : After AtEnd marks parts = subst (λ s. After s marks parts) (sym e) rest in
@@ -351,7 +352,7 @@ item_sign spot name s place marks parts next moves rest = go (bytes_eq s (codes 
         let one : Some (AtLabel (with_link spot)) ≡ Some next = rw (is, f) at moves in
         let e : AtLabel (with_link spot) ≡ next = cc one in
         rw ((bytes_eq-Decides s (codes "-")).0 f) (link_sign spot name place marks parts (subst (λ s. After s marks parts) (sym e) rest))
-    go false is false f = let one : None ≡ Some next = rw (is, f) at moves in absurd cc
+    go false is false f = absurd (none-some next (rw (is, f) at moves))
 
 abbrev behind' : {version n : ℕ} {hook_before : Bool} → List RuleForm → (side : Side) → Item → RuleForm → Items version n hook_before side → Held
 behind' before side item rule items = behind (before ++ all side (put side item rule) items)
@@ -675,13 +676,13 @@ value_step spot at symbol place marks parts next None e moves rest = go (is_whol
   where
     go : (b : Bool) → is_whole_spot at ≡ b → (symbol : Symbol) → spot_move at symbol ≡ None → cond b (plain_move (AtBehind (on_right spot)) symbol) None ≡ Some next
         → After (AtExpr (SetSlot spot) at) (mark_at symbol place ∷ marks) (part_in (AtExpr (SetSlot spot) at) symbol place ∷ parts)
-    go false whole symbol e moves = absurd cc
+    go false whole symbol e moves = absurd (none-some next moves)
     go true whole (Word w) e moves = value_end spot at (Word w) place marks parts next e whole moves (behind_word spot.heading spot.rules Right spot.count spot.hooked w place marks parts next moves rest)
     go true whole End e moves = value_end spot at End place marks parts next e whole moves (behind_end spot.heading spot.rules Right spot.count spot.hooked place marks parts next moves rest)
-    go true whole (Numeral n) e moves = absurd cc
-    go true whole (Sign s) e moves = absurd cc
-    go true whole Gone e moves = absurd cc
-    go true whole Stray e moves = absurd cc
+    go true whole (Numeral n) e moves = absurd (none-some next moves)
+    go true whole (Sign s) e moves = absurd (none-some next moves)
+    go true whole Gone e moves = absurd (none-some next moves)
+    go true whole Stray e moves = absurd (none-some next moves)
 
 pre_step : (h : Heading) (k : ℕ) (at : exprs.Spot) (symbol : Symbol) (place : ℕ) (marks : List Mark) (parts : Parts) (next : State) → (to : Option exprs.Spot) → spot_move at symbol ≡ to → expr_move (PreSlot h k) at symbol to ≡ Some next → After next marks parts
     → After (AtExpr (PreSlot h k) at) (mark_at symbol place ∷ marks) (part_in (AtExpr (PreSlot h k) at) symbol place ∷ parts)
@@ -691,13 +692,13 @@ pre_step h k at symbol place marks parts next None e moves rest = go (is_whole_s
   where
     go : (b : Bool) → is_whole_spot at ≡ b → (symbol : Symbol) → spot_move at symbol ≡ None → cond b (plain_move (AtRuleEnd h k) symbol) None ≡ Some next
         → After (AtExpr (PreSlot h k) at) (mark_at symbol place ∷ marks) (part_in (AtExpr (PreSlot h k) at) symbol place ∷ parts)
-    go false whole symbol e moves = absurd cc
+    go false whole symbol e moves = absurd (none-some next moves)
     go true whole (Word w) e moves = pre_end h k at (Word w) place marks parts next e whole moves (rule_end_word h k w place marks parts next moves rest)
     go true whole End e moves = pre_end h k at End place marks parts next e whole moves (rule_end_end h k place marks parts next moves rest)
-    go true whole (Numeral n) e moves = absurd cc
-    go true whole (Sign s) e moves = absurd cc
-    go true whole Gone e moves = absurd cc
-    go true whole Stray e moves = absurd cc
+    go true whole (Numeral n) e moves = absurd (none-some next moves)
+    go true whole (Sign s) e moves = absurd (none-some next moves)
+    go true whole Gone e moves = absurd (none-some next moves)
+    go true whole Stray e moves = absurd (none-some next moves)
 
 step_is : (state : State) (symbol : Symbol) (place : ℕ) (marks : List Mark) (parts : Parts) (next : State) → move state symbol ≡ Some next → After next marks parts → After state (mark_at symbol place ∷ marks) (part_in state symbol place ∷ parts)
 step_is (AtRules h) (Word w) place marks parts next moves rest = first_rule h w place marks parts next moves rest
@@ -727,7 +728,7 @@ step_is (AtRuleEnd h k) End place marks parts next moves rest = rule_end_end h k
 step_is (AtLabel spot) (Numeral i) place marks parts next moves rest = link_label spot i place marks parts next moves rest
 step_is (AtDash spot) (Sign s) place marks parts next moves rest = link_dash spot s place marks parts next moves rest
 step_is (AtTo spot) (Word w) place marks parts next moves rest = link_to spot w place marks parts next moves rest
-step_is state symbol place marks parts next moves rest = absurd cc
+step_is state symbol place marks parts next moves rest = absurd (none-some next moves)
 
 after_is : (state : State) (marks : List Mark) (parts : Parts) → Along limit_of stands_before role_at move state marks parts AtEnd → After state marks parts
 after_is state [] [] e = rw e (refl, refl)
