@@ -1,10 +1,10 @@
 -- A script that a text stands for is in an order that scripts have, and each statement agrees with the book.
-use Rattle.std.proofs.Common.{◌≡◌, ℕ, zero, suc, ◌+◌, ◌<◌, ◌≤◌, Bool, true, false, cond, ℤ, pos, negsuc, FitsSigned, w64, List, [], ◌∷◌, ◌++◌, length, map, Some, None, refl, ap, subst, ◌∙◌, arith, codes}
+use Rattle.std.proofs.Common.{◌≡◌, ℕ, zero, suc, ◌+◌, ◌<◌, ◌≤◌, Bool, true, false, cond, ℤ, pos, negsuc, FitsSigned, w64, List, [], ◌∷◌, ◌++◌, length, map, Some, None, refl, sym, ap, subst, ◌∙◌, arith, codes}
 use Rattle.std.specs.Prelude.{IsTrue, ◌&&◌, nat_lt, nat_abs, int_le}
 use Rattle.std.specs.List.{AllByRecursion, AllZip}
 use Rattle.std.proofs.lemmas.Bool.Decides.{nat_tests}
 use Rattle.std.proofs.lemmas.Bool.{and_parts}
-use Rattle.std.proofs.lemmas.Option.{same_Some}
+use Rattle.std.proofs.lemmas.Option.{none-some, same_Some}
 use Rattle.gm_model.specs.declared.limit.LimitKind.TheVariants as limits
 use Rattle.gm_model.specs.declared.rule.Param.{Param}
 use Rattle.gm_model.specs.Statements.{Stat}
@@ -44,7 +44,7 @@ size_fits : (minus : Bool) (n : ℕ) → passed_of (Size minus) (Numeral n) ≡ 
 size_fits minus n e = go (nat_lt (greatest minus) n) refl e
   where
     go : (b : Bool) → nat_lt (greatest minus) n ≡ b → passed_by (cond b (Some limits.Integer) None) false ≡ None → IsInRange (record { minus = minus; size = n })
-    go true f e = absurd cc
+    go true f e = absurd (none-some _ (sym e))
     go false f e = let small : n ≤ greatest minus = grind (arith, nat_tests, f) in fits minus n small
 
 signed_within : (minus : Bool) (n : ℕ) (rest : List (Part Role)) → AreWithin (spell_signed (record { minus = minus; size = n }) rest) → IsInRange (record { minus = minus; size = n }) × AreWithin rest
@@ -96,7 +96,7 @@ label_low : (n label : ℕ) (mask : Mask) → passed_of (LabelBehind n mask) (Nu
 label_low n label mask e = go (nat_lt n label) refl (nothing_passed (limit_of (LabelBehind n mask) (Numeral label)) (has mask label) e).0
   where
     go : (b : Bool) → nat_lt n label ≡ b → cond b (Some limits.Label) None ≡ None → label ≤ n
-    go true f e = absurd cc
+    go true f e = absurd (none-some _ (sym e))
     go false f e = grind (arith, nat_tests, f)
 
 labels_within : (n : ℕ) (mask : Mask) (labels : List ℕ) (rest : List (Part Role)) → IsLow n mask → AreWithin (spell_labels n mask labels rest) → IsLow n (mask_of labels mask) × AreWithin rest
@@ -137,9 +137,9 @@ colour_of_kind r g b v e = go (is_channel r) (is_channel g) (is_channel b) refl 
 
     go : (p q s : Bool) → is_channel r ≡ p → is_channel g ≡ q → is_channel b ≡ s → cond (p && q && s) (Some made) None ≡ Some v → IsValueOf kinds.Rgb v
     go true true true f g' h e = subst (IsValueOf kinds.Rgb) (same_Some made v e) (record { kind_is = refl; range = (channel_low r f, channel_low g g', channel_low b h) })
-    go true true false f g' h e = absurd cc
-    go true false s f g' h e = absurd cc
-    go false q s f g' h e = absurd cc
+    go true true false f g' h e = absurd (none-some v e)
+    go true false s f g' h e = absurd (none-some v e)
+    go false q s f g' h e = absurd (none-some v e)
 
 value_of_kind : (kind : Kind) (form : ValueForm) (v : Value) → IsGoodForm form → value_as kind form ≡ Some v → IsValueOf kind v
 value_of_kind kinds.Int (Plain x) v good e = subst (IsValueOf kinds.Int) (same_Some _ v e) (record { kind_is = refl; range = good })
@@ -147,7 +147,7 @@ value_of_kind kinds.Bool (Truth b) v good e = subst (IsValueOf kinds.Bool) (same
 value_of_kind kinds.Vec2 (Pair x y) v good e = subst (IsValueOf kinds.Vec2) (same_Some _ v e) (record { kind_is = refl; range = good })
 value_of_kind kinds.Vec3 (Triple x y z) v good e = subst (IsValueOf kinds.Vec3) (same_Some _ v e) (record { kind_is = refl; range = good })
 value_of_kind kinds.Rgb (Triple x y z) v good e = colour_of_kind (integer x) (integer y) (integer z) v e
-value_of_kind kind form v good e = absurd cc
+value_of_kind kind form v good e = absurd (none-some v e)
 
 good_params : (params : List Param) (forms : List ValueForm) (vs : List Value) → AllByRecursion IsGoodForm forms → AreParams params forms vs → AllZip IsValueOf (param_kinds params) vs
 good_params [] [] [] good are = tt

@@ -1,6 +1,6 @@
 -- The texts of scripts lead from the first state to the last.
 use Rattle.std.proofs.Common.{◌≡◌, ℕ, ◌+◌, Bool, true, false, if◌then◌else◌, List, [], ◌∷◌, ◌++◌, map, Some, refl, sym, ap, subst, ◌∙◌, codes}
-use Rattle.std.proofs.lemmas.Bool.{cond_both}
+use Rattle.std.proofs.lemmas.Bool.{false≢true, cond_both}
 use Rattle.std.proofs.lemmas.Slice.Eq.{bytes_eq-Decides}
 use Rattle.std.specs.List.{AllByRecursion}
 use Rattle.std.specs.Str.{bytes_eq}
@@ -117,15 +117,15 @@ module _ (n : ℕ) where
       let P : Sight → Type 0 = CanName in
       let is : (other : List ℕ) → bytes_eq bytes other ≡ true → is_among reserved other ≡ false = λ other h. subst (λ (b : List ℕ). is_among reserved b ≡ false) ((bytes_eq-Decides bytes other).0 h) free in
       cond_both (bytes_eq bytes (codes "apply")) _ _ P (λ _. AHead heads.Apply) (λ _.
-      cond_both (bytes_eq bytes (codes "with")) _ _ P (λ h. let e : true ≡ false = is (codes "with") h in absurd cc) (λ _.
+      cond_both (bytes_eq bytes (codes "with")) _ _ P (λ h. absurd (false≢true (sym (is (codes "with") h)))) (λ _.
       cond_both (bytes_eq bytes (codes "each")) _ _ P (λ _. AHead heads.Each) (λ _.
       cond_both (bytes_eq bytes (codes "undo")) _ _ P (λ _. AHead heads.Undo) (λ _.
       cond_both (bytes_eq bytes (codes "redo")) _ _ P (λ _. AHead heads.Redo) (λ _.
       cond_both (bytes_eq bytes (codes "group")) _ _ P (λ _. AHead heads.Group) (λ _.
       cond_both (bytes_eq bytes (codes "end")) _ _ P (λ _. AHead heads.End) (λ _.
-      cond_both (bytes_eq bytes (codes "true")) _ _ P (λ h. let e : true ≡ false = is (codes "true") h in absurd cc) (λ _.
-      cond_both (bytes_eq bytes (codes "false")) _ _ P (λ h. let e : true ≡ false = is (codes "false") h in absurd cc) (λ _.
-      cond_both (is_among reserved bytes) _ _ P (λ h. let e : true ≡ false = sym h ∙ free in absurd cc) (λ _. AName))))))))))
+      cond_both (bytes_eq bytes (codes "true")) _ _ P (λ h. absurd (false≢true (sym (is (codes "true") h)))) (λ _.
+      cond_both (bytes_eq bytes (codes "false")) _ _ P (λ h. absurd (false≢true (sym (is (codes "false") h)))) (λ _.
+      cond_both (is_among reserved bytes) _ _ P (λ h. absurd (false≢true (sym (sym h ∙ free)))) (λ _. AName))))))))))
 
   name_next : (been : Been) (sight : Sight) → CanName sight → (next_spot been.within spots.Apply sight ≡ Some spots.Rule) × (next_spot been.within spots.Over sight ≡ Some spots.Named)
   name_next been sight AName = (refl, refl)
@@ -187,7 +187,7 @@ module _ (n : ℕ) where
   can_begin spots.Rule been head place is = record { next = refl; role = refl; behind = refl }
   can_begin spots.Named been head place is = record { next = refl; role = refl; behind = refl }
   can_begin spots.Value been head place is = record { next = refl; role = refl; behind = refl }
-  can_begin _ been head place is = absurd cc
+  can_begin _ been head place is = absurd (false≢true is)
 
   head_led : (spot : Spot) (been : Been) (head : Head) (place : ℕ) (to : Spot) (rest : List (Part Role)) → is_whole spot ≡ true → next_head been.within head ≡ Some to
       → Led n (At to (begun_behind head been)) rest → Led n (At spot been) (word (StatAt (been.begun + 1) place) (head_word head) ∷ rest)
@@ -232,7 +232,7 @@ module _ (n : ℕ) where
       role spots.Rule is = refl
       role spots.Named is = refl
       role spots.Value is = refl
-      role _ is = absurd cc
+      role _ is = absurd (false≢true is)
 
       moves : move (At spot been) End ≡ Some Ended
       moves = rw (out, is) refl

@@ -1,5 +1,6 @@
 -- Statements that are compared as they are read: what was read and compared so far, and what that says at each end.
 use Rattle.std.proofs.Common.{◌≡◌, ℕ, ◌-◌, ◌≤◌, List, [], ◌∷◌, ◌++◌, true, false, Option, Some, None, is_some, Result, Ok, Err, IfOk, IfErr, OnOk, refl, sym, ap, subst, ◌∙◌, arith}
+use Rattle.std.proofs.lemmas.Option.{none-some}
 use Rattle.std.proofs.lemmas.List.{append-nil}
 use Rattle.gm_model.specs.declared.script.Script.{Script}
 use Rattle.gm_model.specs.Statements.{Stat}
@@ -100,7 +101,7 @@ begun_same n spot head token held stat e =
 pub ended_same : (n : ℕ) (sight : Sight) (token : Token) (held : Held) (stat : HeldStat) → ended_by held.spot sight stat ≡ Some stat
     → taken_at n sight token (record held { stat = stat }) ≡ taken_at n sight token held
 ended_same n (sights.Begins head) token held stat e = begun_same n held.spot head token held stat e
-ended_same n sight token held stat e = absurd cc
+ended_same n sight token held stat e = absurd (none-some stat e)
 
 -- ---- what was read so far
 

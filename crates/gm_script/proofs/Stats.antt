@@ -1,5 +1,6 @@
 -- What the reader answers: the statements that are written in the text, or its first fault.
 use Rattle.std.proofs.Common.{◌≡◌, ℕ, ◌-◌, ◌≤◌, Bool, true, false, List, [], ◌∷◌, ◌++◌, length, map, Option, Some, None, Result, Ok, Err, refl, sym, ap, subst, ◌∙◌, arith}
+use Rattle.std.proofs.lemmas.Bool.{false≢true}
 use Rattle.std.proofs.lemmas.List.{length-take, length-drop, append-nil, append_assoc}
 use Rattle.std.specs.Option.{option_map}
 use Rattle.gm_model.specs.declared.token.Token.{Token}
@@ -103,13 +104,13 @@ module _ (n : ℕ) (low : n ≤ 7) (text : List ℕ) where
   at_end place start held = by (can_end held.within held.spot) refl
     where
       fixed : (within : Bool) (spot : Spot) → can_end within spot ≡ true → passed_of (role_in n spot (been_of held) sights.Other place) End ≡ None
-      fixed true spot can = absurd cc
+      fixed true spot can = absurd (false≢true can)
       fixed false spots.Start can = refl
       fixed false spots.Bare can = refl
       fixed false spots.Rule can = refl
       fixed false spots.Named can = refl
       fixed false spots.Value can = refl
-      fixed false _ can = absurd cc
+      fixed false _ can = absurd (false≢true can)
 
       by : (can : Bool) → can_end held.within held.spot ≡ can → Agrees (finished place held >>= λ stat. Ok (put_first stat [])) (Run (At held.spot (been_of held)) start (EndAt place ∷ []))
       by true e = rw (e, fixed held.within held.spot e) refl

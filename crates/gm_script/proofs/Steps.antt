@@ -1,5 +1,7 @@
 -- Each symbol that can stand next is written behind what is written so far.
 use Rattle.std.proofs.Common.{◌≡◌, ℕ, ◌+◌, ◌^◌, ◌-◌, min, Bool, true, false, List, [], ◌∷◌, ◌++◌, length, Option, Some, None, refl, sym, ap, subst, ◌∙◌, codes}
+use Rattle.std.proofs.lemmas.Bool.{false≢true}
+use Rattle.std.proofs.lemmas.Option.{none-some}
 use Rattle.std.specs.List.{AllByRecursion}
 use Rattle.gm_model.specs.Names.{reserved, is_among}
 use Rattle.gm_model.specs.Symbols.{Symbol, Word, Numeral, Sign}
@@ -29,16 +31,16 @@ head_free heads.End = refl
 -- a word that can begin a statement leaves a group open, or not
 opens : (within : Bool) (head : Head) (to : Spot) → next_head within head ≡ Some to → nest within head ≡ Some (within_behind head within)
 opens within heads.Apply to e = refl
-opens true heads.Each to e = absurd cc
-opens true heads.Undo to e = absurd cc
-opens true heads.Redo to e = absurd cc
-opens true heads.Group to e = absurd cc
+opens true heads.Each to e = absurd (none-some to e)
+opens true heads.Undo to e = absurd (none-some to e)
+opens true heads.Redo to e = absurd (none-some to e)
+opens true heads.Group to e = absurd (none-some to e)
 opens true heads.End to e = refl
 opens false heads.Each to e = refl
 opens false heads.Undo to e = refl
 opens false heads.Redo to e = refl
 opens false heads.Group to e = refl
-opens false heads.End to e = absurd cc
+opens false heads.End to e = absurd (none-some to e)
 
 -- the spot where a statement has begun, and no more
 data Begins : Spot → Head → Type 0 where
@@ -48,16 +50,16 @@ data Begins : Spot → Head → Type 0 where
 
 begins : (within : Bool) (head : Head) (to : Spot) → next_head within head ≡ Some to → Begins to head
 begins within heads.Apply to e = let same : spots.Apply ≡ to = cc e in subst (λ s. Begins s heads.Apply) same AsApply
-begins true heads.Each to e = absurd cc
-begins true heads.Undo to e = absurd cc
-begins true heads.Redo to e = absurd cc
-begins true heads.Group to e = absurd cc
+begins true heads.Each to e = absurd (none-some to e)
+begins true heads.Undo to e = absurd (none-some to e)
+begins true heads.Redo to e = absurd (none-some to e)
+begins true heads.Group to e = absurd (none-some to e)
 begins true heads.End to e = let same : spots.Bare ≡ to = cc e in subst (λ s. Begins s heads.End) same (AsBare heads.End tt)
 begins false heads.Each to e = let same : spots.Each ≡ to = cc e in subst (λ s. Begins s heads.Each) same AsEach
 begins false heads.Undo to e = let same : spots.Bare ≡ to = cc e in subst (λ s. Begins s heads.Undo) same (AsBare heads.Undo tt)
 begins false heads.Redo to e = let same : spots.Bare ≡ to = cc e in subst (λ s. Begins s heads.Redo) same (AsBare heads.Redo tt)
 begins false heads.Group to e = let same : spots.Bare ≡ to = cc e in subst (λ s. Begins s heads.Group) same (AsBare heads.Group tt)
-begins false heads.End to e = absurd cc
+begins false heads.End to e = absurd (none-some to e)
 
 module _ (n : ℕ) where
   -- the part that a symbol is at the spot
@@ -323,7 +325,7 @@ ended n spot been draft whole out e = record {
 }
 
 out_of : (within : Bool) (spot : Spot) → can_end within spot ≡ true → (within ≡ false) × (is_whole spot ≡ true)
-out_of true spot can = absurd cc
+out_of true spot can = absurd (false≢true can)
 out_of false spot can = (refl, can)
 
 whole_at : (n : ℕ) (spot : Spot) (been : Been) (draft : Draft) → IsDraft spot been draft → been.within ≡ false → is_whole spot ≡ true → IsWhole n spot been draft
@@ -332,7 +334,7 @@ whole_at n spots.Bare been draft good out e = ended n spots.Bare been draft (clo
 whole_at n spots.Rule been draft good out e = ended n spots.Rule been draft (closed_at_rule n been draft good) out refl
 whole_at n spots.Named been draft good out e = ended n spots.Named been draft (closed_at_named n been draft good) out refl
 whole_at n spots.Value been draft good out e = ended n spots.Value been draft (closed_at_value n been draft good) out refl
-whole_at n _ been draft good out e = absurd cc
+whole_at n _ been draft good out e = absurd (false≢true e)
 
 pub whole : (n : ℕ) (spot : Spot) (been : Been) (draft : Draft) → IsDraft spot been draft → can_end been.within spot ≡ true → IsWhole n spot been draft
 whole n spot been draft good can = let out = out_of been.within spot can in whole_at n spot been draft good out.0 out.1
