@@ -1,5 +1,6 @@
 -- A book is its version, its schema and its rules: the states of the three read it as its grammar says.
 use Rattle.std.proofs.Common.{◌≡◌, ℕ, Bool, true, false, cond, List, [], ◌∷◌, ◌++◌, map, ◌⊎◌, inl, inr, Option, Some, None, refl, sym, ap, subst, ◌∙◌, codes, ◌==◌}
+use Rattle.std.proofs.lemmas.Option.{none-some}
 use Rattle.std.proofs.lemmas.Bool.{eqb-true}
 use Rattle.std.proofs.lemmas.Slice.Eq.{bytes_eq-Decides}
 use Rattle.std.specs.Option.{option_map}
@@ -66,7 +67,7 @@ schema_within : (version : ℕ) (state last : schema.State) (parts : List (Part 
 schema_within version = leads_within in_limit (λ role. stands_before (InSchema role)) schema.role_at schema.move book_nesting.inner_role book_nesting.inner_move (header_at version) (λ state symbol place. refl) (λ state symbol. refl) (same_header version)
 
 kept : (header next : Header) (to : Option schema.State) → option_map (header_at header.version) to ≡ Some next → header.version ≡ next.version
-kept header next None e = absurd cc
+kept header next None e = absurd (none-some next e)
 kept header next (Some state) e = let some : header_at header.version state ≡ next = cc e in ap (λ (h : Header). h.version) some
 
 same_version : (inner last : Header) (parts : List (Part schemas.Role)) → LedInside inner parts last → inner.version ≡ last.version
@@ -92,11 +93,11 @@ format_moved (Word w) next moves = go (bytes_eq w (codes "book")) refl moves
     go : (b : Bool) → bytes_eq w (codes "book") ≡ b → cond b (Some (Outside AtVersion)) None ≡ Some next → (Word w ≡ Word (codes "book")) × (next ≡ Outside AtVersion)
     go true e is = (ap Word ((bytes_eq-Decides w (codes "book")).0 e), sym (cc is))
     go false e is = absurd cc
-format_moved (Numeral n) next moves = absurd cc
-format_moved (Sign s) next moves = absurd cc
-format_moved Gone next moves = absurd cc
-format_moved Stray next moves = absurd cc
-format_moved End next moves = absurd cc
+format_moved (Numeral n) next moves = absurd (none-some next moves)
+format_moved (Sign s) next moves = absurd (none-some next moves)
+format_moved Gone next moves = absurd (none-some next moves)
+format_moved Stray next moves = absurd (none-some next moves)
+format_moved End next moves = absurd (none-some next moves)
 
 pub version_moved : (symbol : Symbol) (next : Whole) → outer_move AtVersion symbol ≡ Some next → (v : ℕ) × (is_version v ≡ true) × (symbol ≡ Numeral v) × (next ≡ Inside (header_at v schema.AtDim))
 version_moved (Numeral v) next moves = go (is_version v) refl moves
@@ -104,11 +105,11 @@ version_moved (Numeral v) next moves = go (is_version v) refl moves
     go : (b : Bool) → is_version v ≡ b → cond b (Some (Inside (header_at v schema.AtDim))) None ≡ Some next → (u : ℕ) × (is_version u ≡ true) × (Numeral v ≡ Numeral u) × (next ≡ Inside (header_at u schema.AtDim))
     go true e is = (v, e, refl, sym (cc is))
     go false e is = absurd cc
-version_moved (Word w) next moves = absurd cc
-version_moved (Sign s) next moves = absurd cc
-version_moved Gone next moves = absurd cc
-version_moved Stray next moves = absurd cc
-version_moved End next moves = absurd cc
+version_moved (Word w) next moves = absurd (none-some next moves)
+version_moved (Sign s) next moves = absurd (none-some next moves)
+version_moved Gone next moves = absurd (none-some next moves)
+version_moved Stray next moves = absurd (none-some next moves)
+version_moved End next moves = absurd (none-some next moves)
 
 abbrev pub front_of : ℕ → Parts
 front_of version = word Fixed (codes "book") ∷ number Fixed version ∷ []

@@ -1,6 +1,7 @@
 -- The rules of a book lead through the states to the end, and each state can be gone on from.
 use Rattle.std.proofs.Common.{◌≡◌, ℕ, ◌+◌, ◌≤◌, ◌==◌, Bool, true, false, ◌||◌, List, [], ◌∷◌, ◌++◌, map, length, Option, Some, None, refl, sym, ap, subst, ◌∙◌, codes, arith}
-use Rattle.std.proofs.lemmas.Bool.{eqb-true}
+use Rattle.std.proofs.lemmas.Option.{none-some}
+use Rattle.std.proofs.lemmas.Bool.{false≢true, eqb-true}
 use Rattle.std.proofs.lemmas.Slice.Eq.{bytes_eq-Decides}
 use Rattle.std.specs.List.{AllByRecursion}
 use Rattle.std.specs.Str.{bytes_eq}
@@ -69,13 +70,13 @@ few_taken : (version : ℕ) (hooked : Bool) (items : List Item) → (version ≡
 few_taken version hooked [] few = tt
 few_taken version hooked (NodeItem node word true sets ∷ items) few =
     (λ h. takes_one version hooked (hook_count items) few, few_taken version true items (λ one. let less = few one in omega (arith, less)))
-few_taken version hooked (NodeItem node word false sets ∷ items) few = (λ h. absurd cc, few_taken version hooked items few)
+few_taken version hooked (NodeItem node word false sets ∷ items) few = (λ h. absurd (false≢true h), few_taken version hooked items few)
 few_taken version hooked (LinkItem from label to ∷ items) few = (tt, few_taken version hooked items few)
 
 taken_few : (version : ℕ) (hooked : Bool) (items : List Item) → AreTaken version hooked items → version ≡ 1 → so_far hooked + hook_count items ≤ 1
 taken_few version true [] taken one = omega arith
 taken_few version false [] taken one = omega arith
-taken_few version true (NodeItem node word true sets ∷ items) taken one = let takes = rw one at taken.0 refl in absurd cc
+taken_few version true (NodeItem node word true sets ∷ items) taken one = absurd (false≢true (rw one at taken.0 refl))
 taken_few version false (NodeItem node word true sets ∷ items) taken one = let rest = taken_few version true items taken.1 one in omega (arith, rest)
 taken_few version hooked (NodeItem node word false sets ∷ items) taken one = taken_few version hooked items taken.1 one
 taken_few version hooked (LinkItem from label to ∷ items) taken one = taken_few version hooked items taken.1 one
@@ -90,7 +91,7 @@ taken_left version items taken one = let less = taken_few version false items ta
 -- no right item is a hook
 pub right_taken : (n version : ℕ) (hooked : Bool) (items : List Item) → AllByRecursion (IsItem n Right) items → AreTaken version hooked items
 right_taken n version hooked [] good = tt
-right_taken n version hooked (NodeItem node word hook sets ∷ items) good = (λ h. (let both : true ≡ false = sym h ∙ good.0.1 in absurd cc), right_taken n version (hook || hooked) items good.1)
+right_taken n version hooked (NodeItem node word hook sets ∷ items) good = (λ h. absurd (false≢true (sym good.0.1 ∙ h)), right_taken n version (hook || hooked) items good.1)
 right_taken n version hooked (LinkItem from label to ∷ items) good = (tt, right_taken n version hooked items good.1)
 
 -- ---- names
@@ -160,8 +161,7 @@ item_is_no_hook spot w next moves = go spot.side refl
     hooked left true e =
         let same : w ≡ codes "hook" = (bytes_eq-Decides w (codes "hook")).0 e in
         let none : item_move spot w ≡ None = rw (same, left) refl in
-        let both : None ≡ Some next = sym none ∙ moves in
-        absurd cc
+        absurd (none-some next (sym none ∙ moves))
 
     go : (side : Side) → spot.side ≡ side → is_hook spot w ≡ false
     go Left e = rw (e, hooked e (bytes_eq w (codes "hook")) refl) refl
@@ -176,8 +176,7 @@ item_is_no_with spot w next moves = go spot.side refl
     set right true e =
         let same : w ≡ codes "with" = (bytes_eq-Decides w (codes "with")).0 e in
         let none : item_move spot w ≡ None = rw (same, right) refl in
-        let both : None ≡ Some next = sym none ∙ moves in
-        absurd cc
+        absurd (none-some next (sym none ∙ moves))
 
     go : (side : Side) → spot.side ≡ side → is_with_on spot.side w ≡ false
     go Left e = rw e refl
@@ -194,10 +193,10 @@ led_behind spot (part ∷ parts) (place, next, is, moves, led) = go part.symbol 
         let plain : is_with_on spot.side w ≡ false = item_is_no_with spot w next moved in
         let role : part.role ≡ item_role spot (Word w) place = rw e at is in
         (place, next, rw (e, other, plain) role, rw (e, other, plain) moved, led)
-    go (Numeral n) e = let none : None ≡ Some next = rw e at moves in absurd cc
-    go (Sign s) e = let none : None ≡ Some next = rw e at moves in absurd cc
-    go Gone e = let none : None ≡ Some next = rw e at moves in absurd cc
-    go Stray e = let none : None ≡ Some next = rw e at moves in absurd cc
+    go (Numeral n) e = absurd (none-some next (rw e at moves))
+    go (Sign s) e = absurd (none-some next (rw e at moves))
+    go Gone e = absurd (none-some next (rw e at moves))
+    go Stray e = absurd (none-some next (rw e at moves))
     go End e = (place, next, rw e (let role : part.role ≡ Fixed = rw e at is in role), rw e (rw e at moves), led)
 
 led_hook : (spot : Spot) (hook : Bool) (parts : List (Part Role)) → (hook ≡ true → spot.side ≡ Left) → (hook ≡ true → takes_hook spot.heading.version spot.hooked ≡ true) → Led (AtItem (record spot { hooked = hook || spot.hooked })) parts
@@ -207,7 +206,7 @@ led_hook spot true parts left takes led = (0, AtItem (with_hook spot), rw (left 
 
 pub hook_side : (n : ℕ) (side : Side) (node : Mention) (word : List Letter) (hook : Bool) (sets : List SetForm) → IsItem n side (NodeItem node word hook sets) → IsFree node × (hook ≡ true → side ≡ Left)
 hook_side n Left node word hook sets good = (good.0, λ h. refl)
-hook_side n Right node word hook sets good = (good.0, λ h. let both : true ≡ false = sym h ∙ good.1 in absurd cc)
+hook_side n Right node word hook sets good = (good.0, λ h. absurd (false≢true (sym good.1 ∙ h)))
 
 pub link_free : (n : ℕ) (side : Side) (from to : Mention) (label : ℕ) → IsItem n side (LinkItem from label to) → IsFree from × IsFree to
 link_free n Left from to label good = good

@@ -1,5 +1,6 @@
 -- Behind the marks of rules these rules are held.
 use Rattle.std.proofs.Common.{◌≡◌, ℕ, ◌+◌, Bool, true, false, ◌||◌, cond, List, [], ◌∷◌, ◌++◌, map, Option, Some, None, refl, sym, ap, subst, ◌∙◌, codes, append_assoc}
+use Rattle.std.proofs.lemmas.Bool.{false≢true}
 use Rattle.std.proofs.lemmas.List.{append-nil}
 use Rattle.std.specs.List.{AllByRecursion}
 use Rattle.std.specs.Str.{bytes_eq}
@@ -104,10 +105,10 @@ behind_same spot (part ∷ parts) held plain = go part.symbol refl
 
 plain_way : (set next pre sign : State) (a b c d : Bool) → a ≡ false → b ≡ false → c ≡ false → d ≡ false → cond a (Some set) (cond b (Some next) (cond c (Some pre) (cond d None (Some sign)))) ≡ Some sign
 plain_way set next pre sign false false false false e f g h = refl
-plain_way set next pre sign true b c d e f g h = absurd cc
-plain_way set next pre sign false true c d e f g h = absurd cc
-plain_way set next pre sign false false true d e f g h = absurd cc
-plain_way set next pre sign false false false true e f g h = absurd cc
+plain_way set next pre sign true b c d e f g h = absurd (false≢true (sym e))
+plain_way set next pre sign false true c d e f g h = absurd (false≢true (sym f))
+plain_way set next pre sign false false true d e f g h = absurd (false≢true (sym g))
+plain_way set next pre sign false false false true e f g h = absurd (false≢true (sym h))
 
 -- a name is no hook and no assignment, and on the right an item can begin with it
 plain_name : (side : Side) (name : Mention) (parts : Parts) → IsFree name → IsPlain side (named name ∷ parts)
@@ -165,7 +166,7 @@ node_held spot node word hook sets rest before rule last Left side good taken pl
 node_held spot node word hook sets rest before rule last Right side good taken plain ends =
     subst (λ (b : Bool). Leaves (AtBehind spot) (spell_hook b (spell_sets sets rest)) (within before (put Right (NodeItem node word false []) rule) Nothing) last) (sym good.1)
     (sets_held spot sets rest before (put Right (NodeItem node word false []) rule) last side good.2 plain
-    (ap (λ (r : RuleForm). held_behind (AtItem spot) (marks_for rest) (within before r Nothing)) (finish_put Right node word false sets rule (λ h. absurd cc) tt)
+    (ap (λ (r : RuleForm). held_behind (AtItem spot) (marks_for rest) (within before r Nothing)) (finish_put Right node word false sets rule (λ h. absurd (false≢true h)) tt)
     ∙ subst (λ (b : Bool). Leaves (AtItem (record spot { hooked = b || spot.hooked })) rest (within before (put Right (NodeItem node word b sets) rule) Nothing) last) good.1 ends))
 
 item_held : (h : Heading) (k : ℕ) (side : Side) (count : Count) (hook_before : Bool) (item : Item) (rest : Parts) (before : List RuleForm) (rule : RuleForm) (part : Part) (last : Held) → IsItem h.dim side item → IsTaken h.version hook_before item → IsPlain side rest

@@ -1,5 +1,6 @@
 -- A schema that passes no limit is read up to its first name or label that is there again, or to its end.
 use Rattle.std.proofs.Common.{◌≡◌, ◌≢◌, ℕ, Bool, true, false, List, [], ◌∷◌, ◌++◌, map, None, Result, Err, refl, sym, ap, subst, ◌∙◌, codes}
+use Rattle.std.proofs.lemmas.Bool.{false≢true}
 use Rattle.std.proofs.lemmas.Slice.Eq.{bytes_eq-Decides}
 use Rattle.std.specs.Str.{bytes_eq}
 use Rattle.gm_model.specs.declared.limit.LimitKind.{LimitKind}
@@ -120,7 +121,7 @@ module _ (form : SchemaForm) (marks rest : List Mark) (stands : Stands limit_of 
     | Stopped place first stops ↦ (let both : Err (Passes Again place) ≡ Err (Ends stop mark) = sym stops ∙ ends in absurd cc)
     | Through k goes ↦ (let both : Err (Ends (AtEmbeds form.dim (map embed_of form.embeds)) stands.next) ≡ Err (Ends stop mark) = sym (ends_behind k) ∙ sym goes ∙ ends in
         let one : AtEmbeds form.dim (map embed_of form.embeds) ≡ stop = cc both in
-        let contrary : true ≡ false = ap is_whole one ∙ part in absurd cc)
+        absurd (false≢true (sym part ∙ sym (ap is_whole one))))
   ]
 
   no_limit : (what : LimitKind) (place : ℕ) → run_in true AtDim 0 marks ≡ Err (Passes (LimitOf what) place) → ⊥
