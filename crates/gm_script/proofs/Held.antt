@@ -11,7 +11,7 @@ use Rattle.gm_model.specs.Labels.{has}
 use Rattle.gm_model.specs.Tokens.{bytes_of}
 use Rattle.gm_model.specs.Symbols.{Symbol, Word, Numeral}
 use Rattle.gm_text.specs.SchemaText.{LimitOf, Again, no_labels, with_label}
-use Rattle.gm_text.specs.ValueText.{integer}
+use Rattle.gm_text.specs.ValueText.{greatest, integer}
 use Rattle.gm_script.specs.ScriptText.{ValueForm, Plain, Truth, Pair, Triple, StatForm}
 use Rattle.gm_script.specs.Reading.{HeldStat, Held, Been, been_of, been_behind, head_word, number_passes, passed_in, sight_of, next_spot, next_head, hold, hold_head, hold_number, hold_vector, new_stat, within_behind, whole_stat, ended_by, put_first, IsInText}
 use Rattle.gm_script.specs.declared.sight.Head.{Head}
@@ -49,16 +49,20 @@ low_label n l true again e f = absurd cc
 low_label n l false again e f = grind (arith, nat_tests, e)
 
 -- a number that passes nothing is held as it is
+whole : (m : ℕ) (minus : Bool) → cond (nat_lt (greatest minus) (min m (2 ^ 64 - 1))) (Some (LimitOf limits.Integer)) None ≡ None → min m (2 ^ 64 - 1) ≡ m
+whole m true free = grind (arith, nat_tests)
+whole m false free = grind (arith, nat_tests)
+
 small : (n : ℕ) (spot : Spot) (labels : Mask) (m : ℕ) → n ≤ 7 → number_passes n spot labels (min m (2 ^ 64 - 1)) ≡ None → min m (2 ^ 64 - 1) ≡ m
 small n spots.Rule labels m low free = grind (arith, nat_tests)
 small n spots.Orbit labels m low free =
     let least : min m (2 ^ 64 - 1) ≤ n = low_label n (min m (2 ^ 64 - 1)) (nat_lt n (min m (2 ^ 64 - 1))) (has labels (min m (2 ^ 64 - 1))) refl free in
     omega (arith, least, low)
-small n spots.Minus labels m low free = grind (arith, nat_tests)
-small n spots.OpenMinus labels m low free = grind (arith, nat_tests)
-small n spots.FirstMinus labels m low free = grind (arith, nat_tests)
-small n spots.SecondMinus labels m low free = grind (arith, nat_tests)
-small n _ labels m low free = grind (arith, nat_tests)
+small n spots.Minus labels m low free = whole m true free
+small n spots.OpenMinus labels m low free = whole m true free
+small n spots.FirstMinus labels m low free = whole m true free
+small n spots.SecondMinus labels m low free = whole m true free
+small n _ labels m low free = whole m false free
 
 -- ---- what has been
 
