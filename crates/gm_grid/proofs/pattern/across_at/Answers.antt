@@ -123,9 +123,9 @@ returns-in-6-clause-name c = c.name_of-in-6.ensures.name ∙ sym (left c.args.m 
 
 pub returns-in_default-clause-name : goal.returns-in_default-clause-name
 returns-in_default-clause-name c = c.name_of-in_default.ensures.name ∙ sym (elim c.in_default.branch [
-    in_default-via-in-0+else-row-gt0 w ↦ no_above c.args.m c.args.place.row c.args.place.column c.args.place.number w.in-0.is w.if-row-gt0.false
+  | in_default-via-in-0+else-row-gt0 w ↦ no_above c.args.m c.args.place.row c.args.place.column c.args.place.number w.in-0.is w.if-row-gt0.false
   | in_default-via-in-2+else-column-m w ↦ no_right c.args.m c.args.place.row c.args.place.column c.args.place.number (omega arith) (omega arith) w.if-column-m.false
   | in_default-via-in-4+else-row-m w ↦ no_below c.args.m c.args.place.row c.args.place.column c.args.place.number (omega arith) (omega arith) w.if-row-m.false
   | in_default-via-in-6+else-column-gt0 w ↦ no_left c.args.m c.args.place.row c.args.place.column c.args.place.number (omega arith) w.if-column-gt0.false
   | in_default-via-else-number-lt2+else-number-lt4+else-number-lt6+else-number-lt8 w ↦ absurd (omega arith)
-  ])
+])
