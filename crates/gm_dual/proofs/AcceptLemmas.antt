@@ -1,8 +1,7 @@
 -- The dual of an accepted rule is accepted.
-use Rattle.std.proofs.Common.{◌≡◌, ◌≢◌, ℕ, zero, suc, ◌+◌, ◌<◌, ◌≤◌, ◌⊎◌, ◌↔◌, Bool, true, false, IsTrue, IsFalse, List, [], ◌∷◌, map, length, Option, Some, None, slice_get, refl, sym, ap, ap₂, subst, ◌∙◌, inl, inr, arith}
+use Rattle.std.proofs.Common.{◌≡◌, ℕ, ◌<◌, ◌≤◌, IsTrue, List, [], ◌∷◌, map, length, Option, Some, None, slice_get, refl, sym, ap, subst, ◌∙◌, inl, inr, arith}
 use Rattle.std.specs.List.{AllByRecursion, Contains}
-use Rattle.std.specs.Option.{option_and_then, option_map, unwrap_or}
-use Rattle.std.proofs.lemmas.Bool.{false≢true}
+use Rattle.std.specs.Option.{option_and_then, option_map}
 use Rattle.std.proofs.lemmas.List.{length-map}
 use Rattle.std.proofs.lemmas.Option.{slice_get-map}
 use Rattle.gm_arena.proofs.InsideLemmas.{some_from_map}
@@ -17,16 +16,14 @@ use Rattle.gm_model.specs.declared.word.Letter.{Letter}
 use Rattle.gm_model.specs.declared.word.Letter.TheVariants.{At, Gone}
 use Rattle.gm_model.specs.declared.word.Mask.{Mask}
 use Rattle.gm_model.specs.Kinds.{HasKind, IsMaskInRange, IsTermInRange, IsTreeInRange, IsTyped, embed_kind, only_int, param_kinds, sum_kind, tree_kind}
-use Rattle.gm_model.specs.Labels.{has}
-use Rattle.gm_model.specs.Maps.{IsEmbedAt}
-use Rattle.gm_model.specs.Orbits.{IsPathIn, Labels}
-use Rattle.gm_model.specs.Rules.{Assignment, Assigns, IsLinked, Rule, RuleNode, has_word, is_added, is_preserved, is_removed, letters, link_from, links_on, width}
-use Rattle.gm_model.specs.Structure.{HasArcs, HasHook, HasIncidence, HasLabelsUpTo, HasOnBoth, HasPlainHook, HasWidth, IsConnected, IsInRange, IsJoined, IsLinkInRange, IsPlainWord, IsStructured, Leads, any_label}
+use Rattle.gm_model.specs.Orbits.{IsPathIn}
+use Rattle.gm_model.specs.Rules.{Assignment, Assigns, IsLinked, Rule, RuleNode, has_word, letters, link_from, links_on}
+use Rattle.gm_model.specs.Structure.{HasLabelsUpTo, IsInRange, IsLinkInRange, Leads, any_label}
 use Rattle.gm_model.specs.Trees.{Tree, Number, Truth, Param, Field, Same, Count, Sum, Least, Greatest, Unary, Binary, If, MakeVec2, MakeVec3, MakeRgb}
-use Rattle.gm_dual.specs.Duals.{dual_assignment, dual_embed, dual_label, dual_letter, dual_link, dual_mask, dual_node, dual_rule, dual_schema, dual_term, dual_tree, dual_word}
-use Rattle.gm_dual.proofs.LabelLemmas.{dual_most, dual_twice}
+use Rattle.gm_dual.specs.Duals.{dual_assignment, dual_embed, dual_label, dual_link, dual_mask, dual_node, dual_rule, dual_schema, dual_term, dual_tree, dual_word}
+use Rattle.gm_dual.proofs.LabelLemmas.{dual_most}
 use Rattle.gm_dual.proofs.MaskLemmas.{dual_labels}
-use Rattle.gm_dual.proofs.RuleLemmas.{added_dual, arcs_dual, contains_from_map, contains_map, has_word_dual, letters_dual, links_dual, preserved_dual, removed_dual, width_dual}
+use Rattle.gm_dual.proofs.RuleLemmas.{contains_from_map, contains_map, has_word_dual, letters_dual, links_dual}
 use Rattle.gm_dual.proofs.SoundLemmas.{embed_from_dual}
 use Rattle.gm_dual.proofs.TwiceLemmas.{few_in_range}
 

@@ -1,27 +1,23 @@
 -- The conditions on a rule hold of its dual: structure and arcs, squares, and where values come from.
-use Rattle.std.proofs.Common.{◌≡◌, ◌≢◌, ℕ, zero, suc, ◌+◌, ◌-◌, ◌<◌, ◌≤◌, ◌⊎◌, ◌↔◌, Bool, true, false, IsTrue, IsFalse, List, [], ◌∷◌, map, length, get_or, Option, Some, None, slice_get, refl, sym, ap, ap₂, subst, ◌∙◌, inl, inr, arith}
+use Rattle.std.proofs.Common.{◌≡◌, ℕ, ◌+◌, ◌<◌, ◌≤◌, IsTrue, List, [], ◌∷◌, map, length, Some, slice_get, sym, ap, subst, ◌∙◌, inl, inr, arith}
 use Rattle.std.specs.List.{Contains}
-use Rattle.std.specs.Option.{option_and_then, option_map, unwrap_or}
-use Rattle.std.proofs.lemmas.Bool.{false≢true}
+use Rattle.std.specs.Option.{option_map}
 use Rattle.std.proofs.lemmas.List.{length-map}
 use Rattle.std.proofs.lemmas.Option.{slice_get-map}
 use Rattle.gm_arena.proofs.InsideLemmas.{some_from_map}
 use Rattle.gm_model.specs.declared.rule.Link.{Link}
 use Rattle.gm_model.specs.declared.rule.Side.{Side}
 use Rattle.gm_model.specs.declared.rule.Side.TheVariants.{Left, Right}
-use Rattle.gm_model.specs.declared.schema.Embed.{Embed}
 use Rattle.gm_model.specs.declared.schema.Schema.{Schema}
-use Rattle.gm_model.specs.declared.step.Step.{Step}
-use Rattle.gm_model.specs.declared.step.Step.TheVariants.{Absent, Exp, Imp}
 use Rattle.gm_model.specs.declared.word.Letter.{Letter}
 use Rattle.gm_model.specs.declared.word.Letter.TheVariants.{At, Gone}
-use Rattle.gm_model.specs.Components.{ComesAlong, ComesFromOne, HasLetterIn, HasSource, HasSources, IsAssigned, IsInherited, IsKeeper, IsTogether, WereTogether}
-use Rattle.gm_model.specs.Maps.{IsEmbedAt, IsSchema, type_of}
+use Rattle.gm_model.specs.Components.{HasLetterIn, HasSource, HasSources, IsAssigned, IsKeeper, IsTogether, WereTogether}
+use Rattle.gm_model.specs.Maps.{IsSchema, type_of}
 use Rattle.gm_model.specs.Orbits.{IsPathIn, Labels}
-use Rattle.gm_model.specs.Rules.{Assignment, Assigns, IsLinked, Rule, RuleNode, has_word, is_preserved, letters, link_from}
-use Rattle.gm_model.specs.Structure.{HasArcs, HasIncidence, HasLabel, HasOnBoth, HasWidth, IsConnected, IsJoined, IsPlainWord, IsStructured, Leads, any_label}
+use Rattle.gm_model.specs.Rules.{Assignment, IsLinked, Rule, RuleNode, has_word, is_preserved, letters, link_from}
+use Rattle.gm_model.specs.Structure.{HasArcs, HasIncidence, HasLabel, IsJoined, IsPlainWord, IsStructured, Leads}
 use Rattle.gm_dual.specs.Duals.{dual_assignment, dual_embed, dual_label, dual_letter, dual_link, dual_node, dual_rule, dual_schema, dual_tree, dual_word}
-use Rattle.gm_dual.proofs.AcceptLemmas.{any_path, assigns_from, leads_dual}
+use Rattle.gm_dual.proofs.AcceptLemmas.{any_path, leads_dual}
 use Rattle.gm_dual.proofs.LabelLemmas.{dual_most, dual_twice}
 use Rattle.gm_dual.proofs.RuleLemmas.{added_dual, arcs_dual, contains_from_map, contains_map, has_word_dual, letters_dual, preserved_dual, removed_dual, width_dual}
 use Rattle.gm_dual.proofs.SoundLemmas.{embed_from_dual, has_embed_dual}

@@ -1,5 +1,5 @@
 -- An application of the dual rule to the dual map is done where that of the rule to the map is, with the dual of its result.
-use Rattle.std.proofs.Common.{◌≡◌, ℕ, ◌+◌, ◌*◌, ◌<◌, ◌≤◌, ◌⊎◌, ◌↔◌, Bool, true, IsTrue, List, length, map, Option, Some, slice_get, refl, sym, ap, ap₂, subst, ◌∙◌, inl, inr}
+use Rattle.std.proofs.Common.{◌≡◌, ℕ, ◌*◌, ◌≤◌, true, sym, ap, subst, ◌∙◌}
 use Rattle.std.specs.Option.{option_map}
 use Rattle.std.proofs.lemmas.Option.{slice_get-map}
 use Rattle.gm_arena.proofs.InsideLemmas.{some_from_map}
@@ -11,16 +11,14 @@ use Rattle.gm_model.specs.Acceptance.{IsAccepted}
 use Rattle.gm_model.specs.Applications.{Application, GivesValue, IsDone, IsReady, IsResult, IsStaying, MeetsPre, more}
 use Rattle.gm_model.specs.Maps.{IsDart, IsEmbedAt, IsSchema, Map, type_of}
 use Rattle.gm_model.specs.Matches.{Placement}
-use Rattle.gm_model.specs.NewValues.{IsAssignedAt, IsDecidedBy, IsUndecided, IsValueAfter, LiesIn}
+use Rattle.gm_model.specs.NewValues.{IsAssignedAt, IsUndecided, IsValueAfter, LiesIn}
 use Rattle.gm_model.specs.NewValues.IsValueAfter.{Added, Decided, Kept}
 use Rattle.gm_model.specs.Orbits.{IsInOrbit, Labels}
-use Rattle.gm_model.specs.Rules.{Assigns, Rule, RuleNode}
-use Rattle.gm_model.specs.Trees.{Tree}
 use Rattle.gm_model.specs.Unfolding.{IsGone, IsUnfolding, name_in, scene_of}
 use Rattle.gm_dual.specs.Duals.{dual_application, dual_assignment, dual_embed, dual_label, dual_map, dual_node, dual_rule, dual_schema, dual_tree}
 use Rattle.gm_dual.proofs.ConditionLemmas.{assigned_from, assigned_to, keeper_dual}
 use Rattle.gm_dual.proofs.MatchLemmas.{match_dual}
-use Rattle.gm_dual.proofs.ReadLemmas.{dual_reading, list_alike, value_dual}
+use Rattle.gm_dual.proofs.ReadLemmas.{list_alike, value_dual}
 use Rattle.gm_dual.proofs.RuleLemmas.{added_dual, contains_map}
 use Rattle.gm_dual.proofs.SceneLemmas.{added_nodes_dual, dual_scene, name_dual, scene_dual, unfolding_dual}
 use Rattle.gm_dual.proofs.SoundLemmas.{embed_from_dual, has_embed_dual, orbit_from_dual, orbit_to_dual}

@@ -1,16 +1,14 @@
 -- A match of a rule is one of its dual in the dual map, with the same positions, turns and darts.
-use Rattle.std.proofs.Common.{◌≡◌, ◌≢◌, ℕ, ◌+◌, ◌<◌, ◌≤◌, ◌⊎◌, Bool, IsTrue, List, [], ◌∷◌, map, take, length, get_or, Some, slice_get, refl, sym, ap, ap₂, subst, ◌∙◌, inl, inr, arith}
+use Rattle.std.proofs.Common.{◌≡◌, ℕ, ◌<◌, List, take, length, get_or, sym, ap, subst, ◌∙◌}
 use Rattle.std.specs.List.{Contains}
-use Rattle.std.proofs.lemmas.Bool.{cases_lt}
 use Rattle.gm_model.specs.declared.rule.Side.TheVariants.{Left}
-use Rattle.gm_model.specs.declared.schema.Schema.{Schema}
 use Rattle.gm_model.specs.declared.step.Step.{Step}
 use Rattle.gm_model.specs.declared.step.Step.TheVariants.{Absent, Exp, Imp}
-use Rattle.gm_model.specs.Maps.{IsDart, Map, dimension}
-use Rattle.gm_model.specs.Matches.{ArePositions, IsEmbedding, IsHooked, IsInstance, IsMatch, IsStepMet, Placement, along_hook}
+use Rattle.gm_model.specs.Maps.{Map}
+use Rattle.gm_model.specs.Matches.{ArePositions, IsEmbedding, IsInstance, IsMatch, IsStepMet, Placement, along_hook}
 use Rattle.gm_model.specs.Matches.ArePositions.{Created, Walked}
-use Rattle.gm_model.specs.Orbits.{IsLeastStep, IsPairBefore, IsWalk, IsWalkTo}
-use Rattle.gm_model.specs.Rules.{Rule, has_word, hook_label, step, width}
+use Rattle.gm_model.specs.Orbits.{IsLeastStep, IsWalk, IsWalkTo}
+use Rattle.gm_model.specs.Rules.{Rule, hook_label, step, width}
 use Rattle.gm_model.specs.Structure.{HasIncidence, IsInRange}
 use Rattle.gm_dual.specs.Duals.{dual_label, dual_map, dual_rule}
 use Rattle.gm_dual.proofs.LabelLemmas.{dual_most, dual_twice}

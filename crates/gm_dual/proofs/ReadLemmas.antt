@@ -1,7 +1,6 @@
 -- The dual of an expression has in the dual map the value that the expression has in the map.
-use Rattle.std.proofs.Common.{◌≡◌, ℕ, ◌+◌, ◌<◌, ◌≤◌, ◌⊎◌, ◌↔◌, Bool, true, false, ℤ, ◌≤ℤ◌, List, [], ◌∷◌, map, length, refl, sym, ap, ap₂, subst, ◌∙◌, inl, inr}
+use Rattle.std.proofs.Common.{◌≡◌, ℕ, ◌≤◌, ◌↔◌, true, false, ℤ, ◌≤ℤ◌, List, map, sym, ap, ap₂, subst, ◌∙◌, inl, inr}
 use Rattle.gm_model.specs.declared.expr.DartTerm.{DartTerm}
-use Rattle.gm_model.specs.declared.schema.Schema.{Schema}
 use Rattle.gm_model.specs.declared.value.Value.{Value}
 use Rattle.gm_model.specs.declared.word.Mask.{Mask}
 use Rattle.std.specs.Prelude.{◌==◌}
@@ -9,12 +8,12 @@ use Rattle.gm_model.specs.declared.value.Value.TheVariants as values
 use Rattle.gm_model.specs.Expressions.{HasValue, IsCollected, IsFirstOf, Reading, dart_at}
 use Rattle.gm_model.specs.Kinds.{IsMaskInRange, IsTreeInRange, sum_kind}
 use Rattle.gm_model.specs.Labels.{has}
-use Rattle.gm_model.specs.Orbits.{HasCount, IsInOrbit, IsListOf, follow}
+use Rattle.gm_model.specs.Orbits.{IsInOrbit, IsListOf, follow}
 use Rattle.gm_model.specs.Rules.{Rule}
 use Rattle.gm_model.specs.Trees.{Tree, Number, Truth, Param, Field, Same, Count, Sum, Least, Greatest, Unary, Binary, If, MakeVec2, MakeVec3, MakeRgb}
 use Rattle.gm_model.specs.Values.{kind_of}
 use Rattle.gm_dual.specs.Duals.{dual_label, dual_map, dual_mask, dual_term, dual_tree}
-use Rattle.gm_dual.proofs.LabelLemmas.{dual_twice, duals_twice}
+use Rattle.gm_dual.proofs.LabelLemmas.{duals_twice}
 use Rattle.gm_dual.proofs.MaskLemmas.{has_dual}
 use Rattle.gm_dual.proofs.SoundLemmas.{follow_dual, orbit_from_dual, orbit_to_dual}
 use Rattle.gm_dual.proofs.TwiceLemmas.{few_in_range}

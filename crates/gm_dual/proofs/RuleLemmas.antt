@@ -1,5 +1,5 @@
 -- What the nodes of the dual of a rule have: the words, links and steps of the rule, at the dual of each label.
-use Rattle.std.proofs.Common.{◌≡◌, ℕ, zero, suc, ◌+◌, ◌<◌, ◌≤◌, Bool, true, false, cond, ◌&&◌, not, nat_eq, nat_lt, List, [], ◌∷◌, map, length, get_or, Option, Some, None, is_some, slice_get, refl, sym, ap, ap₂, subst, ◌∙◌, arith}
+use Rattle.std.proofs.Common.{◌≡◌, ℕ, zero, suc, ◌+◌, Bool, true, false, cond, ◌&&◌, not, nat_lt, List, [], ◌∷◌, map, length, Option, Some, None, is_some, slice_get, refl, sym, ap, ap₂, ◌∙◌, arith}
 use Rattle.std.specs.List.{Contains, count_by, find, position, position_or_len}
 use Rattle.std.specs.Option.{option_and_then, option_map, unwrap_or}
 use Rattle.std.specs.Prelude.{◌==◌, ◌||◌}

@@ -1,16 +1,16 @@
 -- What the dual of a rule makes of the dual map is the dual of what the rule makes of the map.
-use Rattle.std.proofs.Common.{◌≡◌, ℕ, zero, suc, ◌+◌, ◌*◌, ◌<◌, ◌≤◌, ◌⊎◌, ◌↔◌, Bool, IsTrue, if◌then◌else◌, List, length, map, refl, sym, ap, ap₂, subst, ◌∙◌, inl, inr, arith}
+use Rattle.std.proofs.Common.{◌≡◌, ℕ, zero, suc, ◌+◌, ◌*◌, if◌then◌else◌, length, refl, ap, ap₂, ◌∙◌, inl, inr}
 use Rattle.std.proofs.Math.Path.{fun_ext}
 use Rattle.std.proofs.lemmas.List.{length-map}
 use Rattle.gm_model.specs.declared.rule.Side.TheVariants.{Left, Right}
 use Rattle.gm_model.specs.declared.step.Step.{Step}
 use Rattle.gm_model.specs.declared.step.Step.TheVariants.{Absent, Exp, Imp}
-use Rattle.gm_model.specs.Maps.{Map, dimension}
+use Rattle.gm_model.specs.Maps.{Map}
 use Rattle.gm_model.specs.Matches.{Placement}
-use Rattle.gm_model.specs.Rules.{Rule, has_word, is_added, step}
+use Rattle.gm_model.specs.Rules.{Rule, has_word, step}
 use Rattle.gm_model.specs.Unfolding.{IsArcAfter, IsKeptArc, IsMadeArc, IsUnfolding, LeadsBy, Scene, added_before, added_nodes, name_in, scene_of}
 use Rattle.gm_dual.specs.Duals.{dual_label, dual_map, dual_node, dual_rule}
-use Rattle.gm_dual.proofs.LabelLemmas.{dual_least, dual_most, dual_twice}
+use Rattle.gm_dual.proofs.LabelLemmas.{dual_least, dual_most}
 use Rattle.gm_dual.proofs.RuleLemmas.{added_dual, has_word_dual, step_dual}
 
 -- ---- names

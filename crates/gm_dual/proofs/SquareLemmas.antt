@@ -1,6 +1,6 @@
 -- The squares of the dual of a rule close: those of the rule, with their two labels in the other order.
-use Rattle.std.proofs.Common.{◌≡◌, ◌≢◌, ℕ, ◌+◌, ◌<◌, ◌≤◌, ◌⊎◌, Bool, true, false, cond, nat_lt, IsTrue, List, [], ◌∷◌, map, length, get_or, Option, Some, None, slice_get, refl, sym, ap, ap₂, subst, ◌∙◌, inl, inr, arith}
-use Rattle.std.specs.List.{AllByRecursion, find, position, position_or_len}
+use Rattle.std.proofs.Common.{◌≡◌, ℕ, ◌<◌, ◌≤◌, ◌⊎◌, Bool, true, false, cond, nat_lt, IsTrue, List, [], length, get_or, Option, Some, None, slice_get, refl, sym, ap, subst, ◌∙◌, inl, inr, arith}
+use Rattle.std.specs.List.{find, position, position_or_len}
 use Rattle.std.specs.Option.{option_and_then, option_map, unwrap_or}
 use Rattle.std.proofs.lemmas.Bool.{ltb-true}
 use Rattle.std.proofs.lemmas.List.Elements.{All-from_recursion}
@@ -14,10 +14,10 @@ use Rattle.gm_model.specs.declared.word.Letter.{Letter}
 use Rattle.gm_model.specs.declared.word.Letter.TheVariants.{At, Gone}
 use Rattle.gm_model.specs.Rules.{Rule, first_hook, has_word, hook_label, hook_word, is_end, is_label, label_at, label_of, letters, links_on, step, step_by, width, word_at}
 use Rattle.gm_model.specs.Squares.{ClosesBy, HasSquares, IsApart, IsExcused}
-use Rattle.gm_model.specs.Structure.{HasIncidence, HasLabelsUpTo, IsInRange, IsPlainWord}
+use Rattle.gm_model.specs.Structure.{HasIncidence, IsInRange, IsPlainWord}
 use Rattle.gm_model.proofs.Nodes.{node_below}
 use Rattle.gm_theory.proofs.Corners.{closes_swap}
-use Rattle.gm_dual.specs.Duals.{dual_label, dual_letter, dual_rule, dual_word}
+use Rattle.gm_dual.specs.Duals.{dual_label, dual_letter, dual_rule}
 use Rattle.gm_dual.proofs.LabelLemmas.{dual_apart, dual_most}
 use Rattle.gm_dual.proofs.RuleLemmas.{has_word_dual, hook_word_dual, preserved_dual, step_dual}
 

@@ -1,5 +1,5 @@
 -- Few names are all among the first ones.
-use Rattle.std.proofs.Common.{◌≡◌, ℕ, ◌≤◌, List, length, map, take, Option, arith}
+use Rattle.std.proofs.Common.{◌≡◌, ◌≤◌, List, length, map, take, arith}
 use Rattle.std.proofs.lemmas.List.{length-map, take_all}
 use Rattle.gm_model.specs.declared.rule.Node.{Node}
 use Rattle.gm_model.specs.declared.rule.Param.{Param}

@@ -1,4 +1,3 @@
-use Rattle.gm_model.specs.Maps.{IsSchema}
 use Rattle.gm_dual.specs.Duals.{IsDualBook}
 use Rattle.gm_dual.proofs.BookLemmas.{accepted_alike, applied_alike, all_in_range, all_typed, book_twice, ok_too, refused_alike, schema_is_dual}
 use Rattle.gm_dual.proofs.book.dual_book.Goals as goal
