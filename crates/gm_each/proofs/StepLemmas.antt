@@ -1,7 +1,7 @@
 -- The steps that listing the leads takes, as sums of numbers.
-use Rattle.std.proofs.Common.{◌≡◌, ℕ, ◌+◌, ◌*◌, ◌<◌, ◌≤◌, subst, arith}
+use Rattle.std.proofs.Common.{◌≡◌, ℕ, ◌+◌, ◌*◌, ◌<◌, ◌≤◌, arith}
 use Rattle.std.proofs.Math.Nat.{le_trans}
-use Rattle.gm_walk.proofs.MetLemmas.{steps_in_all, steps_more, steps_most}
+use Rattle.gm_walk.proofs.MetLemmas.{steps_in_all, steps_most}
 
 pub none_taken : (start most : ℕ) → start ≤ start + most
 none_taken start most = omega arith
@@ -23,10 +23,6 @@ before_turns start seen = omega arith
 -- a turn that only looks its slot up
 pub turn_passed : (start i before after seen : ℕ) → before ≤ start + i + seen → after ≡ before + 1 → after ≤ start + (i + 1) + seen
 turn_passed start i before after seen was one = omega arith
-
--- a turn that sees an orbit
-pub turn_taken : (k start i before found after old new : ℕ) → before ≤ start + i + k * old → found ≡ before + 1 → after + k * old ≤ found + k * new → after ≤ start + (i + 1) + k * new
-turn_taken k start i before found after old new was one more = steps_more k start i before after old new was (subst (λ s. after + k * old ≤ s + k * new) one more)
 
 -- so many turns are the names at most
 pub turns_most : (k start turns after seen darts names count : ℕ) → after ≤ start + turns + k * seen → turns ≤ names → names ≡ count → darts ≤ names → seen ≡ darts → after ≤ start + (k + 1) * count

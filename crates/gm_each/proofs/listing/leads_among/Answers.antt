@@ -12,11 +12,11 @@ use Rattle.gm_arena.proofs.MapLemmas.{name_at-is}
 use Rattle.gm_walk.specs.Seen.{HasGrownBy, HasLettersOf, HasSeen, IsClosed, seen_count}
 use Rattle.gm_walk.specs.Walks.{letters_of}
 use Rattle.gm_walk.proofs.CountLemmas.{has_slot, name_of_slot, names_counted}
-use Rattle.gm_walk.proofs.MetLemmas.{few_seen}
+use Rattle.gm_walk.proofs.MetLemmas.{few_seen, steps_more}
 use Rattle.gm_walk.proofs.SlotLemmas.{nothing_there, unseen_lacks}
 use Rattle.gm_walk.proofs.WordLemmas.{is_word, letters_of_word}
 use Rattle.gm_each.proofs.LeastLemmas.{HasListed, all_listed, met_listed, new_listed, none_listed}
-use Rattle.gm_each.proofs.StepLemmas.{before_turns, next_within, one_taken, turn_least, turn_passed, turn_taken, turns_most}
+use Rattle.gm_each.proofs.StepLemmas.{before_turns, next_within, one_taken, turn_least, turn_passed, turns_most}
 use Rattle.gm_model.proofs.Exits.{unless_ok}
 use Rattle.std.proofs.Math.Nat.{le_refl}
 use Rattle.std.specs.Prelude.{IfSome, is_some}
@@ -101,7 +101,7 @@ returns-in_err-push-clause-cost g c =
     let after = seen_more m c.requires.generalised lawful c.args.mask c.requires.mask c.word_of-word.result c.word_of-word.ensures names c.requires.names p c.loop-name-test.true c.loop-name.seen c.see_orbit.new.seen c.loop-name.leads.items i.listed c.unwrap-slot.result.at is_at c.if-not-seen-slot.true c.see_orbit.ensures.seen in
     let more = c.see_orbit.ensures.cost i.listed.0 i.listed.1 i.listed.2.closed in
     let k = 4 * (m.schema.dim + 1) in
-    let so_far = turn_taken k c.args.steps.now p c.loop-name.steps c.slot_of.new.steps c.see_orbit.new.steps (seen_count c.loop-name.seen) (seen_count c.see_orbit.new.seen) i.cost c.slot_of.ensures.cost more in
+    let so_far = steps_more k c.args.steps.now p c.loop-name.steps c.slot_of.new.steps c.see_orbit.new.steps (seen_count c.loop-name.seen) (seen_count c.see_orbit.new.seen) i.cost c.slot_of.ensures.cost more in
     let few = few_seen m names c.requires.names after.0 after.1.distinct after.2.live in
     turns_most k c.args.steps.now (p + 1) c.see_orbit.new.steps (seen_count c.see_orbit.new.seen) (length after.0) (length names) m.count so_far (next_within p (length names) c.loop-name-test.true) (names_counted m names c.requires.names lawful) few after.1.counted
 
@@ -129,7 +129,7 @@ loop-name-preserved g c =
             long = rw w.seen-is (w.see_orbit.ensures.long ∙ i.long);
             listed = (after.0, rw w.seen-is after.1, rw (w.leads-is, w.in_ok-push.ensures.items) after.2);
             room = rw w.scratch-is (w.see_orbit.ensures.bound ∙ i.room);
-            cost = rw (w.steps-is, w.seen-is) (turn_taken k c.args.steps.now p c.loop-name.steps c.slot_of.new.steps w.see_orbit.new.steps (seen_count c.loop-name.seen) (seen_count w.see_orbit.new.seen) i.cost c.slot_of.ensures.cost more);
+            cost = rw (w.steps-is, w.seen-is) (steps_more k c.args.steps.now p c.loop-name.steps c.slot_of.new.steps w.see_orbit.new.steps (seen_count c.loop-name.seen) (seen_count w.see_orbit.new.seen) i.cost c.slot_of.ensures.cost more);
             least = rw w.steps-is (turn_least c.args.steps.now c.loop-name.steps c.slot_of.new.steps w.see_orbit.new.steps i.least c.slot_of.ensures.cost w.see_orbit.ensures.least);
           }
       | else-not-seen-slot w ↦
