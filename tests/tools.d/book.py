@@ -4,8 +4,8 @@ import sys
 import tempfile
 from pathlib import Path
 
-from kit import program
-from kit.books import load_book, read_book, split_book
+from gmr import program
+from gmr.books import load_book, read_book, split_book
 
 ROOT = Path(__file__).resolve().parents[2]
 FIRST = """# Of corners.

@@ -8,7 +8,7 @@ from collections.abc import Iterator
 from pathlib import Path
 from typing import NamedTuple
 
-from kit.program import find_program
+from gmr.program import find_program
 
 ROOT = Path(__file__).resolve().parents[2]
 CRATES = ROOT / "crates"
@@ -84,7 +84,7 @@ def test_where_to_change_what() -> None:
 def test_modules_are_there() -> None:
     """The modules of the tools that ARCHITECTURE names are there, and none is longer than 400 lines."""
     text = (ROOT / "docs" / "ARCHITECTURE.md").read_text(encoding="utf-8")
-    assert not [path for path in re.findall(r"`(tools/kit/\w+\.py)`", text) if not (ROOT / path).is_file()]
+    assert not [path for path in re.findall(r"`(python/gmr/[\w/]+\.py)`", text) if not (ROOT / path).is_file()]
     files = [path for path in (ROOT / "tools").rglob("*") if path.is_file() and path.suffix in ("", ".py")]
     lengths = {path.name: len(path.read_text(encoding="utf-8").splitlines()) for path in files}
     assert not {name: length for name, length in lengths.items() if length > 400}

@@ -7,11 +7,11 @@ import tempfile
 import time
 from pathlib import Path
 
-from kit import maps
-from kit.draw_flat import draw
-from kit.draw_model import load_model, model_of
-from kit.draw_order import back_to_front
-from kit.draw_solid import View, faces_of
+from gmr import maps
+from gmr.draw.flat import draw
+from gmr.draw.model import load_model, model_of
+from gmr.draw.order import back_to_front
+from gmr.draw.solid import View, faces_of
 
 ROOT = Path(__file__).resolve().parents[2]
 LIBRARY = ROOT / "examples" / "operations"

@@ -5,9 +5,9 @@ import subprocess
 import sys
 from pathlib import Path
 
-from kit import maps
-from kit.finder import Finder, Spot
-from kit.distances import holds_within, normal_of, to_polygon, to_segment, turns_round
+from gmr import maps
+from gmr.find.finder import Finder, Spot
+from gmr.distances import holds_within, normal_of, to_polygon, to_segment, turns_round
 
 ROOT = Path(__file__).resolve().parents[2]
 SQUARE = "examples/painted.gmap"

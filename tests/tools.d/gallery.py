@@ -5,8 +5,8 @@ import tempfile
 from collections.abc import Callable
 from pathlib import Path
 
-from kit.mesh_formats import read_mesh
-from kit.mesh_model import Volume
+from gmr.mesh.formats import read_mesh
+from gmr.mesh.model import Volume
 
 ROOT = Path(__file__).resolve().parents[2]
 GALLERY = ROOT / "examples" / "gallery"

@@ -4,14 +4,14 @@ import sys
 import tempfile
 from pathlib import Path
 
-from kit.books import read_book
-from kit.infer import infer, write_book
-from kit.infer_compare import are_same
-from kit.infer_example import NoRule, compare
-from kit.infer_place import draft_of
-from kit.infer_terms import Term, find_expression
-from kit.maps import Map, read_map
-from kit.program import answer
+from gmr.books import read_book
+from gmr.infer.inference import infer, write_book
+from gmr.infer.compare import are_same
+from gmr.infer.example import NoRule, compare
+from gmr.infer.place import draft_of
+from gmr.infer.terms import Term, find_expression
+from gmr.maps import Map, read_map
+from gmr.program import answer
 
 ROOT = Path(__file__).resolve().parents[2]
 LIBRARY = ROOT / "examples" / "operations"

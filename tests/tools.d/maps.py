@@ -1,4 +1,4 @@
-"""Tests of tools/kit/maps.py: texts of maps are read and printed, and orbits walked; and of how the program is run."""
+"""Tests of python/gmr/maps.py: texts of maps are read and printed, and orbits walked; and of how the program is run."""
 import os
 import shutil
 import subprocess
@@ -7,8 +7,8 @@ import tempfile
 import time
 from pathlib import Path
 
-from kit import maps, program
-from kit.maps import Embed, Map, read_map
+from gmr import maps, program
+from gmr.maps import Embed, Map, read_map
 
 ROOT = Path(__file__).resolve().parents[2]
 EXAMPLES = ROOT / "examples"
@@ -102,11 +102,11 @@ def test_large_maps_take_a_second_or_two():
 
 
 def test_the_program_that_is_run():
-    words = [sys.executable, "-c", "from kit import program; print(program.find_program())"]
+    words = [sys.executable, "-c", "from gmr import program; print(program.find_program())"]
 
     def found(**more: str) -> str:
         kept = {name: value for name, value in os.environ.items() if name != "GMR"}
-        environment = {**kept, "PYTHONPATH": str(ROOT / "tools"), **more}
+        environment = {**kept, "PYTHONPATH": str(ROOT / "python"), **more}
         return subprocess.run(words, capture_output=True, text=True, check=True, env=environment).stdout.strip()
 
     built = ROOT / "crates" / "gmr" / "out" / "gmr"
@@ -117,7 +117,8 @@ def test_the_program_that_is_run():
 
 def test_a_program_that_is_not_built():
     with tempfile.TemporaryDirectory() as folder:
-        shutil.copytree(ROOT / "tools", Path(folder, "tools"), ignore=shutil.ignore_patterns("__pycache__"))
+        for part in ("tools", "python"):
+            shutil.copytree(ROOT / part, Path(folder, part), ignore=shutil.ignore_patterns("__pycache__"))
         environment = {name: value for name, value in os.environ.items() if name != "GMR"}
         words = [sys.executable, Path(folder, "tools", "find"), ROOT / "examples" / "square.gmap", "--list", "2"]
         said = subprocess.run(words, capture_output=True, text=True, check=False, env=environment)

@@ -10,11 +10,11 @@ from contextlib import contextmanager
 from fractions import Fraction
 from pathlib import Path
 
-from kit import maps, program
-from kit.mesh_convert import Wish, make_map, make_mesh
-from kit.mesh_formats import VOLUME_FORMATS, list_written, read_mesh, write_mesh, writes_volumes
-from kit.mesh_model import Surface, Unfit, Volume, make_cell, make_polyhedron
-from kit.mesh_scale import choose_scale, read_scale
+from gmr import maps, program
+from gmr.mesh.convert import Wish, make_map, make_mesh
+from gmr.mesh.formats import VOLUME_FORMATS, list_written, read_mesh, write_mesh, writes_volumes
+from gmr.mesh.model import Surface, Unfit, Volume, make_cell, make_polyhedron
+from gmr.mesh.scale import choose_scale, read_scale
 
 ROOT = Path(__file__).resolve().parents[2]
 TOOL = ROOT / "tools" / "mesh"

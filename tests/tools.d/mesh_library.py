@@ -2,11 +2,11 @@
 import re
 from functools import cache
 
-from kit import maps, program
-from kit.maps import Map
-from kit.mesh_convert import make_map, make_mesh
-from kit.mesh_formats import read_mesh, write_mesh
-from kit.mesh_model import Unfit
+from gmr import maps, program
+from gmr.maps import Map
+from gmr.mesh.convert import make_map, make_mesh
+from gmr.mesh.formats import read_mesh, write_mesh
+from gmr.mesh.model import Unfit
 from mesh import ONE, OPERATIONS, place, scratch
 
 # How many operations of each book are run at least; the others' maps are empty or open, or have faces of two corners.

@@ -2,10 +2,10 @@
 import struct
 from fractions import Fraction
 
-from kit import maps
-from kit.mesh_convert import Wish, make_map
-from kit.mesh_formats import read_mesh
-from kit.mesh_model import Volume
+from gmr import maps
+from gmr.mesh.convert import Wish, make_map
+from gmr.mesh.formats import read_mesh
+from gmr.mesh.model import Volume
 from mesh import (
     FILE_COLOURS,
     HOUSE_COLOURS,

@@ -4,11 +4,11 @@ from collections.abc import Callable
 from fractions import Fraction
 from pathlib import Path
 
-from kit import maps, program
-from kit.mesh_convert import make_map, make_mesh
-from kit.mesh_formats import read_mesh, write_mesh
-from kit.mesh_model import CELL_FACES, Surface, Unfit, Volume, make_cell, make_polyhedron
-from kit.mesh_scale import choose_scale, scale_points
+from gmr import maps, program
+from gmr.mesh.convert import make_map, make_mesh
+from gmr.mesh.formats import read_mesh, write_mesh
+from gmr.mesh.model import CELL_FACES, Surface, Unfit, Volume, make_cell, make_polyhedron
+from gmr.mesh.scale import choose_scale, scale_points
 from mesh import CELL_POINTS, HOUSE_FACES, HOUSE_POINTS, ONE, TOOL, block, house, place, read_written, run_tool, scratch
 
 

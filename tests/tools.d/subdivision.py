@@ -7,8 +7,8 @@ from collections.abc import Iterator
 from pathlib import Path
 from typing import NamedTuple
 
-from kit import maps
-from kit.program import answer
+from gmr import maps
+from gmr.program import answer
 
 FOLDER = Path(__file__).resolve().parents[2] / "examples" / "subdivision"
 BOOK = FOLDER / "subdivision.gbook"

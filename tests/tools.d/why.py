@@ -5,18 +5,16 @@ import sys
 import tempfile
 import tomllib
 from collections.abc import Callable, Iterator
-from importlib.machinery import SourceFileLoader
-from importlib.util import module_from_spec, spec_from_loader
 from pathlib import Path
-from types import ModuleType
 from typing import NamedTuple
 
-from kit.books import read_book
-from kit.maps import read_map
-from kit.program import answer
-from kit.scripts import STATEMENTS
-from kit.why_lines import Line, tell_line
-from kit.why_texts import LIMITS
+from gmr.books import read_book
+from gmr.commands.why import Run
+from gmr.maps import read_map
+from gmr.program import answer
+from gmr.scripts import STATEMENTS
+from gmr.why.lines import Line, tell_line
+from gmr.why.texts import LIMITS
 
 ROOT = Path(__file__).resolve().parents[2]
 WHY = ROOT / "tools" / "why"
@@ -197,27 +195,17 @@ def test_each() -> None:
         "line 2 refused at 1 dart\n", "At dart 2 refused: no-match arc a 0 1"])
 
 
-def load_tool() -> ModuleType:
-    """The tool as a module."""
-    loader = SourceFileLoader("why_tool", str(WHY))
-    spec = spec_from_loader(loader.name, loader)
-    assert spec is not None
-    module = module_from_spec(spec)
-    loader.exec_module(module)
-    return module
-
-
 def test_library() -> None:
     """Each line of the library's scripts that is refused is explained, and where a label leads elsewhere the two darts
     differ."""
-    tool, explained = load_tool(), 0
+    explained = 0
     for script in sorted((ROOT / "examples" / "operations").glob("*/*/script.gscript")):
         files = {"MAP": str(script.with_name("before.gmap")), "BOOK": f"{script.parents[1]}.gbook"}
         files["SCRIPT"] = str(script)
         with tempfile.TemporaryDirectory() as folder:
             status, report = answer("run", *files.values(), Path(folder, "out.gmap"))
             assert status in (0, 1), script
-            run = tool.Run(files, report, Path(folder))
+            run = Run(files, report, Path(folder))
             for at in run.refused():
                 said = " ".join(run.tell(at, 1)[0][4:])
                 darts = re.search(r"leads to dart (\d+).*needs dart (\d+)", said)

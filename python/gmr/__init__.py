@@ -1,0 +1,1 @@
+"""Python around gmr, the proved rule modeller on generalised maps."""

@@ -1,0 +1,107 @@
+"""Draws generalised maps of dimension 1 to 3 as a picture: flat with all darts, or as solids with hidden surfaces.
+
+A flat picture has a thick stroke for each dart in its face, from its vertex to the middle of its edge, and a line for
+each pair of neighbours in the colour of its label. A map is drawn where its points are (the first embedding of kind
+vec2 or vec3 over the vertices), or else laid out: each surface flat, a closed one round a face, whose darts stand
+outside, or cut to a net along edges, where the name of the dart across stands. Faces have the colour of the first
+embedding of kind rgb over faces or more, thinned so that what lies behind them is seen, and edges the number of the
+first one of kind int over edges, beside their middles.
+
+A picture of solids needs points. It has the faces in their colours, as they are seen from where --view says, and with
+--names each face's least dart. Of volumes the border is seen, or with --apart each of them."""
+import argparse
+import sys
+from pathlib import Path
+
+from gmr.draw import flat as draw_flat, solid as draw_solid
+from gmr import program
+from gmr.draw.model import Model, load_model
+from gmr.draw.solid import View
+
+FORMS = (".svg", ".png", ".pdf")
+EXAMPLES = """examples:
+  tools/draw out.gmap out.svg                        all darts, with their names
+  tools/draw before.gmap after.gmap both.svg         side by side, each under its file's name
+  tools/draw torus.gmap torus.png --solid            faces, as they are seen
+  tools/draw torus.gmap torus.png --solid --view 60 20 --colours height
+  tools/draw beam.gmap beam.svg --solid --apart 0.2  volumes, pulled apart
+
+The picture's form is that of the name's ending: .svg; and .png and .pdf for solids."""
+
+
+def parse(words: list[str]) -> argparse.Namespace:
+    """The command line, taken apart."""
+    form = argparse.RawDescriptionHelpFormatter
+    usage = "tools/draw MAP [MAP ..] [OUT] [OPTIONS]"
+    parser = argparse.ArgumentParser("tools/draw", usage, __doc__, EXAMPLES, formatter_class=form)
+    parser.add_argument("maps", metavar="MAP", nargs="+",
+                        help="files of maps, which are drawn side by side; a last name that ends in .svg, .png or .pdf "
+                        "is the picture's, which else goes to standard output")
+    parser.add_argument("--names", action="store_true", default=None, help="with names, also where there are many")
+    parser.add_argument("--no-names", action="store_false", dest="names", help="without names")
+    parser.add_argument("--titles", metavar="TITLE", nargs="+", help="what stands above maps, else their files' names")
+    parser.add_argument("--colours", metavar="NAME", help="the embedding with colours, or with values to be coloured")
+    kind = parser.add_mutually_exclusive_group()
+    kind.add_argument("--solid", action="store_true", default=None, help="faces with hidden surfaces, and no darts")
+    kind.add_argument("--flat", action="store_false", dest="solid", help="darts, also of a large map in space")
+    solids = parser.add_argument_group("solids")
+    solids.add_argument("--view", nargs=2, type=float, metavar=("UP", "ROUND"),
+                        help="from how many degrees above, and how many round; else 25 -60, or plane maps from above")
+    solids.add_argument("--axis", choices="xyz", default="z", help="the axis that goes up, else z")
+    solids.add_argument("--apart", type=float, default=0, metavar="SHARE", help="volumes smaller by a share, and all seen")
+    solids.add_argument("--size", type=float, default=5, metavar="INCHES", help="how wide each map is drawn, else 5")
+    solids.add_argument("--columns", type=int, default=4, metavar="N", help="how many maps stand side by side, else 4")
+    solids.add_argument("--clear", type=float, default=0, metavar="SHARE", help="how far one sees through faces, to 1")
+    parsed = parser.parse_intermixed_args(words)
+    has_out = parsed.maps[-1].endswith(FORMS) and len(parsed.maps) > 1
+    parsed.out = parsed.maps.pop() if has_out else None
+    if parsed.titles is not None and len(parsed.titles) != len(parsed.maps):
+        parser.error("say a title for each map")
+    return parsed
+
+
+def is_solid(asked: argparse.Namespace, models: list[Model]) -> bool:
+    """Whether solids are drawn: where it is said, and else of many darts in space."""
+    if asked.solid is not None:
+        return asked.solid
+    return any(map(is_in_space, models)) and sum(len(it.alpha[0]) for it in models) > draw_flat.MOST_NAMES
+
+
+def is_in_space(it: Model) -> bool:
+    """Whether the points of a map don't lie in the plane."""
+    return len({z for _, _, z in it.points.values()}) > 1
+
+
+def titles_of(paths: list[str]) -> list[str | None]:
+    """What stands above maps if it isn't said: nothing above one, else their files' names, with their folders where
+    two files have one name."""
+    names = [Path(path).stem for path in paths]
+    if len(paths) == 1:
+        return [None]
+    return [name if names.count(name) == 1 else f"{Path(path).parent.name}/{name}" for path, name in zip(paths, names)]
+
+
+def main(words: list[str]) -> None:
+    """Draws the maps, to standard output or into a file."""
+    asked = parse(words)
+    models = [load_model(path, asked.colours) for path in asked.maps]
+    titled = list(zip(asked.titles or titles_of(asked.maps), models))
+    form = Path(asked.out).suffix[1:] if asked.out else "svg"
+    if is_solid(asked, models):
+        above, turn = asked.view or ((25, -60) if any(map(is_in_space, models)) else (90, -90))
+        view = View(above, turn, asked.axis, asked.apart, asked.clear, asked.columns, asked.size, asked.names)
+        draw_solid.draw(titled, view, asked.out or sys.stdout.buffer, form)
+    elif form != "svg":
+        raise ValueError(f"a flat picture is .svg, and no .{form}; --solid draws faces as .{form} too")
+    else:
+        with open(asked.out or 1, "w", encoding="utf-8") as file:
+            file.write(draw_flat.draw(titled, asked.names))
+
+
+def run() -> int:
+    """Does what the command line asks for; the status."""
+    try:
+        main(sys.argv[1:])
+    except (OSError, ValueError) as why:
+        program.fail(str(why))
+    return 0

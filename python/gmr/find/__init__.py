@@ -1,0 +1,1 @@
+"""Finds cells of maps."""

@@ -1,0 +1,1 @@
+"""Makes a rule from an example."""

@@ -1,0 +1,1 @@
+"""Meshes become maps, and maps meshes."""

@@ -1,0 +1,1 @@
+"""Says why something is refused."""
