@@ -2,6 +2,7 @@
 import importlib
 import importlib.util
 import os
+import shutil
 import subprocess
 import sys
 from pathlib import Path
@@ -25,6 +26,8 @@ def find_program() -> str:
     """The program that $GMR names, else the one built in this checkout. No tool begins the long proof by itself."""
     named = os.environ.get("GMR")
     if named:
+        if shutil.which(named) is None:
+            raise Refused(f"{named} can't be run: $GMR names no program", 9)
         return named
     built = CHECKOUT / "crates" / "gmr" / "out" / "gmr"
     if not built.exists():

@@ -176,7 +176,7 @@ def test_polygons_that_a_format_lacks_are_refused():
 
 
 def test_a_map_that_the_program_refuses_is_a_fault_of_the_tool():
-    fault = "a fault of this tool: in {}, which it wrote, the program reads"
+    fault = "a fault of this tool: in what it made for {} the program reads"
     answers = {
         "echo refused MAP text 3; exit 4": f"{fault} refused MAP text 3",
         "echo gmap 2": f"{fault} another map",
@@ -191,6 +191,36 @@ def test_a_map_that_the_program_refuses_is_a_fault_of_the_tool():
             words = [program.SYSTEM_PYTHON, TOOL, "import", model, made]
             said = subprocess.run(words, capture_output=True, text=True, check=False, env={"GMR": str(stand_in)})
             assert said.returncode == 1 and said.stderr == f"mesh: {model}: {line.format(made)}\n", said.stderr
+            assert sorted(path.name for path in folder.iterdir()) == ["gmr", "house.obj"], "a part of a file is left"
+
+
+def test_what_is_read_is_never_written_over():
+    with scratch() as folder:
+        model, made = folder / "a.obj", folder / "a.gmap"
+        write_mesh(model, house())
+        before = model.read_bytes()
+        (folder / "link.gmap").symlink_to(model)
+        for out in (model, folder / "." / "a.obj", folder / "link.gmap"):
+            said = run_tool("import", model, out)
+            line = f"mesh: {out} is read, so it can't be written: name another file\n"
+            assert (said.returncode, said.stderr) == (1, line) and model.read_bytes() == before, said.stderr
+        (folder / "map.obj").write_text("gmap 1 dim 2 darts 0")
+        said = run_tool("export", folder / "map.obj", folder / "map.obj")
+        assert said.returncode == 1 and (folder / "map.obj").read_text() == "gmap 1 dim 2 darts 0"
+        said = run_tool("import", model, folder / "nowhere" / "a.gmap")
+        assert said.stderr == f"mesh: {folder}/nowhere/a.gmap: No such file or directory\n", said.stderr
+        made.write_text("what was there")
+        (folder / "bad.obj").write_text(THREE_AT_AN_EDGE)
+        assert run_tool("import", folder / "bad.obj", made).returncode == 1
+        assert made.read_text() == "what was there"
+
+
+def test_the_program_is_looked_for_before_the_work():
+    with scratch() as folder:
+        (folder / "large.obj").write_text("this is no mesh\n")
+        words = [program.SYSTEM_PYTHON, TOOL, "import", folder / "large.obj", folder / "a.gmap"]
+        said = subprocess.run(words, capture_output=True, text=True, check=False, env={"GMR": str(folder / "none")})
+        assert said.returncode == 1 and said.stderr.endswith(f": {folder}/none can't be run: $GMR names no program\n"), said.stderr
 
 
 # What is missing.

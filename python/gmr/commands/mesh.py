@@ -90,6 +90,8 @@ def main() -> None:
             print(export_map(words.map, words.out, words.scale))
     except (Unfit, program.Refused) as refusal:
         program.fail(f"{source}: {refusal}")
+    except ValueError as refusal:
+        program.fail(str(refusal))
     except OSError as error:
         program.fail(f"{error.filename or source}: {error.strerror}")
 

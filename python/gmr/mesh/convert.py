@@ -4,6 +4,7 @@ from pathlib import Path
 from typing import NamedTuple
 
 from gmr import maps, program
+from gmr.files import check_apart, write_beside
 from gmr.maps import Map
 from gmr.mesh.formats import check_written, read_mesh, write_mesh, writes_volumes
 from gmr.mesh.model import POLYHEDRON, Colour, Paint, Surface, Unfit, Volume
@@ -28,26 +29,30 @@ def import_mesh(model: Path, out: Path, scale: Fraction | None, wish: Wish, is_c
     Unfit says why the mesh has no map. Where it is checked, the program reads what was written, and what it refuses
     is a fault of this tool: Refused.
     """
+    check_apart(out, [model])
+    if is_checked:
+        program.find_program()  # a program that isn't there is told before the work
     mesh = read_mesh(model)
     scale = scale or choose_scale(mesh.points)
     made = make_map(mesh, scale, wish)
     text = made.text()
-    out.write_text(tell_scale(scale) + text)
-    if is_checked:
-        check_map(out, text)
+    with write_beside(out) as written:
+        written.write_text(tell_scale(scale) + text)
+        if is_checked:
+            check_map(out, written, text)
     told = f"imported {tell_counts(mesh)} darts {len(made.darts)} scale {scale}"
     return f"{told} colours {tell_colours(made)}" if wish.colours else told
 
 
-def check_map(out: Path, text: str) -> None:
-    """Refused where the program can't be asked, or doesn't read from the file the map whose canonical text this is."""
+def check_map(out: Path, written: Path, text: str) -> None:
+    """Refused where the program can't be asked, or doesn't read from what was written the map of this canonical text."""
     try:
-        if program.put_or_refuse("show", out) != text:
+        if program.put_or_refuse("show", written) != text:
             raise program.Refused("another map", 0)
     except program.Refused as refusal:
         if refusal.status in PROGRAM_FAILED:
             raise
-        line = f"a fault of this tool: in {out}, which it wrote, the program reads {refusal.line}"
+        line = f"a fault of this tool: in what it made for {out} the program reads {refusal.line}"
         raise program.Refused(line, refusal.status) from None
 
 
@@ -75,8 +80,11 @@ def choose_paint(mesh: Surface | Volume, wish: Wish) -> Paint | None:
 def export_map(path: Path, out: Path, scale: Fraction | None) -> str:
     """Writes the mesh of a map's file, and tells what it has in one line. Unfit says why the map has no mesh."""
     check_written(out)
+    check_apart(out, [path])
+    program.find_program()
     mesh = make_mesh(maps.load_map(path), scale or read_scale(path) or Fraction(1), writes_volumes(out))
-    write_mesh(out, mesh)
+    with write_beside(out) as written:
+        write_mesh(written, mesh)
     return f"exported {tell_counts(mesh)}"
 
 
