@@ -235,7 +235,7 @@ def test_what_is_missing_is_told():
     with scratch() as folder:
         for name in ("a.stl", "a.msh"):
             (folder / name).write_text("")
-        said = run_by(program.SYSTEM_PYTHON, "import", folder / "a.stl", "a.gmap", env={"PATH": "/nowhere"})
+        said = run_by(program.SYSTEM_PYTHON, "import", folder / "a.stl", "a.gmap", env={"PATH": "/nowhere", "GMR": program.find_program()})
         assert (
             said.returncode == 1
             and said.stderr == "mesh: the program assimp is missing: apt-get install assimp-utils\n"
