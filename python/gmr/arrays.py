@@ -1,0 +1,172 @@
+"""Maps as numpy's arrays: their text is read and printed at once, for what looks at all darts of large maps."""
+import os
+import re
+import warnings
+from dataclasses import dataclass
+from typing import TYPE_CHECKING
+
+from gmr import program
+from gmr.maps import EMBED, HEAD, WIDTHS, Embed
+
+if TYPE_CHECKING:
+    import numpy
+    from numpy.typing import NDArray
+
+    Whole = NDArray[numpy.int64]
+    Bytes = NDArray[numpy.uint8]
+
+HEAD_BYTES = re.compile(HEAD.pattern.encode())
+IN_ROWS = b"0123456789() \t\r\n-"
+LEAST, MOST = -(2**63), 2**63 - 1
+SPACED_MINUS = re.compile(rb"-[ \t\r\n]+")
+CHUNK = 65_536  # rows that are printed at once
+
+
+@dataclass
+class Arrays:
+    """A map whose darts are told by their rows: row k is the k-th dart by ascending names."""
+
+    version: int
+    dimension: int
+    embeds: list[Embed]
+    next: int
+    names: "Whole"  # of n darts, ascending
+    alpha: "Whole"  # (dimension + 1) x n: the row of the neighbour along each label
+    values: "dict[str, Whole]"  # n x width, for each embedding
+
+    def text(self) -> bytes:
+        """The canonical text."""
+        numpy = program.needs("numpy", "python3-numpy")
+        rows = numpy.arange(len(self.names))
+        columns = [(self.values[embed.name], rows) for embed in self.embeds]
+        return head_of(self.version, self.dimension, self.embeds, self.next, len(rows)) + print_rows(
+            self.names, self.alpha, columns
+        )
+
+
+def head_of(version: int, dimension: int, embeds: list[Embed], following: int, count: int) -> bytes:
+    """The lines of a canonical text above those of its darts."""
+    lines = [f"gmap {version}", f"dim {dimension}"]
+    lines += [f"embed {name} <{' '.join(map(str, sorted(labels)))}> {kind}" for name, labels, kind in embeds]
+    lines += [f"next {following}"] if version == 2 else []
+    return "\n".join([*lines, f"darts {count}", ""]).encode()
+
+
+def print_rows(names: "Whole", alpha: "Whole", columns: "list[tuple[Whole, Whole]]") -> bytes:
+    """The lines of darts: their names, the names of their neighbours, whose rows alpha has, and their values.
+
+    A column is a table of values (m x width), and for each dart the row of the table that has its value.
+    """
+    numpy = program.needs("numpy", "python3-numpy")
+    named = print_numbers(names)
+    tables = [print_values(table) for table, _ in columns]
+    blank = numpy.array([32], numpy.uint8)
+    printed = []
+    for begin in range(0, len(names), CHUNK):
+        part = slice(begin, begin + CHUNK)
+        pieces = [named[part], *(named[step[part]] for step in alpha)]
+        pieces += [table[rows[part]] for table, (_, rows) in zip(tables, columns)]
+        count = len(pieces[0])
+        line = [piece for one in pieces for piece in (numpy.broadcast_to(blank, (count, 1)), one)][1:]
+        ends = numpy.full((count, 1), 10, numpy.uint8)
+        flat = numpy.concatenate([*line, ends], axis=1).ravel()
+        printed.append(flat[flat != 0].tobytes())
+    return b"".join(printed)
+
+
+def print_numbers(numbers: "Whole") -> "Bytes":
+    """Whole numbers as decimals, one a row, with bytes of value 0 where a number is shorter than the longest one."""
+    numpy = program.needs("numpy", "python3-numpy")
+    rest = numpy.abs(numbers).astype(numpy.uint64)
+    width = len(str(int(rest.max()))) if len(rest) else 1
+    found = numpy.zeros((len(rest), width + 1), numpy.uint8)
+    for place in range(width, 0, -1):
+        is_there = (rest > 0) | (place == width)
+        found[:, place] = numpy.where(is_there, rest % numpy.uint64(10) + numpy.uint64(48), 0)
+        rest //= numpy.uint64(10)
+    found[:, 0] = numpy.where(numbers < 0, 45, 0)
+    return found if (numbers < 0).any() else found[:, 1:]
+
+
+def print_values(table: "Whole") -> "Bytes":
+    """Values as a text of a map has them, one a row: in parentheses where they have several numbers."""
+    numpy = program.needs("numpy", "python3-numpy")
+    parts = [print_numbers(column) for column in table.T]
+    if len(parts) == 1:
+        return parts[0]
+    signs = [numpy.full((len(table), 1), sign, numpy.uint8) for sign in (40, 32, 41)]
+    spaced = [piece for part in parts for piece in (signs[1], part)][1:]
+    return numpy.concatenate([signs[0], *spaced, signs[2]], axis=1)
+
+
+def read_arrays(text: bytes) -> Arrays:
+    """The map that a text stands for, as maps.read_map takes it; ValueError with one plain line where it is none."""
+    behind = text.find(b"\n", text.rfind(b"#")) if b"#" in text else 0
+    behind = len(text) if behind < 0 else behind
+    bare = re.sub(rb"#[^\n]*", b" ", text[:behind]) + text[behind:]
+    head = HEAD_BYTES.match(bare)
+    if not head:
+        raise ValueError("this is no text of a map: it doesn't open with gmap, dim and darts")
+    version, dimension, count = int(head[1]), int(head[2]), int(head[8])
+    if version not in (1, 2) or (version == 2) != (head[7] is not None):
+        raise ValueError("a map has version 1, or version 2 with its next name")
+    if not 1 <= dimension <= 7:
+        raise ValueError(f"a map has a dimension from 1 to 7, and not {dimension}")
+    embeds = [
+        Embed(name, tuple(sorted(map(int, labels.split()))), kind)
+        for name, labels, kind in re.findall(EMBED, head[3].decode())
+    ]
+    width = dimension + 2 + sum(WIDTHS[embed.kind] for embed in embeds)
+    rows = read_numbers(bare[head.end():], width, count)
+    return join_rows(version, dimension, embeds, head[7], rows)
+
+
+def read_numbers(body: bytes, width: int, count: int) -> "Whole":
+    """The numbers of the darts' lines: count x width."""
+    numpy = program.needs("numpy", "python3-numpy")
+    if body.translate(None, IN_ROWS):
+        raise ValueError("after 'darts' stands something other than numbers and parentheses")
+    plain = body.translate(bytes.maketrans(b"()", b"  "))
+    if b"-" in plain:
+        plain = SPACED_MINUS.sub(b"-", plain).replace(b"-", b" -")
+    with warnings.catch_warnings():
+        warnings.simplefilter("ignore", DeprecationWarning)  # at what is no number; then the count differs
+        numbers = numpy.fromstring(plain, dtype=numpy.int64, sep=" ") if plain.strip() else numpy.empty(0, numpy.int64)
+    if len(numbers) != width * count:
+        raise ValueError(f"there are {len(numbers)} numbers after 'darts', and not {width} for each of {count} darts")
+    # What passes 64 bits is read as the last number within.
+    is_last = len(numbers) > 0 and (numbers.max() == MOST or numbers.min() == LEAST)
+    if is_last and any(not LEAST <= int(word) <= MOST for word in plain.split() if len(word) > 18):
+        raise ValueError("a number doesn't fit in 64 bits")
+    return numbers.reshape(count, width)
+
+
+def join_rows(version: int, dimension: int, embeds: list[Embed], stated: bytes | None, rows: "Whole") -> Arrays:
+    """The map whose darts have these rows: names, neighbours, and the numbers of their values."""
+    numpy = program.needs("numpy", "python3-numpy")
+    names = rows[:, 0]
+    if (names[1:] <= names[:-1]).any():
+        rows = rows[numpy.argsort(names, kind="stable")]
+        names = rows[:, 0]
+        if (names[1:] == names[:-1]).any():
+            raise ValueError("two darts have one name")
+    alpha = numpy.ascontiguousarray(rows[:, 1:dimension + 2].T)
+    if len(names) and (names[0] != 0 or names[-1] != len(names) - 1):
+        found = numpy.minimum(numpy.searchsorted(names, alpha), len(names) - 1)
+    else:
+        found = numpy.clip(alpha, 0, max(len(names) - 1, 0))
+    wrong = (names[found] != alpha).any(axis=1) if len(names) else numpy.zeros(dimension + 1, bool)
+    if wrong.any():
+        raise ValueError(f"a neighbour along label {int(numpy.argmax(wrong))} is no dart")
+    values, place = {}, dimension + 2
+    for embed in embeds:
+        values[embed.name] = numpy.ascontiguousarray(rows[:, place:place + WIDTHS[embed.kind]])
+        place += WIDTHS[embed.kind]
+    least = int(names[-1]) + 1 if len(names) else 0
+    following = least if stated is None else int(stated)
+    return Arrays(version, dimension, embeds, following, numpy.ascontiguousarray(names), found, values)
+
+
+def load_arrays(path: str | os.PathLike[str]) -> Arrays:
+    """The map of a file, judged by the program first: what it refuses is passed on as program.Refused."""
+    return read_arrays(program.put_or_refuse("show", path).encode())
