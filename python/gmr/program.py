@@ -9,17 +9,10 @@ from pathlib import Path
 from types import ModuleType
 from typing import NoReturn
 
+from gmr.errors import Refused as Refused
+
 CHECKOUT = Path(__file__).resolve().parents[2]
 SYSTEM_PYTHON = "/usr/bin/python3"
-
-
-class Refused(Exception):
-    """What the program refused: its own line, and its status."""
-
-    def __init__(self, line: str, status: int) -> None:
-        super().__init__(line)
-        self.line = line
-        self.status = status
 
 
 def find_program() -> str:
@@ -54,9 +47,14 @@ def put_or_refuse(*words: str | os.PathLike[str]) -> str:
     """What the program puts for the words; Refused with its own first line where its status isn't 0."""
     status, text = answer(*words)
     if status:
-        line = text.split("\n", 1)[0]
-        raise Refused(line or f"the program ended with status {status} and put nothing", status)
+        raise refusal_of(status, text)
     return text
+
+
+def refusal_of(status: int, text: str) -> Refused:
+    """The refusal that the program put, by its first line."""
+    line = text.split("\n", 1)[0]
+    return Refused(line or f"the program ended with status {status} and put nothing", status)
 
 
 def needs(module: str, package: str) -> ModuleType:
