@@ -1,0 +1,1 @@
+"""A page that shows maps, and the scenes that its viewer draws."""

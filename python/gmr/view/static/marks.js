@@ -1,0 +1,54 @@
+// Marks: darts that are lit in a colour, alone or as a vertex, an edge, a face or a volume.
+(function (gmr) {
+  'use strict';
+
+  // A part of each mark's places and ways, one after another.
+  function parts(marks, name, from) {
+    const made = new Float32Array(3 * marks.length);
+    marks.forEach((mark, at) => made.set(mark[name].subarray(from, from + 3), 3 * at));
+    return made;
+  }
+
+  function strokes(shared, marks, from, to, colour, own, order) {
+    const attributes = {begin: [parts(marks, 'places', from), 3], end: [parts(marks, 'places', to), 3],
+      drift: [parts(marks, 'moved', from), 3], drift2: [parts(marks, 'moved', to), 3],
+      colour: [gmr.layers.filled(marks.length, colour), 3, true], id: [new Float32Array(marks.length), 1]};
+    return gmr.draw.strokes(shared, attributes, own, order);
+  }
+
+  function points(shared, marks, colour, order) {
+    const attributes = {position: [parts(marks, 'places', 6), 3], drift: [parts(marks, 'moved', 6), 3],
+      colour: [gmr.layers.filled(marks.length, colour), 3, true], id: [new Float32Array(marks.length), 1]};
+    return gmr.draw.points(shared, attributes, {width: 13, lift: 4e-5}, order);
+  }
+
+  // The triangles between the vertex, the edge and the face of each dart.
+  function fills(shared, marks, colour, order) {
+    const position = new Float32Array(9 * marks.length);
+    const drift = new Float32Array(9 * marks.length);
+    const normal = new Float32Array(9 * marks.length);
+    marks.forEach((mark, at) => {
+      position.set(mark.places.subarray(6, 15), 9 * at);
+      drift.set(mark.moved.subarray(6, 15), 9 * at);
+      const corners = [6, 9, 12].map((from) => Array.from(mark.places.subarray(from, from + 3)));
+      const way = gmr.layers.normalOf(corners);
+      for (let corner = 0; corner < 3; corner += 1) normal.set(way, 9 * at + 3 * corner);
+    });
+    const attributes = {position: [position, 3], drift: [drift, 3], normal: [normal, 3],
+      colour: [gmr.layers.filled(3 * marks.length, colour), 3, true], id: [new Float32Array(3 * marks.length), 1]};
+    return gmr.draw.faces(shared, attributes, {shade: 0.8, fade: 0.45, lift: 1e-5}, order);
+  }
+
+  // The layers that mark darts in a colour.
+  function layersOf(shared, marks, kind, colour, order) {
+    if (!marks.length) return [];
+    if (kind === 'vertex') return [points(shared, marks, colour, order)];
+    if (kind === 'edge') return [strokes(shared, marks, 6, 9, colour, {width: 6, lift: 3.5e-5, least: 6}, order)];
+    const made = [strokes(shared, marks, 0, 3, colour, {width: 5, head: 12, lift: 3.5e-5, least: 2}, order)];
+    const filled = marks.filter((mark) => mark.hasFace);
+    if (filled.length && kind !== 'dart') made.unshift(fills(shared, filled, colour, order));
+    return made;
+  }
+
+  gmr.marks = {layersOf};
+}(window.gmr = window.gmr || {}));

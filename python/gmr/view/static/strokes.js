@@ -1,0 +1,201 @@
+// What is drawn, each kind in one call: strokes of a width in pixels, faces, round points, and names.
+(function (gmr) {
+  'use strict';
+
+  const COMMON = `
+    uniform float apart; uniform float lift; uniform vec2 size;
+    varying vec3 world; varying vec3 tint; varying float mark;
+    vec4 placed(vec3 at, vec3 by) {
+      vec3 there = at + apart * by;
+      world = there;
+      return projectionMatrix * modelViewMatrix * vec4(there, 1.0);
+    }`;
+  const CUT = `
+    uniform vec4 plane; uniform float isPick; uniform float kind; uniform float fade;
+    varying vec3 world; varying vec3 tint; varying float mark;
+    void cutAway() { if (dot(world, plane.xyz) > plane.w) discard; }
+    vec4 named() {
+      float number = floor(mark + 0.5);
+      float high = floor(number / 65536.0), middle = floor((number - high * 65536.0) / 256.0);
+      return vec4(high, middle, number - high * 65536.0 - middle * 256.0, kind) / 255.0;
+    }`;
+
+  // A stroke is a quad along two places, with the head of an arrow where `head` is more than 0: all in pixels.
+  const STROKE = `
+    attribute vec3 begin; attribute vec3 end; attribute vec3 drift; attribute vec3 drift2;
+    attribute vec3 colour; attribute float id;
+    uniform float width; uniform float head; uniform float least;
+    varying float along;
+    ${COMMON}
+    void main() {
+      vec4 q = placed(end, drift2), p = placed(begin, drift);
+      vec2 from = p.xy / p.w * size, to = q.xy / q.w * size;
+      float reach = max(length(to - from), 1e-4);
+      vec2 way = (to - from) / reach, across = vec2(-way.y, way.x);
+      float tip = min(head, 0.6 * reach), thick = clamp(width, 0.6, max(least, 0.34 * reach));
+      float share = position.x;
+      vec4 there = mix(p, q, share);
+      float wide = position.z > 0.5 ? 0.75 * tip : 0.5 * thick;
+      float back = position.x > 0.5 && position.z < 1.5 ? tip : 0.0;
+      vec2 moved = across * position.y * wide - way * back;
+      there.xy += moved / size * there.w;
+      there.z -= lift * there.w;
+      world = mix(begin + apart * drift, end + apart * drift2, share);
+      along = share * reach; tint = colour; mark = id;
+      gl_Position = there;
+    }`;
+  const STROKE_COLOUR = `
+    uniform float dash; varying float along;
+    ${CUT}
+    void main() {
+      cutAway();
+      if (dash > 0.0 && mod(along, 2.0 * dash) > 1.2 * dash && isPick < 0.5) discard;
+      gl_FragColor = isPick > 0.5 ? named() : vec4(tint, fade);
+    }`;
+  const FACE = `
+    attribute vec3 drift; attribute vec3 colour; attribute float id;
+    varying vec3 way;
+    ${COMMON}
+    void main() {
+      gl_Position = placed(position, drift);
+      gl_Position.z -= lift * gl_Position.w;
+      way = normalMatrix * normal; tint = colour; mark = id;
+    }`;
+  const FACE_COLOUR = `
+    uniform float shade; uniform vec3 pale; uniform float paleness; varying vec3 way;
+    ${CUT}
+    void main() {
+      cutAway();
+      vec3 turned = normalize(way);
+      if (turned.z < 0.0) turned = -turned;
+      float light = shade + (1.0 - shade) * (0.55 * max(0.0, dot(turned, normalize(vec3(-0.4, 0.55, 0.73)))) + 0.45 * turned.z);
+      gl_FragColor = isPick > 0.5 ? named() : vec4(mix(tint, pale, paleness) * light, fade);
+    }`;
+  const POINT = `
+    attribute vec3 drift; attribute vec3 colour; attribute float id;
+    uniform float width; uniform float pixels;
+    ${COMMON}
+    void main() {
+      gl_Position = placed(position, drift);
+      gl_Position.z -= lift * gl_Position.w;
+      gl_PointSize = width * pixels;
+      tint = colour; mark = id;
+    }`;
+  const POINT_COLOUR = `
+    ${CUT}
+    void main() {
+      cutAway();
+      if (length(gl_PointCoord - 0.5) > 0.5) discard;
+      gl_FragColor = isPick > 0.5 ? named() : vec4(tint, fade);
+    }`;
+  // A name is a row of digits, each a quad of the picture of all digits, beside a place on the side of its face.
+  const NAME = `
+    attribute vec3 begin; attribute vec3 drift; attribute vec3 inward; attribute vec3 digit;
+    uniform float width; varying vec2 spot;
+    ${COMMON}
+    void main() {
+      vec4 inner = placed(begin + inward, drift);
+      gl_Position = placed(begin, drift);
+      vec2 way = inner.xy / inner.w * size - gl_Position.xy / gl_Position.w * size;
+      way = length(way) > 1e-3 ? normalize(way) : vec2(0.0);
+      vec2 corner = vec2((position.x + digit.y) * width * 0.6, position.y * width);
+      corner += way * (abs(way.x) * 0.3 * width * digit.z + abs(way.y) * width * 0.37 + 5.0);
+      gl_Position.xy += corner / size * gl_Position.w;
+      gl_Position.z -= lift * gl_Position.w;
+      spot = vec2((digit.x + position.x + 0.5) / 10.0, position.y + 0.5);
+    }`;
+  const NAME_COLOUR = `
+    uniform sampler2D digits; uniform vec3 ink; uniform vec3 rim; varying vec2 spot;
+    ${CUT}
+    void main() {
+      cutAway();
+      vec4 read = texture2D(digits, spot);
+      if (read.a < 0.2) discard;
+      gl_FragColor = vec4(mix(rim, ink, read.r), read.a);
+    }`;
+
+  // A material over what all share: how far apart, how large the picture is, and where it is cut.
+  function material(shared, vertexShader, fragmentShader, own, options) {
+    const uniforms = {lift: {value: 0}, fade: {value: 1}, kind: {value: 0}, ...shared};
+    Object.entries(own || {}).forEach(([name, value]) => { uniforms[name] = {value}; });
+    return new THREE.ShaderMaterial({uniforms, vertexShader, fragmentShader, side: THREE.DoubleSide, ...options});
+  }
+
+  // The quad of a stroke and the head of its arrow: x along, y across, z 0 for the shaft, 1 the head's base, 2 its tip.
+  const STROKE_CORNERS = new Float32Array([0, -1, 0, 1, -1, 0, 1, 1, 0, 0, -1, 0, 1, 1, 0, 0, 1, 0, 1, -1, 1, 1, 0, 2, 1, 1, 1]);
+  const QUAD = new Float32Array([-0.5, -0.5, 0, 0.5, -0.5, 0, 0.5, 0.5, 0, -0.5, -0.5, 0, 0.5, 0.5, 0, -0.5, 0.5, 0]);
+
+  function instanced(corners, attributes) {
+    const geometry = new THREE.InstancedBufferGeometry();
+    geometry.addAttribute('position', new THREE.BufferAttribute(corners, 3));
+    Object.entries(attributes).forEach(([name, [array, width, isColour]]) => {
+      geometry.addAttribute(name, new THREE.InstancedBufferAttribute(array, width, Boolean(isColour)));
+    });
+    const first = Object.values(attributes)[0];
+    geometry.maxInstancedCount = first[0].length / first[1];
+    return geometry;
+  }
+
+  function plain(attributes) {
+    const geometry = new THREE.BufferGeometry();
+    Object.entries(attributes).forEach(([name, [array, width, isColour]]) => {
+      geometry.addAttribute(name, new THREE.BufferAttribute(array, width, Boolean(isColour)));
+    });
+    return geometry;
+  }
+
+  function mesh(geometry, made, order) {
+    const found = made.isPoint ? new THREE.Points(geometry, made) : new THREE.Mesh(geometry, made);
+    found.frustumCulled = false;
+    found.renderOrder = order;
+    return found;
+  }
+
+  const draw = {
+    strokes(shared, attributes, own, order) {
+      const made = material(shared, STROKE, STROKE_COLOUR, {width: 2, head: 0, least: 1.2, dash: 0, ...own},
+        {transparent: (own.fade || 1) < 1});
+      return mesh(instanced(STROKE_CORNERS, attributes), made, order);
+    },
+    faces(shared, attributes, own, order) {
+      const isClear = own.fade !== undefined && own.fade < 1;
+      const made = material(shared, FACE, FACE_COLOUR, {shade: 0.6, pale: new THREE.Color('#fff'), paleness: 0, ...own}, {transparent: isClear,
+        depthWrite: !isClear, polygonOffset: true, polygonOffsetFactor: isClear ? 0 : 1.5, polygonOffsetUnits: isClear ? 0 : 4});
+      return mesh(plain(attributes), made, order);
+    },
+    points(shared, attributes, own, order) {
+      const made = material(shared, POINT, POINT_COLOUR, {width: 6, ...own}, {});
+      made.isPoint = true;
+      return mesh(plain(attributes), made, order);
+    },
+    names(shared, attributes, own, order) {
+      return mesh(instanced(QUAD, attributes), material(shared, NAME, NAME_COLOUR, {width: 12, ...own},
+        {transparent: true, depthWrite: false}), order);
+    },
+  };
+
+  // The picture of the ten digits: white with a rim of black, in red where ink is.
+  function digitsTexture() {
+    const canvas = document.createElement('canvas');
+    canvas.width = 10 * 38;
+    canvas.height = 64;
+    const pen = canvas.getContext('2d');
+    pen.font = '600 50px sans-serif';
+    pen.textAlign = 'center';
+    pen.textBaseline = 'middle';
+    pen.lineJoin = 'round';
+    for (let digit = 0; digit < 10; digit += 1) {
+      pen.lineWidth = 9;
+      pen.strokeStyle = '#000';
+      pen.strokeText(String(digit), 38 * digit + 19, 34);
+      pen.fillStyle = '#f00';
+      pen.fillText(String(digit), 38 * digit + 19, 34);
+    }
+    const texture = new THREE.CanvasTexture(canvas);
+    texture.minFilter = THREE.LinearFilter;
+    texture.generateMipmaps = false;
+    return texture;
+  }
+
+  Object.assign(gmr, {draw, digitsTexture});
+}(window.gmr = window.gmr || {}));
