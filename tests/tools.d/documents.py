@@ -90,6 +90,34 @@ def test_modules_are_there() -> None:
     assert not {name: length for name, length in lengths.items() if length > 400}
 
 
+def may_run_out_of_memory(signature: str) -> bool:
+    """Whether a call with these parameters and this result may say that memory ran out."""
+    return re.search(r"alloc: Global|AllocError|OutOfMemory|Result<", signature.split("ensures")[0]) is not None
+
+
+def calls_of(crate: Path) -> set[str]:
+    """The public calls of a crate that may say that memory ran out."""
+    calls: set[str] = set()
+    for path in crate.rglob("src/**/*.rt"):
+        found = re.findall(r"\n( *)pub fn (\w+)(.*?)\n\1\{", path.read_text(encoding="utf-8"), re.DOTALL)
+        calls.update(name for _, name, signature in found if may_run_out_of_memory(signature))
+    return calls
+
+
+def test_sizes_of_calls() -> None:
+    """tests/sizes.table names each public call that may say that memory ran out once, and words that are there."""
+    named: dict[str, list[str]] = {}
+    for line in (ROOT / "tests" / "sizes.table").read_text(encoding="utf-8").splitlines():
+        if line and not line.startswith("#"):
+            crate, calls, path, words = re.fullmatch(r'(\w+): ([\w ]+) -> (\S+) "(.*)"', line).groups()
+            named.setdefault(crate, []).extend(calls.split())
+            assert words in (ROOT / path).read_text(encoding="utf-8"), f"{words!r} isn't in {path}"
+    for crate in sorted(CRATES.glob("gm_*")):
+        calls = set() if crate.name in ("gm_tests", "gm_theory") else calls_of(crate)
+        told = named.get(crate.name, [])
+        assert calls == set(told), (crate.name, sorted(calls ^ set(told)))
+
+
 def test_links() -> None:
     """What a document links to is there."""
     for path in [ROOT / "README.md", *(ROOT / "docs").glob("*.md")]:
