@@ -108,7 +108,7 @@ module _ (schema : Schema) (rule : Rule) (most : schema.dim ≤ 7) where
   embed_range : (e : ℕ) → e < length schema.embeds → e < length (map (dual_embed schema.dim) schema.embeds)
   embed_range e h = omega (arith, h, length-map schema.embeds (dual_embed schema.dim))
 
-  tree_range : (tree : Tree) → IsTreeInRange schema rule tree → IsTreeInRange (dual_schema schema) (dual_rule schema.dim rule) (dual_tree schema.dim tree)
+  pub tree_range : (tree : Tree) → IsTreeInRange schema rule tree → IsTreeInRange (dual_schema schema) (dual_rule schema.dim rule) (dual_tree schema.dim tree)
   tree_range (Number k) h = tt
   tree_range (Truth b) h = tt
   tree_range (Param k) h = h

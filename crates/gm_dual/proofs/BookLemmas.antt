@@ -104,7 +104,7 @@ module _ (book dual : Book) (most : book.schema.dim ≤ 7) (lawful : IsSchema bo
 -- ---- applications
 
 -- the dual of the dual of an application of a rule in range is the application itself
-application_twice : (app : Application) → app.map.schema.dim ≤ 7 → IsSchema app.map.schema → IsInRange app.map.schema app.rule → IsTyped app.map.schema app.rule → dual_application (dual_application app) ≡ app
+pub application_twice : (app : Application) → app.map.schema.dim ≤ 7 → IsSchema app.map.schema → IsInRange app.map.schema app.rule → IsTyped app.map.schema app.rule → dual_application (dual_application app) ≡ app
 application_twice app most lawful in_range typed =
     let before = map_is_twice app.map most lawful in
     let rule = rule_twice app.map.schema app.rule most in_range typed in

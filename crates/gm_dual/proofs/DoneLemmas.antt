@@ -25,22 +25,22 @@ use Rattle.gm_dual.proofs.SoundLemmas.{embed_from_dual, has_embed_dual, orbit_fr
 
 module _ (app : Application) (most : app.map.schema.dim ≤ 7) (lawful : IsSchema app.map.schema) (accepted : IsAccepted app.map.schema app.rule) where
   module _ (place : Placement) where
-    pre_dual : MeetsPre app place → MeetsPre (dual_application app) place
+    pub pre_dual : MeetsPre app place → MeetsPre (dual_application app) place
     pre_dual meets tree is =
         let old = some_from_map (dual_tree app.map.schema.dim) app.rule.pre tree is in
         let range = accepted.typed.pre old.0 old.1 in
         rw old.2 (value_dual (record { map = app.map; place = place; position = 0; params = app.params }) app.rule most old.0 (values.Bool true) range.in_range (meets old.0 old.1))
 
-    gone_to : (d : ℕ) → IsGone (scene_of app.map app.rule place) d → IsGone (scene_of (dual_map app.map) (dual_rule app.map.schema.dim app.rule) place) d
+    pub gone_to : (d : ℕ) → IsGone (scene_of app.map app.rule place) d → IsGone (scene_of (dual_map app.map) (dual_rule app.map.schema.dim app.rule) place) d
     gone_to d h = subst (λ s. IsGone s d) (sym (scene_dual app.map app.rule place)) h
 
-    gone_from : (d : ℕ) → IsGone (scene_of (dual_map app.map) (dual_rule app.map.schema.dim app.rule) place) d → IsGone (scene_of app.map app.rule place) d
+    pub gone_from : (d : ℕ) → IsGone (scene_of (dual_map app.map) (dual_rule app.map.schema.dim app.rule) place) d → IsGone (scene_of app.map app.rule place) d
     gone_from d h = subst (λ s. IsGone s d) (scene_dual app.map app.rule place) h
 
-    more_dual : more (dual_application app) place ≡ more app place
+    pub more_dual : more (dual_application app) place ≡ more app place
     more_dual = ap (λ k. place.positions * k) (added_nodes_dual app.map.schema.dim app.rule)
 
-    ready_dual : IsReady app place → IsReady (dual_application app) place
+    pub ready_dual : IsReady app place → IsReady (dual_application app) place
     ready_dual r = record {
       matched = match_dual app.map app.rule accepted.in_range accepted.incidence app.hooks place r.matched;
       pre = pre_dual r.pre;
@@ -50,7 +50,7 @@ module _ (app : Application) (most : app.map.schema.dim ≤ 7) (lawful : IsSchem
       names_fit = rw more_dual r.names_fit;
     }
 
-    gives_dual : (e x p : ℕ) (v : Value) (embed : Embed) → IsEmbedAt app.map.schema e embed → GivesValue app place e x p v → GivesValue (dual_application app) place e x p v
+    pub gives_dual : (e x p : ℕ) (v : Value) (embed : Embed) → IsEmbedAt app.map.schema e embed → GivesValue app place e x p v → GivesValue (dual_application app) place e x p v
     gives_dual e x p v embed at h =
         let tree = h.0 in
         let node = h.1.0 in
@@ -68,16 +68,16 @@ module _ (app : Application) (most : app.map.schema.dim ≤ 7) (lawful : IsSchem
         )
 
     module _ (result : Map) (e : ℕ) (o o' : Labels) (same : (i : ℕ) → o' i ≡ o (dual_label app.map.schema.dim i)) where
-      lies_to : (d x p : ℕ) → LiesIn app.map app.rule place result.alpha e o d x p → LiesIn (dual_map app.map) (dual_rule app.map.schema.dim app.rule) place (λ i. result.alpha (dual_label app.map.schema.dim i)) e o' d x p
+      pub lies_to : (d x p : ℕ) → LiesIn app.map app.rule place result.alpha e o d x p → LiesIn (dual_map app.map) (dual_rule app.map.schema.dim app.rule) place (λ i. result.alpha (dual_label app.map.schema.dim i)) e o' d x p
       lies_to d x p h = subst (λ y. IsInOrbit (λ i. result.alpha (dual_label app.map.schema.dim i)) o' d y) (sym (name_dual app.map.schema.dim app.rule app.map place x p)) (orbit_to_dual app.map.schema.dim result.alpha o o' same d (name_in app.map app.rule place x p) h)
 
-      lies_from : (d x p : ℕ) → LiesIn (dual_map app.map) (dual_rule app.map.schema.dim app.rule) place (λ i. result.alpha (dual_label app.map.schema.dim i)) e o' d x p → LiesIn app.map app.rule place result.alpha e o d x p
+      pub lies_from : (d x p : ℕ) → LiesIn (dual_map app.map) (dual_rule app.map.schema.dim app.rule) place (λ i. result.alpha (dual_label app.map.schema.dim i)) e o' d x p → LiesIn app.map app.rule place result.alpha e o d x p
       lies_from d x p h = orbit_from_dual app.map.schema.dim result.alpha o o' same d (name_in app.map app.rule place x p) (subst (λ y. IsInOrbit (λ i. result.alpha (dual_label app.map.schema.dim i)) o' d y) (name_dual app.map.schema.dim app.rule app.map place x p) h)
 
-      at_from : (x p : ℕ) → IsAssignedAt (dual_map app.map) (dual_rule app.map.schema.dim app.rule) place (λ i. result.alpha (dual_label app.map.schema.dim i)) e o' x p → IsAssignedAt app.map app.rule place result.alpha e o x p
+      pub at_from : (x p : ℕ) → IsAssignedAt (dual_map app.map) (dual_rule app.map.schema.dim app.rule) place (λ i. result.alpha (dual_label app.map.schema.dim i)) e o' x p → IsAssignedAt app.map app.rule place result.alpha e o x p
       at_from x p h = (assigned_from app.map.schema.dim app.rule o o' same e x h.0, h.1)
 
-      at_to : (x p : ℕ) → IsAssignedAt app.map app.rule place result.alpha e o x p → IsAssignedAt (dual_map app.map) (dual_rule app.map.schema.dim app.rule) place (λ i. result.alpha (dual_label app.map.schema.dim i)) e o' x p
+      pub at_to : (x p : ℕ) → IsAssignedAt app.map app.rule place result.alpha e o x p → IsAssignedAt (dual_map app.map) (dual_rule app.map.schema.dim app.rule) place (λ i. result.alpha (dual_label app.map.schema.dim i)) e o' x p
       at_to x p h = (assigned_to app.map.schema.dim app.rule o o' same e x h.0, h.1)
 
       undecided_to : (d : ℕ) → IsUndecided app.map app.rule place result.alpha e o d → IsUndecided (dual_map app.map) (dual_rule app.map.schema.dim app.rule) place (λ i. result.alpha (dual_label app.map.schema.dim i)) e o' d

@@ -14,3 +14,5 @@ pub mod MatchLemmas
 pub mod ReadLemmas
 pub mod SceneLemmas
 pub mod DoneLemmas
+pub mod RefusedLemmas
+pub mod BudgetLemmas

@@ -49,7 +49,7 @@ module _ (map : Map) (rule : Rule) (in_range : IsInRange map.schema rule) (incid
       let label = hook_label_dual map.schema rule in_range incidence m low in
       ap (λ i. map.alpha i d) (ap (dual_label map.schema.dim) label.0 ∙ dual_twice map.schema.dim (hook_label rule m))
 
-  positions_dual : (place : Placement) (hooks walk : List ℕ) → ArePositions map rule place hooks walk → ArePositions (dual_map map) (dual_rule map.schema.dim rule) place hooks walk
+  pub positions_dual : (place : Placement) (hooks walk : List ℕ) → ArePositions map rule place hooks walk → ArePositions (dual_map map) (dual_rule map.schema.dim rule) place hooks walk
   positions_dual place hooks walk (Created none one) = Created none one
   positions_dual place hooks walk (Walked d others _ live is count turns) = Walked d others walk live
       (subst (λ k. IsWalk (along_hook (dual_map map) (dual_rule map.schema.dim rule)) k d walk) (sym (width_dual map.schema.dim rule)) (walk_alike (along_hook map rule) (along_hook (dual_map map) (dual_rule map.schema.dim rule)) (width rule) along_dual d (length walk) 0 walk is))

@@ -32,7 +32,7 @@ module _ (r : Reading) (rule : Rule) (most : r.map.schema.dim ≤ 7) where
       follow_dual r.map.schema.dim r.map.alpha (map (dual_label r.map.schema.dim) d.path) (r.place.dart_of d.node r.position)
       ∙ ap (λ path. follow r.map.alpha path (r.place.dart_of d.node r.position)) (duals_twice r.map.schema.dim d.path)
 
-  collected_dual : (o : Mask) (d : DartTerm) → IsMaskInRange r.map.schema rule o → (e : ℕ) → IsCollected r o d e ↔ IsCollected (dual_reading r) (dual_mask r.map.schema.dim o) (dual_term r.map.schema.dim d) e
+  pub collected_dual : (o : Mask) (d : DartTerm) → IsMaskInRange r.map.schema rule o → (e : ℕ) → IsCollected r o d e ↔ IsCollected (dual_reading r) (dual_mask r.map.schema.dim o) (dual_term r.map.schema.dim d) e
   collected_dual o d range e =
       let same = has_dual r.map.schema.dim most o (few_in_range r.map.schema rule o most range) in (
         (λ to. subst (λ x. IsInOrbit (dual_map r.map).alpha (has (dual_mask r.map.schema.dim o)) x e) (sym (dart_dual d)) (orbit_to_dual r.map.schema.dim r.map.alpha (has o) (has (dual_mask r.map.schema.dim o)) same (dart_at r d) e to)),

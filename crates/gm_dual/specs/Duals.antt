@@ -13,6 +13,7 @@ use Rattle.gm_model.specs.declared.word.Letter.TheVariants.{At, Gone}
 use Rattle.gm_model.specs.declared.word.Mask.{Mask}
 use Rattle.gm_model.specs.Acceptance.{IsAccepted}
 use Rattle.gm_model.specs.Applications.{Application, Cause, IsDone, IsRefused}
+use Rattle.gm_model.specs.Applications as causes
 use Rattle.gm_model.specs.Kinds.{AreGoodParams}
 use Rattle.gm_model.specs.Labels.{has}
 use Rattle.gm_model.specs.Maps.{IsSound, Map, dimension}
@@ -125,6 +126,12 @@ LeadsTo app other = (result : Map) (added removed : ℕ) → IsDone app result a
 abbrev pub AreAppliedAlike : Book → Book → Type 0
 AreAppliedAlike book dual = (r : ℕ) (rule other : RuleTable) (before : Map) (hooks : List ℕ) (params : List Value) → slice_get book.rules r ≡ Some rule → slice_get dual.rules r ≡ Some other → IsAccepted book.schema (rule_of rule) → before.schema ≡ book.schema
     → LeadsTo (application_of before rule hooks params) (application_of (dual_map before) other hooks params) × LeadsTo (application_of (dual_map before) other hooks params) (application_of before rule hooks params)
+
+-- the cause is that there is no match at the hooks: an arc that isn't there, or a dart that is taken twice
+abbrev pub IsOfMatch : Cause → Type 0
+IsOfMatch (causes.Arc x p i) = Unit {0}
+IsOfMatch (causes.Same x p y q) = Unit {0}
+IsOfMatch _ = ⊥
 
 -- Where an application of an accepted rule to a sound map is not done, but refused, so is that of its dual. The causes may differ.
 abbrev pub AreRefusedAlike : Book → Book → Type 0

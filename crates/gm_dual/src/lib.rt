@@ -13,5 +13,8 @@ mod rule;
 mod schema;
 
 pub use book::dual_book;
-pub use laws::{the_dual_of_the_dual_is_the_map, the_dual_of_the_dual_is_the_rule};
+pub use laws::{
+    duals_are_refused_for_the_same_cause, duals_have_the_same_budget,
+    the_dual_of_the_dual_is_the_map, the_dual_of_the_dual_is_the_rule,
+};
 pub use map::dual_map;
