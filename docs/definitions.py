@@ -1,15 +1,16 @@
 #!/usr/bin/env python3
 """Lists the definitions that clauses of `tool` rest on, in reading order, and counts their lines.
 
-    docs/definitions.py [CLAUSE..]        as docs/definitions.py headline ends.map leaves
+    docs/definitions.py [CLAUSE..]        as docs/definitions.py headline ends.stands leaves
 
 A clause names words of specs/; each of these is a definition, which names further ones. The `use` lines
 of its file say where they stand. What comes out is all that is named in that way, file by file: what has
 to be read and believed so that the clause means what its sentence in README says. Of a clause whose word
 is a record each field can be asked for by itself, as CLAUSE.FIELD. Behind the first clause it is also told
-what a clause adds to those before it. Words of the kit's library (`Rattle.std..`) and types of the code
-(`declared`) end the walk; a word that is found nowhere ends the script with status 1. Lines count without
-blank ones, comments and `use` lines."""
+what a clause adds to those before it. The types and constants of the code (`declared`) that are named, with
+the types of their fields, count as their lines in src/; words of the kit's library (`Rattle.std..`) are
+counted and listed, and end the walk. A word that is found nowhere ends the script with status 1. Lines
+count without blank ones, comments, attributes and `use` lines."""
 import collections, functools, glob, os, re, sys
 
 CRATES = os.path.join(os.path.dirname(os.path.dirname(os.path.abspath(__file__))), "crates")
@@ -17,6 +18,7 @@ HEAD = re.compile(r"^\s*(?:abbrev pub|unfoldable pub|pub data|pub record|abbrev|
 MUTUAL = re.compile(r"^(\s*)(?:abbrev )?mutual\s*$")
 MEMBER = re.compile(r"^\s*pub ([^\s:({]+) :")
 FIELD = re.compile(r"^\s+(?:pub )?([^\s:({]+) :")
+GIVEN = re.compile(r"^(\s+)([a-z][^\s=;{}]*) = ")
 USE = re.compile(r"^\s*(?:ghost )?use Rattle\.(\w+)\.specs\.([\w.]+?)(?:\.\{(.*)\})?(?: as (\w+))?;?\s*$")
 WORD = re.compile(r"[^\s(){}\[\],;:→×⊎≡≢≤<+*∷λ=]+")
 STRING = re.compile(r'"[^"]*"')
@@ -41,7 +43,7 @@ class File:
             indent = len(line) - len(line.lstrip())
             if block is not None and indent <= block:
                 block = None
-            head = HEAD.match(line) or (MEMBER.match(line) if block is not None and indent == block + 2 else None)
+            head = None if MUTUAL.match(line) else HEAD.match(line) or (MEMBER.match(line) if block is not None and indent == block + 2 else None)
             if head or MUTUAL.match(line) or line.lstrip().startswith("module _"):
                 modules, item = [of for of in modules if of[0] < indent], None
             if head:
@@ -85,6 +87,11 @@ def words_of(lines):
     return dict.fromkeys(WORD.findall(STRING.sub("", "\n".join(lines))))
 
 
+def without_given(lines, name):
+    """The lines without the names of fields to which a record gives a value: such a name hides no word of the value's."""
+    return [line if (given := GIVEN.match(line)) is None or given[2] == name else given[1] + line[given.end():] for line in lines]
+
+
 def bound_in(lines, it):
     """The variables that a definition binds, and the names that it gives: its own and those of its fields."""
     text = STRING.sub("", "\n".join(lines))
@@ -101,7 +108,11 @@ def bound_in(lines, it):
 
 def walk(crate, module, name, found, named_by):
     """Adds the definition to what was found, file by file in the order of reading, and then all that it names."""
-    if crate == "std" or module.startswith("declared"):
+    if crate == "std":
+        add(found, (crate, module), name)
+        return
+    if module.startswith("declared"):
+        walk_type(crate, module, name, found)
         return
     it = file_of(crate, module)
     name = it.owner.get(name, name) if name not in it.items else name
@@ -110,7 +121,42 @@ def walk(crate, module, name, found, named_by):
     if name in found[crate, module]:
         return
     found[crate, module].append(name)
-    follow(it, it.items[name], found, f"{name} of {crate}/specs/{module}.antt", (crate, module))
+    follow(it, without_given(it.items[name], name), found, f"{name} of {crate}/specs/{module}.antt", (crate, module))
+
+
+def add(found, key, name):
+    """Adds a name to what was found; whether it is new."""
+    is_new = name not in found[key]
+    if is_new:
+        found[key].append(name)
+    return is_new
+
+
+def walk_type(crate, module, name, found):
+    """Adds the type or the constant of the code to what was found, and the types of its fields."""
+    parts = module.split(".")
+    of = next((part for part in parts[1:] if part[:1].isupper() and not part.startswith("The")), name)
+    for home, path, lines in declarations().get(of, []):
+        if home == crate and add(found, (crate, path), of):
+            fields = " ".join(re.sub(r"^\s*\w+", "", line) for line in lines[1:])      # without the names of fields and variants
+            for word in dict.fromkeys(re.findall(r"[A-Z]\w+", fields)):
+                for owner, _, _ in declarations().get(word, [])[:1]:
+                    walk_type(owner, "declared", word, found)
+
+
+@functools.lru_cache(None)
+def declarations():
+    """The types and constants of the code by name: the crate, the file, and the lines of each."""
+    known = collections.defaultdict(list)
+    for path in sorted(glob.glob(f"{CRATES}/*/src/**/*.rt", recursive=True)):
+        crate, _, file = os.path.relpath(path, CRATES).split("/", 2)
+        lines = [line for line in open(path, encoding="utf-8").read().split("\n") if line.strip() and not line.lstrip().startswith(("//", "#["))]
+        for at, line in enumerate(lines):
+            head = re.match(r"pub (?:struct|enum|const) (\w+)", line)
+            if head:
+                ends = at if line.rstrip().endswith((";", "}")) else next(to for to in range(at, len(lines)) if lines[to] == "}")
+                known[head[1]].append((crate, f"src/{file}", lines[at:ends + 1]))
+    return known
 
 
 def follow(it, lines, found, named_by, own=None):
@@ -185,19 +231,37 @@ def found_of(lines, it, record):
 def lines_in(found):
     """The lines of what was found, each known by its file, its definition and its place there."""
     return {(crate, module, id(line)) for (crate, module), names in found.items() for name in names
-            for line in file_of(crate, module).items[name]}
+            for line in lines_of(crate, module, name)}
+
+
+def lines_of(crate, module, name):
+    """The lines of a definition, a type or a constant; a word of the library has none."""
+    if crate == "std":
+        return []
+    if module.startswith("src/"):
+        return next(lines for home, path, lines in declarations()[name] if (home, path) == (crate, module))
+    return file_of(crate, module).items[name]
 
 
 def tell(clause, found, before):
+    """Prints what was found file by file, and how much it is: definitions, types of the code, words of the library."""
     print(f"clause {clause}")
-    total = 0
+    kinds = {"definitions": {}, "types": {}, "library": {}}
     for (crate, module), names in found.items():
-        here = len(lines_in({(crate, module): names}))
-        total += here
-        print(f"  {crate}/specs/{module}.antt, {here} lines: {' '.join(names)}")
-    added = lines_in(found) - before
-    behind = f"; {len(added)} of them are not in those before it" if before else ""
-    print(f"  {total} lines in {len(found)} files, {sum(map(len, found.values()))} definitions{behind}")
+        kind = "library" if crate == "std" else "types" if module.startswith("src/") else "definitions"
+        kinds[kind][crate, module] = names
+        path = f"{crate}/specs/{module}.antt" if kind != "types" else f"{crate}/{module}"
+        print(f"  {path}, {len(lines_in({(crate, module): names}))} lines: {' '.join(names)}")
+    defined, typed, library = ({key: sorted(names) for key, names in of.items()} for of in kinds.values())
+    print(f"  {len(lines_in(defined))} lines of {count_names(defined)} definitions in {len(defined)} files, {len(lines_in(typed))} lines of {count_names(typed)} "
+          f"types of the code, and {count_names(library)} words of the library: {len(lines_in(found))} lines in all")
+    if before:
+        print(f"  {len(lines_in(found) - before)} of them are not in those before it")
+
+
+def count_names(found):
+    """How many names were found, each once."""
+    return len({name for names in found.values() for name in names})
 
 
 def main(wanted):

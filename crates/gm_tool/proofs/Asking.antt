@@ -9,7 +9,7 @@ use Rattle.gm_host.specs.declared.fault.LoadFault.TheVariants as faults
 use Rattle.gm_tool.specs.Answer.{most_bytes, Answer, answers, Files, IsFileAnswer, Asks, IsOutput, role_of, NoFile, LongFile, BadFile, LongOutput, Done, Shown, Printed, Checked, Counted}
 use Rattle.gm_tool.specs.DualAnswer.{DualNames, AsksDual, IsDualReply}
 use Rattle.gm_tool.specs.Endings.{IsEnding, Whole, LoadFailed, SaveFailed, IsStored, IsTextOf}
-use Rattle.gm_tool.specs.MadeRuns.{IsRunText, IsSoundReply, HoldsSuch, HoldsMap, IsMapBytes, IsSoundText}
+use Rattle.gm_tool.specs.MadeRuns.{IsRunText, IsSoundReply, HoldsMap, IsMapBytes}
 use Rattle.gm_tool.specs.Migrating.{MigrateNames, AsksMigrate, IsMigrateText}
 use Rattle.gm_tool.specs.GridAnswer.{AsksGrid, IsGridReply}
 use Rattle.gm_tool.specs.Program.{IsCommand, IsFileCommand, IsRunCommand, IsSavingCommand, ReadsNoFile, ReadsOneFile, IsDualCommand, Usage, OfFile, OfRun, OfMigrate, OfDual, OfGrid}
@@ -358,14 +358,6 @@ migrate_holds words named contents asks h = (
 -- words that are no command that saves hold none
 pub none_holds : (IsSuch : List ℕ → Type 0) (words : List (List ℕ)) (contents : Contents) → (IsSavingCommand words → ⊥) → HoldsSaved IsSuch words contents
 none_holds IsSuch words contents none = (λ named runs. absurd (none (inl (named, runs))), λ named migrates. absurd (none (inr (named, migrates))))
-
--- a map whose text stands for it is sound
-sound_held : (contents : Contents) (name : List ℕ) → HoldsMap contents name → HoldsSuch IsSoundText contents name
-sound_held None name h = tt
-sound_held (Some files) name (bytes, held, (version, listed, is, stands)) = (bytes, held, (version, listed, is, stands.sound))
-
-pub sound_saved : (words : List (List ℕ)) (contents : Contents) → HoldsSaved IsMapBytes words contents → HoldsSaved IsSoundText words contents
-sound_saved words contents h = (λ named runs. sound_held contents named.out (h.0 named runs), λ named migrates. sound_held contents named.out (h.1 named migrates))
 
 -- ---- a grid: done, or without memory
 

@@ -20,7 +20,7 @@ use Rattle.gm_tool.specs.StepBounds.{WithinMost, AtLeast, TakesLeast, FileShowsW
 use Rattle.gm_tool.specs.Tool.{IsPut, IsReplyStatus, EndsAs, ForFile, ForRun, ForMigrate, ForDual}
 use Rattle.gm_tool.specs.declared.refusal.NoText.{NoText}
 use Rattle.gm_tool.specs.declared.reply.Reply.{Reply}
-use Rattle.gm_tool.proofs.Asking.{file_is_no_run, file_is_no_migrate, file_is_no_dual, file_is_no_grid, run_is_no_migrate, run_is_no_dual, run_is_no_grid, migrate_is_no_dual, migrate_is_no_grid, dual_is_no_grid, grid_reads_none, grid_reads_no_one, reads_some, run_reads_no_one, dual_reads_no_one, same_named, same_dual, sound_no_usage, file_refused, plain_refused, plain_status, run_holds, migrate_holds, none_holds, sound_saved, grid_status, grid_refused, grid_is_sound}
+use Rattle.gm_tool.proofs.Asking.{file_is_no_run, file_is_no_migrate, file_is_no_dual, file_is_no_grid, run_is_no_migrate, run_is_no_dual, run_is_no_grid, migrate_is_no_dual, migrate_is_no_grid, dual_is_no_grid, grid_reads_none, grid_reads_no_one, reads_some, run_reads_no_one, dual_reads_no_one, same_named, same_dual, sound_no_usage, file_refused, plain_refused, plain_status, run_holds, migrate_holds, none_holds, grid_status, grid_refused, grid_is_sound}
 use Rattle.gm_tool.proofs.LoadCounts.{counts_of, no_counts, dual_counts_of, no_dual_counts}
 use Rattle.gm_tool.proofs.Duals.{twice_at_most}
 use Rattle.gm_tool.proofs.Putting.{given_is, given_one, given_two, given_three, given_five, given_run, given_done, given_least, unless_seven, six, seven, six_is_no_run, seven_is_no_run, run_put}
@@ -61,7 +61,6 @@ module _ (words : List (List ℕ)) (command : answer.Command) (name : List ℕ) 
     saves = saves_none words file_saves_none (status_given reply) before.saves after.saves;
     save_failed = given_five reply _ _ statuses sound;
     no_save_failed = λ _. no_fault;
-    map = λ _. none_holds _ words after.holds file_saves_none;
     stands = λ _. none_holds _ words after.holds file_saves_none;
   }
 
@@ -103,7 +102,6 @@ module _ (words : List (List ℕ)) (m : ℕ) (asks : AsksGrid words m) where
     saves = saves_none words grid_saves_none (status_given reply) before.saves before.saves;
     save_failed = λ five. absurd (given_five reply (λ _. ⊥) ⊥ (grid_status m reply is) (grid_is_sound m _ _ reply is) five);
     no_save_failed = λ _. refl;
-    map = λ _. none_holds _ words before.holds grid_saves_none;
     stands = λ _. none_holds _ words before.holds grid_saves_none;
   }
 
@@ -142,7 +140,6 @@ module _ (words : List (List ℕ)) (none : IsCommand words → ⊥) where
     saves = saves_none words (λ saving. none (inr (inl saving))) 2 before.saves before.saves;
     save_failed = λ e. absurd (eqb-false 2 5 refl e);
     no_save_failed = λ _. refl;
-    map = λ _. none_holds _ words before.holds (λ saving. none (inr (inl saving)));
     stands = λ _. none_holds _ words before.holds (λ saving. none (inr (inl saving)));
   }
 
@@ -186,7 +183,6 @@ module _ (words : List (List ℕ)) (named : RunNames) (asks : AsksRun words name
     saves = λ _. saves;
     save_failed = given_five reply _ _ statuses sound;
     no_save_failed = given_done _ reply no_fault;
-    map = λ run. sound_saved words after.holds (run_holds words named after.holds asks (given_run _ reply holds run));
     stands = λ run. run_holds words named after.holds asks (given_run _ reply holds run);
   }
 
@@ -230,7 +226,6 @@ module _ (words : List (List ℕ)) (named : MigrateNames) (asks : AsksMigrate wo
     saves = λ _. saves;
     save_failed = given_five reply _ _ (plain_status reply statuses) sound;
     no_save_failed = given_done _ reply no_fault;
-    map = λ run. sound_saved words after.holds (migrate_holds words named after.holds asks (given_run _ reply holds run));
     stands = λ run. migrate_holds words named after.holds asks (given_run _ reply holds run);
   }
 
@@ -277,7 +272,6 @@ module _ (words : List (List ℕ)) (named : DualNames) (asks : AsksDual words na
     saves = saves_none words dual_saves_none (status_given reply) before.saves after.saves;
     save_failed = given_five reply _ _ (plain_status reply statuses) sound;
     no_save_failed = λ _. no_fault;
-    map = λ _. none_holds _ words after.holds dual_saves_none;
     stands = λ _. none_holds _ words after.holds dual_saves_none;
   }
 
@@ -317,7 +311,6 @@ module _ (words : List (List ℕ)) (before after : Seen) (given : ℕ) (ends : E
     saves = λ _. record { one_at_most = ends.one_save; one = λ is. absurd (six_saves_none is); none = λ is. absurd (six_is_unsaved is) };
     save_failed = λ e. absurd (eqb-false 6 5 refl e);
     no_save_failed = λ run. absurd (six_is_no_run run);
-    map = λ run. absurd (six_is_no_run run);
     stands = λ run. absurd (six_is_no_run run);
   }
 
@@ -343,7 +336,6 @@ module _ (words : List (List ℕ)) (before after : Seen) (given : ℕ) (ends : E
     saves = λ _. record { one_at_most = ends.one_save; one = λ is. absurd (seven_saves_none is); none = λ is. absurd (seven_is_unsaved is) };
     save_failed = λ e. absurd (eqb-false 7 5 refl e);
     no_save_failed = λ run. absurd (seven_is_no_run run);
-    map = λ run. absurd (seven_is_no_run run);
     stands = λ run. absurd (seven_is_no_run run);
   }
 

@@ -1,15 +1,19 @@
--- Good files that agree have a run, and what bounds the steps of each run of files is one number.
-use Rattle.std.proofs.Common.{◌≡◌, ℕ, ◌+◌, false, refl, sym, ap, subst, ◌∙◌}
+-- Good files that agree have a run, which leaves a sound map, and what bounds the steps of each run of files is one number.
+use Rattle.std.proofs.Common.{◌≡◌, ℕ, ◌+◌, List, [], ◌∷◌, false, refl, sym, ap, subst, ◌∙◌}
 use Rattle.std.specs.List.{AllByRecursion}
 use Rattle.gm_mapfile.specs.MapText.{map_of}
-use Rattle.gm_model.specs.Budgets.{Bounds, no_entries, IsRunWithin}
-use Rattle.gm_model.specs.Runs.{AreInOrder, start_of}
+use Rattle.gm_model.specs.declared.schema.Schema.{Schema}
+use Rattle.gm_model.specs.Budgets.{Bounds, Entries, no_entries, IsRunWithin}
+use Rattle.gm_model.specs.Maps.{IsSound}
+use Rattle.gm_model.specs.Rules.{Rule}
+use Rattle.gm_model.specs.Runs.{AreInOrder, Outcome, State, start_of, IsRun}
+use Rattle.gm_model.specs.Statements.{Stat}
 use Rattle.gm_run.proofs.AlikeStates.{states_alike_self}
 use Rattle.gm_run.proofs.OneRun.{one_within, run_has_bounds}
 use Rattle.gm_run.proofs.RunsThrough.{RunThrough, run_through}
 use Rattle.gm_script.proofs.Agreement.{script_in_order}
 use Rattle.gm_theory.proofs.Lists.{none_some}
-use Rattle.gm_theory.proofs.RunsFound.{Stands, all_suited}
+use Rattle.gm_theory.proofs.RunsFound.{GoesOn, Stands, all_suited, goes_on}
 use Rattle.gm_theory.specs.Suited.{IsSuited}
 use Rattle.gm_tool.specs.Answer.{Files}
 use Rattle.gm_tool.specs.RunAnswer.{RunNames, Inputs, Ran, HasMap, HasBook, HasScript, Agree, IsRan, IsGoodRun}
@@ -18,6 +22,20 @@ use Rattle.gm_tool.proofs.Lines.{good_stats}
 use Rattle.gm_tool.proofs.ListedMaps.{IsListedMap, settle, whole_darts}
 use Rattle.gm_tool.proofs.OneRan.{declared, one_ran, stands_at}
 use Rattle.gm_tool.proofs.OneRunAnswer.{same_inputs}
+
+-- ---- what a run leaves is sound, since each statement leaves it so, and so is each map to which it goes back
+
+module _ (schema : Schema) (rules : List Rule) where
+  stays_sound : (stats : List Stat) → AllByRecursion (IsSuited schema rules) stats → (state : State) (entries : Entries) → Stands schema state entries → (outcomes : List Outcome) (after : State)
+      → IsRun rules state stats outcomes after → IsSound after.map
+  stays_sound [] suited state entries stands [] after e = subst (λ (s : State). IsSound s.map) (sym e) stands.sound.map.sound
+  stays_sound [] suited state entries stands (o ∷ outcomes) after e = absurd e
+  stays_sound (stat ∷ stats) suited state entries stands [] after e = absurd e
+  stays_sound (stat ∷ stats) suited state entries stands (o ∷ outcomes) after (between, step, rest) =
+      let on : GoesOn schema rules state entries stat o between = goes_on schema rules state entries stat o between stands suited.0 step in
+      stays_sound stats suited.1 between on.behind on.stands outcomes after rest
+
+-- ---- the files
 
 module _ (files : Files) (named : RunNames) (inputs : Inputs) (the_map : HasMap files named inputs) (the_book : HasBook files named inputs) (the_script : HasScript files named inputs) (agree : Agree inputs) where
   suited : AllByRecursion (IsSuited inputs.schema inputs.rules) inputs.stats
@@ -63,6 +81,9 @@ module _ (files : Files) (named : RunNames) (inputs : Inputs) (the_map : HasMap 
     },
   )
 
+  pub sound_made : (ran : Ran) → IsRan inputs ran → IsSound (map_of ran.map)
+  sound_made ran is = subst IsSound is.map_is (stays_sound inputs.schema inputs.rules inputs.stats suited (start_of (map_of inputs.map)) no_entries stands ran.outcomes is.behind is.run)
+
   -- ---- its bounds
 
   pub bounds_made : (ran : Ran) → IsRan inputs ran → (bounds : Bounds) × HasBounds inputs ran bounds
@@ -82,6 +103,9 @@ module _ (files : Files) (named : RunNames) (inputs : Inputs) (the_map : HasMap 
 module _ (files : Files) (named : RunNames) where
   pub bounds_of : (inputs : Inputs) (ran : Ran) → IsGoodRun files named inputs ran → (bounds : Bounds) × HasBounds inputs ran bounds
   bounds_of inputs ran good = bounds_made files named inputs good.the_map good.the_book good.the_script good.agree ran good.is_ran
+
+  pub sound_of : (inputs : Inputs) (ran : Ran) → IsGoodRun files named inputs ran → IsSound (map_of ran.map)
+  sound_of inputs ran good = sound_made files named inputs good.the_map good.the_book good.the_script good.agree ran good.is_ran
 
   pub most_made : (inputs : Inputs) (ran : Ran) → IsGoodRun files named inputs ran → (most : ℕ) × IsMost files named most
   most_made inputs ran good = let has = bounds_of inputs ran good in (has.0.most + handling (dim_of inputs) (darts_read inputs) (darts_left ran), MostOf inputs ran has.0 good has.1)

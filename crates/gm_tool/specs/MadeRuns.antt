@@ -9,7 +9,7 @@ use Rattle.gm_mapfile.specs.Rows.{listed_of}
 use Rattle.gm_model.specs.declared.rule.Book.{Book}
 use Rattle.gm_model.specs.declared.script.Script.{Script}
 use Rattle.gm_model.specs.Maps.{IsSound}
-use Rattle.gm_mapfile.specs.MapText.{ListedMap, MapText, map_of, canonical}
+use Rattle.gm_mapfile.specs.MapText.{ListedMap, MapText, canonical}
 use Rattle.gm_mapfile.specs.declared.version.MapVersion.{MapVersion}
 use Rattle.gm_model.specs.Rules.{rule_of}
 use Rattle.gm_script.specs.ScriptText.{ScriptText}
@@ -61,11 +61,7 @@ abbrev pub IsRunOf : Inputs → Result Made Stop → Type 0
 IsRunOf inputs (Err (stops.NoText nothing.OutOfMemory)) = Unit {0}
 IsRunOf inputs made = (ran : Ran) × IsRan inputs ran × IsFitted (run_status ran.outcomes) (report_of inputs ran) (saved_of inputs ran) made
 
--- the bytes are the canonical text of a sound map: a generalised map with one value on each embedding orbit
-abbrev pub IsSoundText : List ℕ → Type 0
-IsSoundText bytes = (version : MapVersion) × (listed : ListedMap) × (bytes ≡ canonical version listed) × IsSound (map_of listed)
-
--- and by the grammar they stand for it
+-- the bytes are the canonical text of a map, which they stand for by the grammar
 abbrev pub IsMapBytes : List ℕ → Type 0
 IsMapBytes bytes = (version : MapVersion) × (listed : ListedMap) × (bytes ≡ canonical version listed) × MapText bytes version listed
 

@@ -7,7 +7,7 @@ use Rattle.gm_tool.specs.Answer as answer
 use Rattle.gm_tool.specs.DualAnswer.{DualNames, AsksDual, IsDualLoadFailure, IsDualUnloaded, DualLoadsInOrder, CountsDualLoads}
 use Rattle.gm_tool.specs.Endings.{IsEnding, IsTextOf}
 use Rattle.gm_tool.specs.Loads.{FailsAt, CountsLoads, LoadsInOrder, IsUnloaded, OneAtMost, CountsSaves}
-use Rattle.gm_tool.specs.MadeRuns.{IsRunLoadFailure, IsRunStatus, IsMapBytes, IsSoundText, HoldsSuch, LoadsAtMostThrice}
+use Rattle.gm_tool.specs.MadeRuns.{IsRunLoadFailure, IsRunStatus, IsMapBytes, HoldsSuch, LoadsAtMostThrice}
 use Rattle.gm_tool.specs.Migrating.{MigrateNames, AsksMigrate, IsMigrateLoadFailure}
 use Rattle.gm_tool.specs.Program.{IsAnswer, IsCommand, IsRunCommand, IsSavingCommand, ReadsOneFile, ReadsNoFile}
 use Rattle.gm_tool.specs.RunAnswer.{RunNames, AsksRun}
@@ -122,6 +122,5 @@ pub record EndsAs (words : List (List ℕ)) (before after : Seen) (status : ℕ)
   pub saves : IsSavingCommand words → CountsSaves status before.saves after.saves
   pub save_failed : status ≡ 5 → Rises before.save_faults after.save_faults
   pub no_save_failed : IsRunStatus status → after.save_faults ≡ before.save_faults
-  -- the map that is saved is a generalised map with one value on each embedding orbit, and its text stands for it
-  pub map : IsRunStatus status → HoldsSaved IsSoundText words after.holds
+  -- what is saved is the canonical text of a map, and stands for it: so it is a generalised map with one value on each embedding orbit
   pub stands : IsRunStatus status → HoldsSaved IsMapBytes words after.holds

@@ -154,8 +154,11 @@ pub fn tool<S: Store, O: Sink, L: Ledger>(
         (FailsAt (S.load_faults store.old) (S.load_faults store.new) (S.loads store.old) (S.loads store.new)) (Rises (S.save_faults store.old) (S.save_faults store.new))
         (Rises (O.faults out.old) (O.faults out.new)) (O.written out.old) result (O.written out.new) }
 
-    // The same of a run that is done, part by part, with its steps.
-    ensures headline { HeadlineHolds (words_of words.now) (S.holds store.old) (S.holds store.new) (O.written out.old) result (O.written out.new) steps.old steps.new }
+    // For every good run: it is done unless memory runs out or a fault keeps it from that, and then it is as stated, part by part,
+    // with its steps.
+    ensures headline { HeadlineHolds (words_of words.now) (S.holds store.old) (S.holds store.new)
+        (Rises (S.load_faults store.old) (S.load_faults store.new)) (Rises (S.save_faults store.old) (S.save_faults store.new)) (Rises (O.faults out.old) (O.faults out.new))
+        (O.written out.old) result (O.written out.new) steps.old steps.new }
 
     // The steps of a run, where the store tells, and of a grid: at most so many whatever is answered,
     // and at least so many where it is done; and the most of a map that is shown or migrated.

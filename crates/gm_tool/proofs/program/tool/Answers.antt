@@ -1,8 +1,8 @@
-use Rattle.std.proofs.Common.{inl, inr, refl}
+use Rattle.std.proofs.Common.{ℕ, inl, inr, refl}
 use Rattle.gm_tool.specs.Tool.{words_of}
 use Rattle.gm_tool.proofs.Ended.{put_ends, put_steps}
-use Rattle.gm_tool.proofs.Headlines.{headline, no_headline}
-use Rattle.gm_tool.proofs.Putting.{put_reply, put_refusal, put_nothing, reply_six, reply_seven, refusal_six, refusal_seven, reply_is_not_seven, refusal_is_not_seven, refusal_is_no_run, seven_is_no_run, run_put}
+use Rattle.gm_tool.proofs.Headlines.{headline}
+use Rattle.gm_tool.proofs.Putting.{put_reply, put_refusal, put_nothing, reply_six, reply_seven, refusal_six, refusal_seven, reply_is_not_seven, refusal_is_not_seven}
 use Rattle.gm_tool.proofs.program.tool.Goals as goal
 
 -- ---- a text is put
@@ -21,8 +21,7 @@ returns-in-Ok-clause-steps g c = put_steps (words_of c.args.words.now) (g.S.Stor
 pub returns-in-Ok-clause-headline : goal.returns-in-Ok-clause-headline
 returns-in-Ok-clause-headline g c =
     let left = put_reply (words_of c.args.words.now) _ _ _ _ (g.S.Store.holds c.args.store.now) c.in-Ok.reply _ _ _ c.in-Ok.ensures.text (rw c.as_slice.ensures.value at c.put_whole.ensures.put) in
-    headline (words_of c.args.words.now) (g.S.Store.holds c.args.store.now) _ _ _ _ _ _ _ _ _ left
-    (λ run. c.in-Ok.ensures.ends.map (run_put _ _ _ _ _ c.in-Ok.reply.status c.put_whole.ensures.put run))
+    headline (words_of c.args.words.now) (g.S.Store.holds c.args.store.now) _ _ _ _ _ _ _ _ _ _ left (λ k failed. failed.0)
     (put_steps (words_of c.args.words.now) (g.S.Store.holds c.args.store.now) c.in-Ok.reply.status _ _ c.in-Ok.ensures.steps _ _ _ _ _ c.put_whole.ensures.put)
 
 pub returns-in-Ok-clause-one_put : goal.returns-in-Ok-clause-one_put
@@ -63,7 +62,10 @@ returns-in-Err-Refused-clause-steps g c =
 
 pub returns-in-Err-Refused-clause-headline : goal.returns-in-Err-Refused-clause-headline
 returns-in-Err-Refused-clause-headline g c =
-    no_headline (words_of c.args.words.now) (g.S.Store.holds c.args.store.now) _ _ _ _ _ _ (λ run. refusal_is_no_run c.in-Err-Refused.refusal (run_put _ _ _ _ _ _ (rw c.status.ensures at c.put_whole-in-Err-Refused.ensures.put) run))
+    let left = put_refusal (words_of c.args.words.now) _ _ _ _ (g.S.Store.holds c.args.store.now) c.in-Err-Refused.refusal _ _ _
+        (rw c.in-Err-Refused.field-0-is at c.in-Err-Refused.ensures.text) (rw (c.line.ensures, c.status.ensures) at c.put_whole-in-Err-Refused.ensures.put) in
+    headline (words_of c.args.words.now) (g.S.Store.holds c.args.store.now) _ _ _ _ _ _ _ _ _ _ left (λ k failed. failed.0)
+    (put_steps (words_of c.args.words.now) (g.S.Store.holds c.args.store.now) _ _ _ (rw c.in-Err-Refused.field-0-is at c.in-Err-Refused.ensures.steps) _ _ _ _ _ (rw c.status.ensures at c.put_whole-in-Err-Refused.ensures.put))
 
 pub returns-in-Err-Refused-clause-one_put : goal.returns-in-Err-Refused-clause-one_put
 returns-in-Err-Refused-clause-one_put g c = inr c.put_whole-in-Err-Refused.ensures.one
@@ -100,8 +102,13 @@ returns-in-Err-OutOfMemory-clause-ends g c = rw c.in-Err-OutOfMemory.field-0-is 
 pub returns-in-Err-OutOfMemory-clause-steps : goal.returns-in-Err-OutOfMemory-clause-steps
 returns-in-Err-OutOfMemory-clause-steps g c = rw c.in-Err-OutOfMemory.field-0-is at c.in-Err-OutOfMemory.ensures.steps
 
+-- nothing was put, whichever loads failed
 pub returns-in-Err-OutOfMemory-clause-headline : goal.returns-in-Err-OutOfMemory-clause-headline
-returns-in-Err-OutOfMemory-clause-headline g c = no_headline (words_of c.args.words.now) (g.S.Store.holds c.args.store.now) _ _ _ _ _ _ seven_is_no_run
+returns-in-Err-OutOfMemory-clause-headline g c =
+    headline (words_of c.args.words.now) (g.S.Store.holds c.args.store.now) _ (λ (k : ℕ). ⊥) _ _ _ _ _ _ _ _
+    (put_nothing (words_of c.args.words.now) _ _ _ _ (g.S.Store.holds c.args.store.now) (g.O.Sink.written c.args.out.now) (rw c.in-Err-OutOfMemory.field-0-is at c.in-Err-OutOfMemory.ensures.text))
+    (λ k failed. absurd failed)
+    (rw c.in-Err-OutOfMemory.field-0-is at c.in-Err-OutOfMemory.ensures.steps)
 
 pub returns-in-Err-OutOfMemory-clause-one_put : goal.returns-in-Err-OutOfMemory-clause-one_put
 returns-in-Err-OutOfMemory-clause-one_put g c = inl refl
