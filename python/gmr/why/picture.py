@@ -94,7 +94,7 @@ def line_of(one: complex, other: complex, turn: int, colour: str, broken: bool) 
 def loop_of(place: complex, turn: int, colour: str) -> str:
     """A short stub by which a free dart is shown, turned by its label."""
     way = complex(math.cos(0.7 + turn * 0.9), -math.sin(0.7 + turn * 0.9))
-    start, end = place + way * DOT, place + way * (DOT + 9)
+    start, end = place + way * DOT, place + way * (DOT + 13)
     return f'<path d="M{pair(start)}L{pair(end)}" stroke="{colour}" stroke-width="2.4" stroke-linecap="round"/>'
 
 
