@@ -1,15 +1,17 @@
 """Runs a script by the program, and says why each line that is refused is refused; where a file is at fault or a rule
 isn't accepted, it says why, where, and how to mend it."""
 import argparse
-import signal
 import tempfile
+from collections.abc import Sequence
 from pathlib import Path
 
 from gmr.books import read_book
 from gmr.commands.draw import main as draw_maps
+from gmr.commands.frame import new_parser, run_command
+from gmr.errors import Fault
 from gmr.maps import Map, load_map
 from gmr.places import read_bytes, tell_place, tokens_from
-from gmr.program import Refused, answer, fail
+from gmr.program import answer
 from gmr.scripts import Outcome, is_in_group, read_report
 from gmr.why.books import tell_twice, tell_type, tell_unknown
 from gmr.why.lines import Line, plural, tell_line
@@ -19,6 +21,12 @@ from gmr.why.scripts import Prefixes, tell_script
 from gmr.why.texts import tell_limit, tell_text
 
 FILES = ("MAP", "BOOK", "SCRIPT")
+EXAMPLES = """examples:
+  tools/why map.gmap book.gbook script.gscript
+  tools/why map.gmap book.gbook script.gscript --line 3 --draw met.svg
+  tools/why book.gbook
+
+The status is 0 where nothing is refused, and 1 where something is. The program is $GMR, or that of this checkout."""
 USAGE = """%(prog)s [-h] [--line N] [--most N] [--draw OUT] MAP BOOK SCRIPT
        %(prog)s MAP
        %(prog)s [--example FOLDER] BOOK"""
@@ -119,8 +127,8 @@ def draw(amap: Map, out: str, folder: Path) -> None:
     path.write_text(amap.text(), encoding="ascii")
     try:
         draw_maps([str(path), out])
-    except (OSError, ValueError) as error:
-        fail(f"{out} wasn't drawn: {error}")
+    except ValueError as error:
+        raise Fault(f"{out} wasn't drawn: {error}") from error
 
 
 def tell_run(words: argparse.Namespace, files: dict[str, str], report: str, folder: Path) -> None:
@@ -128,7 +136,7 @@ def tell_run(words: argparse.Namespace, files: dict[str, str], report: str, fold
     run = Run(files, report, folder)
     refused = [at for at in run.refused() if words.line in (None, at + 1)]
     if words.line and not refused:
-        fail(f"line {words.line} isn't refused")
+        raise Fault(f"line {words.line} isn't refused")
     for place, at in enumerate(refused[:words.most]):
         lines, amap = run.tell(at, words.most)
         print("\n".join(([""] if place else []) + lines))
@@ -172,12 +180,9 @@ def tell_answer(status: int, said: str, files: dict[str, str], folder: Path | No
     print("\n".join([line, *tell_refusal(line, files, folder)]))
 
 
-def parse_arguments() -> argparse.Namespace:
+def parse_arguments(given: Sequence[str]) -> argparse.Namespace:
     """The arguments of the command line."""
-    parser = argparse.ArgumentParser(
-        prog="tools/why", description=__doc__, usage=USAGE,
-        epilog="The status is 0 where nothing is refused, and 1 where something is. The program is $GMR, or that of "
-               "this checkout.")
+    parser = new_parser("why", __doc__, EXAMPLES, USAGE)
     parser.add_argument("files", metavar="FILE", nargs="+",
                         help="a map, a book and a script, as of `gmr run`; or a map, or a book, alone")
     parser.add_argument("--line", type=int, metavar="N", help="this line of the script alone, counted from 1")
@@ -187,24 +192,20 @@ def parse_arguments() -> argparse.Namespace:
     parser.add_argument("--example", metavar="FOLDER", type=Path,
                         help="write into this folder, for each rule that isn't accepted and would break a map, this "
                         "map, its script, what would come of it, and a picture of both")
-    words = parser.parse_args()
+    words = parser.parse_args(given)
     if len(words.files) not in (1, len(FILES)):
         parser.error("give a map, a book and a script, or one file")
     return words
 
 
-def main() -> int:
+def main(given: Sequence[str]) -> int:
     """Says what is refused, and why."""
-    words = parse_arguments()
-    try:
-        if len(words.files) == 1:
-            return tell_one_file(words.files[0], words.example)
-        return tell_files(dict(zip(FILES, words.files)), words)
-    except Refused as fault:
-        fail(fault.line)
+    words = parse_arguments(given)
+    if len(words.files) == 1:
+        return tell_one_file(words.files[0], words.example)
+    return tell_files(dict(zip(FILES, words.files)), words)
 
 
 def run() -> int:
     """Does what the command line asks for; the status."""
-    signal.signal(signal.SIGPIPE, signal.SIG_DFL)     # who reads no further, as `head`, ends it quietly
-    return main()
+    return run_command("why", main)
