@@ -11,10 +11,11 @@ use Rattle.gm_pending.specs.Results.{PendingOf, rule_in}
 use Rattle.gm_apply.specs.declared.reading.Reading.{Reading}
 use Rattle.gm_apply.specs.declared.refusal.Refusal.{Refusal}
 use Rattle.gm_apply.specs.Outcomes.{IsRefusedFor}
+use Rattle.gm_apply.specs.ReadOnce.{IsBudgetOnce}
 use Rattle.gm_apply.specs.Reads.{app_at, place_at, pending_at, IsReadable, IsEnded, IsReadyAt, IsRefusedAt}
 use Rattle.gm_apply.proofs.Applying.{is_done}
-use Rattle.gm_apply.proofs.Budgets.{pre_within, ready_within}
-use Rattle.gm_apply.proofs.Ending.{ended_within, read_within, edits_here, rows_there, values_right, committed_within, kept_within}
+use Rattle.gm_apply.proofs.Budgets.{pre_within, ready_within, ready_within_once}
+use Rattle.gm_apply.proofs.Ending.{ended_within, read_within, edits_here, rows_there, values_right, committed_within, committed_within_once, kept_within}
 use Rattle.gm_apply.proofs.Sums.{names_fit, rises_twice}
 
 module _ (reading : Reading) (hooks : List ℕ) (readable : IsReadable reading hooks) where
@@ -75,3 +76,10 @@ module _ (reading : Reading) (hooks : List ℕ) (readable : IsReadable reading h
       pub within_done : (later : ℕ) → ((app : PendingOf) (reached : ℕ) → AreEditsOf app edits → IsReachedSumIn app reached → later ≤ steps + 4 * (app.map.schema.dim + 1) * (length (rule_in app).nodes * app.placed.positions + reached + 1)) → later ≤ before + most
       within_done later cost = ready_within reading.arena.now (rule_of reading.plan.now.table) hooks reading.params.now readable.sound readable.accepted reading.found.now readable.answer of_schema ready.room.ready most before start ready.read later budget finding ready.pre
           (committed_within reading hooks edits ready.read steps ready.edited later cost)
+
+    -- where what is shared is read once
+    pub within_done_once : IsSchema reading.arena.now.schema → (most before : ℕ) → IsBudgetOnce (app_at reading hooks) most → IsFindWithin before start → (later : ℕ)
+        → ((app : PendingOf) (reached : ℕ) → AreEditsOf app edits → IsReachedSumIn app reached → later ≤ steps + 4 * (app.map.schema.dim + 1) * (length (rule_in app).nodes * app.placed.positions + reached + 1)) → later ≤ before + most
+    within_done_once of_schema most before budget finding later cost =
+        ready_within_once reading.arena.now (rule_of reading.plan.now.table) hooks reading.params.now readable.sound readable.accepted reading.found.now readable.answer of_schema ready.room.ready most before start ready.read later budget finding ready.pre
+        (committed_within_once reading hooks edits ready.read steps ready.edited later cost)
