@@ -51,6 +51,12 @@ module _ (m : ArenaMap) (rule : Rule) (hooks : List ℕ) (params : List Value) w
       let found = cost k positions in
       within_budget 8 k 0 reached read before after (omega arith) (omega arith) (omega (arith, found))
 
+  pub find_within_once : (most before after : ℕ) → IsAccepted m.schema rule → IsBudgetOnce app most → ((k : ℕ) → HasPositions app k → after ≤ before + 8 * (m.schema.dim + 1) * (length rule.nodes * k + 1)) → after ≤ before + most
+  find_within_once most before after accepted (OfReady place live alpha reached u w ready unfolded reaches units reads) cost =
+      let here = match_found app place accepted ready.matched in
+      let found = cost place.positions (Candidate place here.darts here.candidate) in
+      within_budget 8 place.positions 0 reached (u + w) before after (omega arith) (omega arith) (omega (arith, found))
+
   -- ---- found
 
   module _ (sound : IsSound (as_map m)) (accepted : IsAccepted m.schema rule) (found : Placed) (answer : IsAnswer m rule hooks found) where
@@ -108,6 +114,17 @@ module _ (m : ArenaMap) (rule : Rule) (hooks : List ℕ) (params : List Value) w
         → ((k : ℕ) → HasPositions app k → found_at ≤ before + 8 * (m.schema.dim + 1) * (length rule.nodes * k + 1))
         → ((u : ℕ) → IsPreUnits app here u → read_at ≤ found_at + 6 * (m.schema.dim + 1) * u) → read_at ≤ before + most
     pre_within most before found_at read_at budget finding reading = found_within most 0 before found_at read_at read_at budget (omega arith) finding reading (omega arith)
+
+    pub pre_within_once : (most before found_at read_at : ℕ) → IsBudgetOnce app most
+        → ((k : ℕ) → HasPositions app k → found_at ≤ before + 8 * (m.schema.dim + 1) * (length rule.nodes * k + 1))
+        → ((u : ℕ) → IsPreUnits app here u → read_at ≤ found_at + 6 * (m.schema.dim + 1) * u) → read_at ≤ before + most
+    pre_within_once most before found_at read_at (OfReady place live alpha reached u w ready unfolded reaches units reads) finding reading =
+        let candidate = candidate_of place ready.matched in
+        let same = (candidates_like app accepted.in_range accepted.incidence place here candidate found_here.candidate).positions in
+        let one = find_cost before found_at finding in
+        let two = reading u (units_here place u ready.matched units) in
+        within_budget 8 place.positions u reached (u + w) before read_at (omega arith) (omega arith)
+        (subst (λ p. read_at ≤ before + 8 * (m.schema.dim + 1) * (length rule.nodes * p + 1) + 6 * (m.schema.dim + 1) * u) (sym same) (omega (arith, one, two)))
 
     -- ---- ready
 

@@ -15,7 +15,7 @@ use Rattle.gm_theory.proofs.Lists.{some_same}
 use Rattle.gm_apply.specs.declared.reading.Reading.{Reading}
 use Rattle.gm_apply.specs.declared.refusal.Refusal.{Refusal}
 use Rattle.gm_apply.specs.ReadOnce.{IsReadOnceSum}
-use Rattle.gm_apply.specs.Reads.{app_at, place_at, pending_at, HasEdits, IsEnded, IsWithinEdits}
+use Rattle.gm_apply.specs.Reads.{app_at, place_at, pending_at, HasEdits, IsEnded, IsWithinEdits, IsWithinEditsOnce}
 
 module _ (reading : Reading) (hooks : List ℕ) where
   -- so many steps more: for each instance, for each dart that gets a value, and for each unit that is read
@@ -47,7 +47,19 @@ module _ (reading : Reading) (hooks : List ℕ) where
   pub ended_within : (refusal : Refusal) (start steps : ℕ) → IsEnded reading hooks refusal start steps → IsWithinRest start steps
   ended_within refusal start steps h = edits_within start steps h.within
 
+  rest_once : (start steps : ℕ) → IsWithinEditsOnce reading hooks start steps → IsWithinRestOnce start steps
+  rest_once start steps within result unfolds reached read sum units =
+      let all = within result reached read unfolds sum units in
+      let few = fits (reading.arena.now.schema.dim + 1) (length (rule_of reading.plan.now.table).nodes * reading.found.now.positions) reached in
+      omega (arith, all, few)
+
+  pub ended_within_once : (refusal : Refusal) (start steps : ℕ) → IsEnded reading hooks refusal start steps → IsWithinRestOnce start steps
+  ended_within_once refusal start steps h = rest_once start steps h.once
+
   module _ (edits : EditLists) (start steps : ℕ) (h : HasEdits reading hooks edits start steps) where
+    pub read_within_once : IsWithinRestOnce start steps
+    read_within_once = rest_once start steps h.once
+
     pub read_within : IsWithinRest start steps
     read_within = edits_within start steps h.within
 

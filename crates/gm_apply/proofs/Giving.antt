@@ -23,9 +23,9 @@ use Rattle.gm_pending.specs.EditLists.{EditLists, AllGiven, AreEditsOf, IsReache
 use Rattle.gm_pending.specs.Results.{PendingOf, IsAsked, IsWithinReach, AreDecidingInstances, IsDecidingIn, instances_of, deciding_of, with_instances, given_at, place_of, rule_in}
 use Rattle.gm_apply.specs.declared.reading.Reading.{Reading}
 use Rattle.gm_apply.specs.declared.refusal.Refusal.TheVariants as refusals
-use Rattle.gm_apply.specs.Reads.{IsReadable, app_at, place_at, pending_at, unasked_at, decider_at, seen_at, seen_before, seen_to, IsGivenRight, IsWithinSeen, IsWithinSeenBy, IsWithinSeenOnce, IsWithinRead, IsWithinEdits, IsWithinEditsOnce, IsEnded, HasEdits, HasRead}
+use Rattle.gm_apply.specs.Reads.{IsReadable, app_at, place_at, pending_at, unasked_at, decider_at, seen_at, seen_before, seen_to, IsGivenRight, IsWithinSeen, IsWithinSeenBy, IsWithinSeenOnce, IsWithinRead, IsWithinReadOnce, IsWithinEdits, IsWithinEditsOnce, IsEnded, HasEdits, HasRead}
 use Rattle.gm_apply.specs.ReadOnce.{IsReadOnce}
-use Rattle.gm_apply.proofs.Asking.{nothing_behind, split_last, entry_same, entry_other, seen_same, is_there, within_asked}
+use Rattle.gm_apply.proofs.Asking.{asked_by, nothing_behind, split_last, entry_same, entry_other, seen_same, is_there, within_asked}
 use Rattle.gm_apply.proofs.Seen.{decides, valued_before, within_read, within_read_once}
 
 -- ---- a value in a list of entries
@@ -111,9 +111,12 @@ module _ (reading : Reading) (hooks : List ℕ) where
   pub within_edits : (start steps : ℕ) → IsWithinRead reading hooks start steps → IsWithinEdits reading hooks start steps
   within_edits start steps within result count read unfolds reached s = let spent = within result count read unfolds reached s in omega (arith, spent)
 
+  edits_once : (start steps : ℕ) → IsWithinReadOnce reading hooks start steps → IsWithinEditsOnce reading hooks start steps
+  edits_once start steps within result count read unfolds reached s = let spent = within result count read unfolds reached s in omega (arith, spent)
+
   -- memory was wanting for the deciding instances of an embedding
   pub ended_building : (start later : ℕ) → later ≡ start → IsEnded reading hooks refusals.OutOfMemory start later
-  ended_building start later same = record { refused = λ ready. tt; rises = omega (arith, same); within = λ result count read unfolds reached sum. omega (arith, same) }
+  ended_building start later same = record { refused = λ ready. tt; rises = omega (arith, same); within = λ result count read unfolds reached sum. omega (arith, same); once = λ result count read unfolds reached sum. omega (arith, same) }
 
   pub ended_asking : (before : PendingOf) (e start steps later : ℕ) → HasRead reading hooks before e e 0 start steps → e < length reading.arena.now.schema.embeds
       → ((embed : Embed) → IsEmbedAt before.map.schema e embed → IsWithinReach before e embed steps later) → steps ≤ later → IsEnded reading hooks refusals.OutOfMemory start later
@@ -121,6 +124,7 @@ module _ (reading : Reading) (hooks : List ℕ) where
     refused = λ ready. tt;
     rises = let first = h.rises in omega (arith, first, rises);
     within = within_edits start later (within_read reading hooks before e e 0 start steps h 0 (suc e) later (omega arith) (within_asked reading hooks before e start steps later h within cost));
+    once = edits_once start later (within_read_once reading hooks before e e 0 start steps h 0 (suc e) later (omega arith) (asked_by reading hooks before e start steps later h within cost (λ result. IsReadOnce (app_at reading hooks) (place_at reading) (IsDartOf result) result.alpha) h.once));
   }
 
   -- memory was wanting before the first of them was read
@@ -129,6 +133,7 @@ module _ (reading : Reading) (hooks : List ℕ) where
     refused = λ ready. tt;
     rises = h.rises;
     within = within_edits start steps (within_read reading hooks before (suc e) e 0 start steps h 0 (suc e) steps (omega arith) h.within);
+    once = edits_once start steps (within_read_once reading hooks before (suc e) e 0 start steps h 0 (suc e) steps (omega arith) h.once);
   }
 
   -- a deciding instance is an assigned one, at a position
@@ -198,11 +203,12 @@ module _ (reading : Reading) (hooks : List ℕ) where
           Valueless (place_at reading) result.live result.alpha (decider_at e here.entry) ready
           (subst (λ n. IsUnfolding (scene_of (as_map reading.arena.now) (rule_of reading.plan.now.table) (place_at reading)) (IsDartOf result) result.alpha n) unfolds.next_is unfolds) first
 
-      pub ended_without : IsEnded reading hooks (refusals.NoValue e node) start later
-      ended_without = record {
+      pub ended_without : IsCheap → IsEnded reading hooks (refusals.NoValue e node) start later
+      ended_without cheap = record {
         refused = λ ready. subst (λ x. IsRefused (app_at reading hooks) (NoValue e x)) here.node_is (refused_here ready);
         rises = let first = h.rises in omega (arith, first, rises);
         within = within_edits start later (within_read reading hooks before (suc e) e i start steps h (suc i) (suc e) later (omega arith) within_next);
+        once = edits_once start later (within_read_once reading hooks before (suc e) e i start steps h (suc i) (suc e) later (omega arith) (next_by (λ result. IsReadOnce (app_at reading hooks) (place_at reading) (IsDartOf result) result.alpha) h.once cheap));
       }
 
     -- it is given its value
@@ -335,7 +341,7 @@ module _ (reading : Reading) (hooks : List ℕ) where
           omega (arith, before_them, last)
 
       pub ended_editing : IsEnded reading hooks refusals.OutOfMemory start later
-      ended_editing = record { refused = λ ready. tt; rises = let first = h.rises in omega (arith, first, rises); within = all_within }
+      ended_editing = record { refused = λ ready. tt; rises = let first = h.rises in omega (arith, first, rises); within = all_within; once = all_within_once }
 
       pub has_edits : (edits : EditLists) → AreEditsOf pending edits → HasEdits reading hooks edits start later
       has_edits edits are = record { pending = pending; is = h.is; right = all_right; edits_of = are; rises = let first = h.rises in omega (arith, first, rises); within = all_within; once = all_within_once }

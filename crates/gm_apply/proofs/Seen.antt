@@ -7,7 +7,7 @@ use Rattle.std.proofs.lemmas.List.Sums.{sum_by-take-le}
 use Rattle.std.proofs.lemmas.Nat.{mul-le}
 use Rattle.gm_model.specs.declared.schema.Embed.{Embed}
 use Rattle.gm_model.specs.declared.value.Value.{Value}
-use Rattle.gm_model.specs.Applications.{Application, Decider, IsDeciderBefore, GivesValue, IsDecider, IsReachedSum, IsValuedBefore, IsRead, IsReadUnits, IsReadSum}
+use Rattle.gm_model.specs.Applications.{Application, Decider, IsDeciderBefore, GivesValue, IsDecider, IsValuedBefore, IsRead, IsReadUnits, IsReadSum}
 use Rattle.gm_model.specs.Maps.{IsEmbedAt}
 use Rattle.gm_model.specs.Orbits.{IsPairBefore}
 use Rattle.gm_model.specs.Rules.{rule_of}
@@ -18,7 +18,7 @@ use Rattle.gm_pending.specs.declared.deciding_instance.DecidingInstance.{Decidin
 use Rattle.gm_pending.specs.Results.{PendingOf, IsAsked, instances_of, deciding_of}
 use Rattle.gm_apply.specs.declared.reading.Reading.{Reading}
 use Rattle.gm_apply.specs.ReadOnce.{IsReadOnce, IsReadOnceSum}
-use Rattle.gm_apply.specs.Reads.{app_at, place_at, decider_at, seen_at, seen_before, seen_to, IsWithinSeen, IsWithinSeenOnce, IsWithinRead, HasRead}
+use Rattle.gm_apply.specs.Reads.{app_at, place_at, decider_at, seen_at, seen_before, seen_to, IsWithinSeen, IsWithinSeenOnce, IsWithinRead, IsWithinReadOnce, HasRead}
 use Rattle.gm_apply.proofs.ReadValues.{some_embed}
 use Rattle.gm_apply.proofs.Sublists.{AreOrdered, HasUnitsOf, units_among}
 
@@ -240,9 +240,7 @@ module _ (reading : Reading) (hooks : List ℕ) (pending : PendingOf) (asked e i
       omega (arith, spent, first, second)
 
   -- and where what is shared is read once, it is within that
-  pub within_read_once : (n upto last : ℕ) → n ≤ suc i → IsWithinSeenOnce reading hooks (seen_to pending e n) upto start last → (result : Unfolded) (count read : ℕ) → Unfolds (as_map reading.arena.now) (rule_of reading.plan.now.table) (place_at reading) result
-      → IsReachedSum app (place_at reading) (IsDartOf result) result.alpha count → IsReadOnceSum app (place_at reading) (IsDartOf result) result.alpha read
-      → last ≤ start + 2 * (reading.arena.now.schema.dim + 1) * count + 6 * (reading.arena.now.schema.dim + 1) * read
+  pub within_read_once : (n upto last : ℕ) → n ≤ suc i → IsWithinSeenOnce reading hooks (seen_to pending e n) upto start last → IsWithinReadOnce reading hooks start last
   within_read_once n upto last few within result count read unfolds reached s =
       let us = once_of result unfolds n read few s in
       let spent = within result count us.units unfolds reached us.units_are in

@@ -21,7 +21,7 @@ use Rattle.gm_plan.specs.InArena.{placement_in}
 use Rattle.gm_apply.specs.declared.reading.Reading.{Reading}
 use Rattle.gm_apply.specs.declared.refusal.Refusal.{Refusal}
 use Rattle.gm_apply.specs.Outcomes.{IsRefusedFor, HasRoom}
-use Rattle.gm_apply.specs.ReadOnce.{IsReadOnce, IsReadOnceSum}
+use Rattle.gm_apply.specs.ReadOnce.{IsBudgetOnce, IsReadOnce, IsReadOnceSum}
 
 -- ---- where expressions are read
 
@@ -108,6 +108,13 @@ module _ (reading : Reading) (hooks : List ℕ) where
       → IsReachedSum (app_at reading hooks) (place_at reading) (IsDartOf result) result.alpha count → IsReadSum (app_at reading hooks) (place_at reading) (IsDartOf result) result.alpha read
       → steps ≤ start + 2 * (reading.arena.now.schema.dim + 1) * count + 6 * (reading.arena.now.schema.dim + 1) * read
 
+  -- where what is shared is read once
+  abbrev pub IsWithinReadOnce : ℕ → ℕ → Type 0
+  IsWithinReadOnce start steps =
+      (result : Unfolded) (count read : ℕ) → Unfolds (as_map reading.arena.now) (rule_of reading.plan.now.table) (place_at reading) result
+      → IsReachedSum (app_at reading hooks) (place_at reading) (IsDartOf result) result.alpha count → IsReadOnceSum (app_at reading hooks) (place_at reading) (IsDartOf result) result.alpha read
+      → steps ≤ start + 2 * (reading.arena.now.schema.dim + 1) * count + 6 * (reading.arena.now.schema.dim + 1) * read
+
   -- and what edits of that take
   abbrev pub IsWithinEdits : ℕ → ℕ → Type 0
   IsWithinEdits start steps =
@@ -129,6 +136,7 @@ module _ (reading : Reading) (hooks : List ℕ) where
     pub refused : IsReady (app_at reading hooks) (place_at reading) → IsRefusedFor (app_at reading hooks) refusal
     pub rises : start ≤ steps
     pub within : IsWithinEdits start steps
+    pub once : IsWithinEditsOnce start steps
 
   -- the edits are those of the application, where each deciding instance was given the value of its expression
   pub record HasEdits (edits : EditLists) (start steps : ℕ) : Type 0 where
@@ -154,4 +162,6 @@ module _ (reading : Reading) (hooks : List ℕ) where
     pub refused : IsRefusedFor (app_at reading hooks) refusal
     pub rises : start ≤ steps
     pub within : (most before : ℕ) → IsBudget (app_at reading hooks) most
+        → ((k : ℕ) → HasPositions (app_at reading hooks) k → start ≤ before + 8 * (reading.arena.now.schema.dim + 1) * (length (rule_of reading.plan.now.table).nodes * k + 1)) → steps ≤ before + most
+    pub once : (most before : ℕ) → IsBudgetOnce (app_at reading hooks) most
         → ((k : ℕ) → HasPositions (app_at reading hooks) k → start ≤ before + 8 * (reading.arena.now.schema.dim + 1) * (length (rule_of reading.plan.now.table).nodes * k + 1)) → steps ≤ before + most

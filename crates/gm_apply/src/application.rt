@@ -55,7 +55,7 @@ pub fn apply<L: Ledger>(
     ensures sound { IsSound (as_map arena.new) }
     ensures schema { arena.new.schema ≡ arena.old.schema }
     ensures most { (most : ℕ) → IsBudget (application_of arena.old (rule_of plan.now.table) hooks.now params.now) most → steps.new ≤ steps.old + most }
-    ensures once { IfOk result (λ _. (most : ℕ) → IsBudgetOnce (application_of arena.old (rule_of plan.now.table) hooks.now params.now) most → steps.new ≤ steps.old + most) }
+    ensures once { (most : ℕ) → IsBudgetOnce (application_of arena.old (rule_of plan.now.table) hooks.now params.now) most → steps.new ≤ steps.old + most }
     ensures least { IfOk result (λ applied. steps.old + applied.added + applied.removed ≤ steps.new) }
     ensures rises { steps.old ≤ steps.new }
     ensures room { scratch.old.bound ≤ scratch.new.bound }

@@ -48,8 +48,17 @@ value-requires-clause-position g c = (assigned_at c.args.self.now c.requires.rea
 
 pub returns-in_default-clause-given : goal.returns-in_default-clause-given
 returns-in_default-clause-given g c hooks start readable read =
+    let at : slice_get (places_of c.args.pending.now c.args.embed) c.loop-index.index ≡ Some c.decider-node.result = subst (λ (places : List (ℕ × ℕ)). slice_get places c.loop-index.index ≡ Some c.decider-node.result) c.loop-index.invariant.places c.decider-node.ensures in
+    let long : length (places_of c.args.pending.now c.args.embed) ≡ c.args.count = length-map (instances_of c.args.pending.now c.args.embed) place_of ∙ c.requires.count in
+    let turned = kept_turned c.args.self.now c.args.embed (places_of c.args.pending.now c.args.embed) c.args.count c.collects-collects.result (nodes_rise c.args.self.now c.requires.read.0 c.args.pending.now c.args.embed 0 c.requires.read.1 c.args.steps.now c.requires.read.3) c.loop-index.index c.decider-node.result.0 c.decider-node.result.1 at c.loop-index.kept c.turn_to.new.self c.loop-index.invariant.before c.turn_to.ensures.stays c.turn_to.ensures.turned c.turn_to.ensures.reader in
     ended_without c.args.self.now hooks c.loop-index.pending c.args.embed c.loop-index.index start c.loop-index.steps c.value.new.steps c.decider-node.result.0 c.decider-node.result.1 (c.loop-index.invariant.read hooks start readable read) (entry_at (instances_of c.loop-index.pending c.args.embed) c.loop-index.index c.decider-node.result.0 c.decider-node.result.1 c.decider-node.ensures)
     (c.value.ensures.cost hooks) readable (c.in_default.ensures.value hooks) c.value.ensures.least
+    (λ result unfolds u units.
+    let these = units_once c.args.self.now hooks readable c.loop-index.pending c.args.embed c.loop-index.index start c.loop-index.steps (c.loop-index.invariant.read hooks start readable read) c.decider-node.result.0 c.decider-node.result.1
+    (entry_at (instances_of c.loop-index.pending c.args.embed) c.loop-index.index c.decider-node.result.0 c.decider-node.result.1 c.decider-node.ensures) result unfolds u units in
+    cost_beside c.args.self.now c.args.embed (places_of c.args.pending.now c.args.embed) c.args.count c.collects-collects.result c.loop-index.index c.decider-node.result.0 c.decider-node.result.1 at c.turn_to.new.self turned c.collects-collects.ensures.nothing
+    c.loop-index.steps c.value.new.steps long c.value.ensures.cheap these.0 u these.1
+    (subst (λ places. HasUnitsBeside (WasRead c.args.self.now c.args.embed places c.loop-index.index c.decider-node.result.0 these.0) (read_at c.args.self.now c.decider-node.result.1) these.0 u) c.loop-index.invariant.places these.2))
 
 pub give-requires-clause-value : goal.give-requires-clause-value
 give-requires-clause-value g c kept at =
