@@ -41,7 +41,7 @@ module _ (app : Application) where
         pub units_are : AllZip IsReadOnce read units
         pub sum_is : u ≡ sum units
 
-  -- the most steps that an application may take that is refused for no more than a value, where what is shared is read once
+  -- The most steps that the application may take, where what is shared is read once. It is ready, so it can lack no more than a value.
   pub data IsBudgetOnce : ℕ → Type 0 where
     OfReady : (place : Placement) (IsLive : ℕ → Bool) (alpha : ℕ → ℕ → ℕ) (reached u w : ℕ) → IsReady app place → IsUnfolded app place (λ d. IsTrue (IsLive d)) alpha
         → IsReachedSum app place (λ d. IsTrue (IsLive d)) alpha reached → IsPreUnits app place u → IsReadOnceSum place (λ d. IsTrue (IsLive d)) alpha w

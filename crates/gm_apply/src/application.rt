@@ -30,8 +30,9 @@ use std::sync::ledger::Ledger;
 /// Applies the plan's rule to the map, at the darts that the hooks name, with these values for its
 /// parameters.
 ///
-/// What its readings share is read once: a collector over an orbit that holds the collector's node at
-/// every position is walked at the first of the positions that a node's expression is read at.
+/// An expression with at most 36 collectors reads once what its positions share: a collector over an
+/// orbit that holds the collector's node at every position counts at the first of the positions that
+/// it is read at, and nothing at the later ones.
 ///
 /// The arena has a sound map again, whatever the answer is, and after a refusal the same one.
 /// Where memory was wanting, its spare and reserved names may have risen, but not past what the
