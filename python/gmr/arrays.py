@@ -169,4 +169,4 @@ def join_rows(version: int, dimension: int, embeds: list[Embed], stated: bytes |
 
 def load_arrays(path: str | os.PathLike[str]) -> Arrays:
     """The map of a file, judged by the program first: what it refuses is passed on as program.Refused."""
-    return read_arrays(program.put_or_refuse("show", path).encode())
+    return read_arrays(program.put_of_file("show", path).encode())

@@ -7,7 +7,7 @@ from pathlib import Path
 from typing import NamedTuple
 
 from gmr.maps import Embed
-from gmr.program import put_or_refuse
+from gmr.program import put_of_file
 
 Letters = tuple[int | None, ...]
 Link = tuple[str, int, str]
@@ -245,7 +245,7 @@ def read_book(text: str, reader: Reader | None = None) -> Book:
 def load_book(path: str | Path) -> Book:
     """The book of a file as the program prints it, but each rule's own text and the head as the file has them. Where
     the program takes no book, that is Refused with its line."""
-    printed = read_book(put_or_refuse("book", path))
+    printed = read_book(put_of_file("book", path))
     head, texts = split_book(Path(path).read_text(encoding="latin-1"))
     rules = [rule._replace(text=text) for rule, (_, text) in zip(printed.rules, texts)]
     return printed._replace(rules=rules, head=head)

@@ -1,17 +1,26 @@
 """What the package raises. Each says what happened in one line, and has the status with which a command ends."""
-from collections.abc import Callable, Sequence
+import os
+from collections.abc import Callable, Iterator, Sequence
+from contextlib import contextmanager
 
 REFUSED, WRONG_WORDS, INTERRUPTED = 1, 2, 130
+UNRUN = 9       # the program isn't there or can't be run, whatever the file
 
 
 class Fault(Exception):
-    """What a caller can be told in one line: the base of all that the package raises of its own."""
+    """What a caller can be told in one line: the base of all that the package raises of its own.
 
-    status = REFUSED
+    line: what happened. file: the name of the file that it is about, where the line doesn't say it. status: that of
+    the program where it refused, else 1."""
 
-    def __init__(self, line: str) -> None:
+    def __init__(self, line: str, file: str | os.PathLike[str] | None = None, status: int = REFUSED) -> None:
         super().__init__(line)
-        self.line = line
+        self.line, self.status = line, status
+        self.file = None if file is None else os.fspath(file)
+
+    def told(self) -> str:
+        """The line with the file's name before it."""
+        return self.line if self.file is None or self.file in self.line else f"{self.file}: {self.line}"
 
 
 class Missing(Fault):
@@ -31,10 +40,9 @@ class Refused(Fault):
 
     def __init__(
         self, line: str, status: int = REFUSED, cause: str | None = None, darts: Sequence[int] = (),
-        explain: Callable[[], list[str]] | None = None,
+        explain: Callable[[], list[str]] | None = None, file: str | os.PathLike[str] | None = None,
     ) -> None:
-        super().__init__(line)
-        self.status = status
+        super().__init__(line, file, status)
         self.cause = line if cause is None else cause
         self.darts = tuple(darts)
         self._explain = explain
@@ -46,3 +54,16 @@ class Refused(Fault):
         if self._sentences is None:
             self._sentences = self._explain() if self._explain else []
         return self._sentences
+
+
+@contextmanager
+def told_with(file: str | os.PathLike[str]) -> Iterator[None]:
+    """What is raised within is about the file, where it says no other; a ValueError becomes a Fault."""
+    try:
+        yield
+    except Fault as fault:
+        if fault.file is None and fault.status != UNRUN:
+            fault.file = os.fspath(file)
+        raise
+    except ValueError as fault:
+        raise Fault(str(fault), file) from fault

@@ -3,11 +3,13 @@
 The program judges and evaluates expressions, and this module tells why it answered as it did: which part has no
 kind, which part has no value, and what each part is worth."""
 from collections.abc import Callable, Mapping, Sequence
+from operator import ge, gt, le, lt
 from typing import NamedTuple
 
 from gmr.books import Token
 from gmr.maps import LEAST_NUMBER, MOST_NUMBER, Map, Value
 
+ORDERS: dict[str, Callable[[int, int], bool]] = {"<": lt, "<=": le, ">": gt, ">=": ge}
 COMPARISONS = ("==", "!=", "<", "<=", ">", ">=")
 PARTS_OF_VALUES = {"x": 0, "y": 1, "z": 2, "red": 0, "green": 1, "blue": 2}
 ARGUMENTS = {"vec2": 2, "vec3": 3, "rgb": 3, **dict.fromkeys(PARTS_OF_VALUES, 1)}
@@ -262,8 +264,8 @@ def value_of(tree: Tree, scene: Scene) -> Value:
 def value_of_leaf(tree: Tree, scene: Scene) -> Value:
     """The value of a part that has no parts."""
     if tree.form in ("number", "truth", "parameter"):
-        return {"number": lambda: int(tree.word), "truth": lambda: tree.word == "true",
-                "parameter": lambda: scene.params[tree.word]}[tree.form]()
+        return scene.params[tree.word] if tree.form == "parameter" else (
+            int(tree.word) if tree.form == "number" else tree.word == "true")
     darts = [scene.dart(term) for term in tree.terms]
     if tree.form == "same":
         return darts[0] == darts[1]
@@ -274,37 +276,51 @@ def value_of_leaf(tree: Tree, scene: Scene) -> Value:
         return len(orbit)
     values = [scene.map.values[tree.word][dart] for dart in orbit]
     if tree.form == "sum":
-        return sum(values) if isinstance(values[0], int) else tuple(map(sum, zip(*values)))
-    return (min if tree.form == "min" else max)(values)
+        parts = tuple(map(sum, zip(*map(parts_of, values))))
+        return parts if isinstance(values[0], tuple) else parts[0]
+    return (min if tree.form == "min" else max)(map(number_of, values))
 
 
 def value_of_function(tree: Tree, values: list[Value]) -> Value:
     """The value of a function of these values."""
     if tree.word in PARTS_OF_VALUES:
-        return values[0][PARTS_OF_VALUES[tree.word]]
-    if tree.word == "rgb" and not all(0 <= value <= 255 for value in values):
-        raise NoValue(tree, f"a colour's parts are 0 to 255, and these are {show(tuple(values))}")
-    return tuple(values)
+        return parts_of(values[0])[PARTS_OF_VALUES[tree.word]]
+    parts = tuple(map(number_of, values))
+    if tree.word == "rgb" and not all(0 <= part <= 255 for part in parts):
+        raise NoValue(tree, f"a colour's parts are 0 to 255, and these are {show(parts)}")
+    return parts
 
 
 def value_of_operator(tree: Tree, left: Value, right: Value) -> Value:
     """The value of an operator between two values."""
     if tree.word in ("and", "or"):
         return (left and right) if tree.word == "and" else (left or right)
+    if tree.word in ("==", "!="):
+        return (left == right) == (tree.word == "==")
     if tree.word in COMPARISONS:
-        return {"==": left == right, "!=": left != right}[tree.word] if tree.word in ("==", "!=") else {
-            "<": left < right, "<=": left <= right, ">": left > right, ">=": left >= right}[tree.word]
+        return ORDERS[tree.word](number_of(left), number_of(right))
     if tree.word in ("/", "%"):
         if right == 0:
             raise NoValue(tree, "the divisor is 0")
-        return in_range(tree, by_part(lambda number: number // right if tree.word == "/" else number % right, left))
+        divisor = number_of(right)
+        return in_range(tree, by_part(lambda part: part // divisor if tree.word == "/" else part % divisor, left))
     if tree.word == "*":
-        vector, factor = (left, right) if isinstance(right, int) else (right, left)
-        return in_range(tree, by_part(lambda number: number * factor, vector))
+        vector, factor = (left, number_of(right)) if isinstance(right, int) else (right, number_of(left))
+        return in_range(tree, by_part(lambda part: part * factor, vector))
     sign = 1 if tree.word == "+" else -1
-    if isinstance(left, int):
-        return in_range(tree, left + sign * right)
-    return in_range(tree, tuple(one + sign * other for one, other in zip(left, right)))
+    parts = tuple(one + sign * other for one, other in zip(parts_of(left), parts_of(right)))
+    return in_range(tree, parts if isinstance(left, tuple) else parts[0])
+
+
+def parts_of(value: Value) -> tuple[int, ...]:
+    """The numbers of a value."""
+    return value if isinstance(value, tuple) else (value,)
+
+
+def number_of(value: Value) -> int:
+    """A value that is one number."""
+    assert isinstance(value, int), f"{value} is no number"
+    return value
 
 
 def by_part(function: Callable[[int], int], value: Value) -> Value:
@@ -314,7 +330,7 @@ def by_part(function: Callable[[int], int], value: Value) -> Value:
 
 def in_range(tree: Tree, value: Value) -> Value:
     """A value whose numbers are in range; NoValue where one isn't."""
-    for number in (value,) if isinstance(value, int) else value:
+    for number in parts_of(value):
         if not LEAST_NUMBER <= number <= MOST_NUMBER:
             raise NoValue(tree, f"it would be {show(value)}, and numbers go from {LEAST_NUMBER} to {MOST_NUMBER}")
     return value

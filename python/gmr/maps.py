@@ -178,7 +178,7 @@ def join_columns(
 
 def load_map(path: str | os.PathLike[str]) -> Map:
     """The map of a file, judged by the program first: what it refuses is passed on as program.Refused."""
-    return read_map(program.put_or_refuse("show", path))
+    return read_map(program.put_of_file("show", path))
 
 
 def make_values(darts: Iterable[int], value: Value) -> dict[int, Value]:

@@ -1,12 +1,11 @@
-"""Where the left side of a rule lies in a map, what of it isn't met, and what the rule makes of the map there.
+"""Where the left side of a rule lies in a map, and what of it isn't met.
 
 The program decides all of this; this module finds it again, so that a refusal can be told with its darts."""
 import heapq
-from dataclasses import replace
 from typing import NamedTuple
 
 from gmr.books import Link, Node, Rule
-from gmr.maps import Embed, Map, walk
+from gmr.maps import Map, walk
 
 
 class Step(NamedTuple):
@@ -30,7 +29,7 @@ class Candidate(NamedTuple):
     darts: dict[str, list[int]]   # darts[left node][position]
     routes: dict[str, Route]      # of each left node but the hooks
 
-    def count(self) -> int:
+    def size(self) -> int:
         """How many positions there are."""
         return len(self.darts[self.hooks[0].name]) if self.hooks else 1
 
@@ -38,17 +37,25 @@ class Candidate(NamedTuple):
         """The dart to which the left side wants the node's dart to lead along a label that the node has there."""
         step = step_of(node.left or (), self.rule.left_links, node.name, label)
         assert step is not None, f"{node.name} has no {label} on the left"
-        if step.place is not None:
-            return self.darts[node.name][self.turns[step.place][position]]
-        return self.darts[step.node][position]
+        return ends_of(self, node, step)[position]
+
+
+def steps_of(word: tuple[int | None, ...], links: list[Link], name: str) -> dict[int, Step]:
+    """What a node with this word has at each label, on the side with these links: the first link counts before the
+    first letter."""
+    steps: dict[int, Step] = {}
+    for one, along, other in links:
+        if name in (one, other):
+            steps.setdefault(along, Step(other if name == one else one, None))
+    for place, label in enumerate(word):
+        if label is not None:
+            steps.setdefault(label, Step(None, place))
+    return steps
 
 
 def step_of(word: tuple[int | None, ...], links: list[Link], name: str, label: int) -> Step | None:
     """What a node with this word has at a label, on the side with these links."""
-    for one, along, other in links:
-        if along == label and name in (one, other):
-            return Step(other if name == one else one, None)
-    return Step(None, word.index(label)) if label in word else None
+    return steps_of(word, links, name).get(label)
 
 
 def routes_of(rule: Rule) -> dict[str, Route]:
@@ -68,6 +75,11 @@ def routes_of(rule: Rule) -> dict[str, Route]:
     return routes
 
 
+def labels_of(word: tuple[int | None, ...] | None) -> tuple[int, ...]:
+    """The labels of a word, or of none."""
+    return tuple(letter for letter in word or () if letter is not None)
+
+
 def turns_of(around: list[int], word: tuple[int, ...], amap: Map) -> list[list[int]]:
     """To which position each position turns at each place of the word."""
     places = {dart: position for position, dart in enumerate(around)}
@@ -77,14 +89,11 @@ def turns_of(around: list[int], word: tuple[int, ...], amap: Map) -> list[list[i
 def place_in_step(hook: Node, dart: int, turns: list[list[int]], amap: Map) -> list[int]:
     """The darts of a later hook, which goes from its dart in step with the walk that has these turns."""
     count = len(turns[0]) if turns else 1
-    darts: list[int | None] = [None] * count
-    darts[0] = dart
+    darts = {0: dart}
     for position in range(count):
-        for place, label in enumerate(hook.left or ()):
-            turned = turns[place][position]
-            if darts[turned] is None:
-                darts[turned] = amap.alpha[label][darts[position]]
-    return [dart for dart in darts if dart is not None]
+        for row, label in zip(turns, labels_of(hook.left)):
+            darts.setdefault(row[position], amap.alpha[label][darts[position]])
+    return [darts[position] for position in range(count)]
 
 
 def find_candidate(rule: Rule, amap: Map, hook_darts: list[int]) -> Candidate:
@@ -92,7 +101,7 @@ def find_candidate(rule: Rule, amap: Map, hook_darts: list[int]) -> Candidate:
     hooks = [node for node in rule.nodes if node.hook]
     if not hooks:
         return Candidate(rule, amap, [], [], {}, {})
-    word = hooks[0].left or ()
+    word = labels_of(hooks[0].left)
     around = walk(hook_darts[0], [amap.alpha[label] for label in word])
     turns = turns_of(around, word, amap)
     darts = {hooks[0].name: around}
@@ -120,41 +129,18 @@ def way_to(position: int, turns: list[list[int]], word: tuple[int, ...]) -> tupl
     return ways[position]
 
 
-def unfold(found: Candidate) -> tuple[Map, dict[str, list[int]]]:
-    """The darts and arcs that an application leaves, without values, and the darts of each right node."""
-    rule, amap, count = found.rule, found.map, found.count()
-    alpha = [dict(step) for step in amap.alpha]
-    preserved = [node for node in rule.nodes if node.left is not None and node.right is not None]
-    darts = {node.name: found.darts[node.name] for node in preserved}
-    added = [node for node in rule.nodes if node.left is None]
-    for at, node in enumerate(added):
-        first = amap.next + at * count
-        darts[node.name] = list(range(first, first + count))
-    for node in rule.nodes:
-        for label in range(amap.dimension + 1) if node.right is not None else ():
-            step = step_of(node.right, rule.right_links, node.name, label)
-            if step is not None:
-                ends = darts[step.node] if step.node else [darts[node.name][turn] for turn in found.turns[step.place]]
-                alpha[label].update(zip(darts[node.name], ends))
-    gone = {dart for node in rule.nodes if node.right is None for dart in found.darts[node.name]}
-    for step in alpha:
-        for dart in gone:
-            del step[dart]
-    names = sorted(alpha[0])
-    return replace(amap, darts=names, alpha=alpha, values={}, next=amap.next + count * len(added)), darts
+def is_match(found: Candidate) -> bool:
+    """Whether the left side lies in the map as the candidate has it: each left step leads where it says, and no dart
+    is taken twice."""
+    taken = [dart for darts in found.darts.values() for dart in darts]
+    return len(set(taken)) == len(taken) and all(
+        [found.map.alpha[label][dart] for dart in found.darts[node.name]] == ends_of(found, node, step)
+        for node in found.rule.nodes if node.left is not None
+        for label, step in steps_of(node.left, found.rule.left_links, node.name).items())
 
 
-def deciding_positions(found: Candidate, node: Node, embed: Embed) -> list[int]:
-    """The positions at which the node's assignment decides the value of an orbit of the result: there no lesser
-    node or position with an assignment to the embedding lies in the same orbit."""
-    result, darts = unfold(found)
-    assigned = [other for other in found.rule.nodes if embed.name in other.sets]
-    decided: set[int] = set()
-    deciding = []
-    for other in assigned[:assigned.index(node) + 1]:
-        for position, dart in enumerate(darts[other.name]):
-            if dart not in decided:
-                decided.update(result.orbit(embed.labels, dart))
-                if other is node:
-                    deciding.append(position)
-    return deciding
+def ends_of(found: Candidate, node: Node, step: Step) -> list[int]:
+    """The dart to which a left step of a node leads at each position."""
+    if step.node is not None:
+        return found.darts[step.node]
+    return [found.darts[node.name][turned] for turned in found.turns[step.place or 0]]

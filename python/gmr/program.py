@@ -1,18 +1,16 @@
-"""Runs gmr itself for the tools around it, and finds the Python packages that they need."""
+"""Runs gmr itself for the package around it, and imports what only some of it needs."""
 import importlib
-import importlib.util
 import os
 import shutil
 import subprocess
-import sys
 from pathlib import Path
 from types import ModuleType
 from typing import NoReturn
 
-from gmr.errors import Refused as Refused
+from gmr.errors import UNRUN, Fault, Missing, Refused as Refused, told_with
 
+UNREAD = 3      # the status where a file isn't there or can't be read
 CHECKOUT = Path(__file__).resolve().parents[2]
-SYSTEM_PYTHON = "/usr/bin/python3"
 
 
 def find_program() -> str:
@@ -20,65 +18,66 @@ def find_program() -> str:
     named = os.environ.get("GMR")
     if named:
         if shutil.which(named) is None:
-            raise Refused(f"{named} can't be run: $GMR names no program", 9)
+            raise Refused(f"{named} can't be run: $GMR names no program", UNRUN)
         return named
     built = CHECKOUT / "crates" / "gmr" / "out" / "gmr"
     if not built.exists():
-        raise Refused("the program isn't built: call ./gmr once, which proves and builds it, or name one by $GMR", 9)
+        raise Refused("the program isn't built: call ./gmr once, which proves and builds it, or name one by $GMR", UNRUN)
     return str(built)
 
 
 def answer(*words: str | os.PathLike[str]) -> tuple[int, str]:
-    """Runs the program with the words: its status, and what it put.
+    """Runs the program with the words: its status, and what it printed.
 
     Raises Refused where there is no program to run, or where it ended by a signal.
     """
-    command = [find_program(), *map(os.fspath, words)]
+    command = [find_program(), *(os.fspath(word) for word in words)]
     try:
         done = subprocess.run(command, stdout=subprocess.PIPE, stdin=subprocess.DEVNULL, check=False)
     except OSError as error:
-        raise Refused(f"{command[0]} can't be run: {error.strerror}", 9) from error
+        raise Refused(f"{command[0]} can't be run: {error.strerror}", UNRUN) from error
     if done.returncode < 0:
-        raise Refused(f"{command[0]} was ended by signal {-done.returncode}", 9)
+        raise Refused(f"{command[0]} was ended by signal {-done.returncode}", UNRUN)
     return done.returncode, done.stdout.decode("utf-8", "replace")
 
 
 def put_or_refuse(*words: str | os.PathLike[str]) -> str:
-    """What the program puts for the words; Refused with its own first line where its status isn't 0."""
+    """What the program prints for the words; Refused with its own first line where its status isn't 0."""
     status, text = answer(*words)
     if status:
         raise refusal_of(status, text)
     return text
 
 
+def put_of_file(command: str, path: str | os.PathLike[str]) -> str:
+    """What the program prints for a command over a file; Refused with its line and the file's name, or OSError where
+    the file can't be read."""
+    with told_with(path):
+        try:
+            return put_or_refuse(command, path)
+        except Refused as refused:
+            if refused.status == UNREAD:
+                open(path, "rb").close()    # which says why
+            raise
+
+
 def refusal_of(status: int, text: str) -> Refused:
-    """The refusal that the program put, by its first line."""
+    """The refusal that the program printed, by its first line."""
     line = text.split("\n", 1)[0]
-    return Refused(line or f"the program ended with status {status} and put nothing", status)
+    return Refused(line or f"the program ended with status {status} and printed nothing", status)
 
 
 def needs(module: str, package: str) -> ModuleType:
-    """The module, imported. Debian has it in the package.
-
-    Where this interpreter hasn't got it and the system's Python has, the command line is run again under that
-    one; where neither has it, one line says what to install, and the status is 1.
-    """
-    if importlib.util.find_spec(module.partition(".")[0]) is not None:
-        return importlib.import_module(module)
-    if sys.executable != SYSTEM_PYTHON and has_module(SYSTEM_PYTHON, module):
-        os.execv(SYSTEM_PYTHON, [SYSTEM_PYTHON, *sys.argv])
-    fail(f"the Python module {module} is missing: apt-get install {package}")
-
-
-def has_module(python: str, module: str) -> bool:
-    """Whether the interpreter can import the module."""
+    """The module, imported; Missing names the package of Debian that has it, where this interpreter hasn't got it."""
     try:
-        return subprocess.run([python, "-c", f"import {module}"], capture_output=True, check=False).returncode == 0
-    except OSError:
-        return False
+        return importlib.import_module(module)
+    except ModuleNotFoundError as fault:
+        top = module.partition(".")[0]
+        if fault.name is None or fault.name.partition(".")[0] != top:
+            raise
+        raise Missing(f"the Python module {top} is missing: apt-get install {package}, or pip install {top}") from None
 
 
-def fail(line: str, status: int = 1) -> NoReturn:
-    """Ends the tool with the line on standard error, under the tool's own name."""
-    print(f"{Path(sys.argv[0]).name}: {line}", file=sys.stderr)
-    raise SystemExit(status)
+def fail(line: str) -> NoReturn:
+    """Raises the fault that has this line."""
+    raise Fault(line)

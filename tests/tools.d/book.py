@@ -84,7 +84,7 @@ def test_what_cannot_be_joined_is_one_line():
             "second.gbook has the embeddings of first.gbook in another order: say one by --order",
         "first.gbook first.gbook": "the rule move comes twice: in first.gbook and in first.gbook",
         "flat.gbook line.gbook": "flat.gbook is of dimension 2, and line.gbook of dimension 1",
-        "flat.gbook none.gbook": "none.gbook: refused load BOOK",
+        "flat.gbook none.gbook": "none.gbook: No such file or directory",
         "flat.gbook flat.gbook --order pos": "the embeddings are none, and not pos",
     }
     for words, line in lines.items():

@@ -120,7 +120,7 @@ def test_places_are_scaled_and_bounded():
 
 
 def test_what_cannot_be_found_is_one_line():
-    equal(find("examples/torn.gmap", "--list", "2"), (1, "", "find: refused MAP embedding pos darts 5 6\n"))
+    equal(find("examples/torn.gmap", "--list", "2"), (1, "", "find: examples/torn.gmap: refused MAP embedding pos darts 5 6\n"))
     for words in ("--of 99", "--list 3", "--list 2 --script {x}", "--at 0 0 --points paint", "--orbit 0 x", "--orbit 7 0"):
         status, put, said = find(SQUARE, *words.split())
         equal((status, put, said.count("\n")), (1, "", 1))

@@ -110,7 +110,7 @@ def test_the_program_that_is_run():
         return subprocess.run(words, capture_output=True, text=True, check=True, env=environment).stdout.strip()
 
     built = ROOT / "crates" / "gmr" / "out" / "gmr"
-    assert found(GMR="/somewhere/gmr") == "/somewhere/gmr"
+    assert found(GMR="/bin/true") == "/bin/true"
     if built.exists():
         assert found() == str(built)
 
@@ -129,6 +129,4 @@ def test_a_program_that_is_not_there():
     words = [sys.executable, ROOT / "tools" / "mesh", "export", "a.gmap", "a.obj"]
     environment = {**os.environ, "GMR": "/nowhere/gmr"}
     said = subprocess.run(words, capture_output=True, text=True, check=False, env=environment)
-    assert (
-        said.returncode == 1 and said.stderr == "mesh: a.gmap: /nowhere/gmr can't be run: No such file or directory\n"
-    )
+    assert said.returncode == 1 and said.stderr == "mesh: /nowhere/gmr can't be run: $GMR names no program\n"

@@ -1,4 +1,5 @@
 """Tests of tools/mesh: a mesh for each refusal, and a map for each."""
+import re
 import subprocess
 from collections.abc import Callable
 from fractions import Fraction
@@ -10,6 +11,8 @@ from gmr.mesh.formats import read_mesh, write_mesh
 from gmr.mesh.model import CELL_FACES, Surface, Unfit, Volume, make_cell, make_polyhedron
 from gmr.mesh.scale import choose_scale, scale_points
 from mesh import CELL_POINTS, HOUSE_FACES, HOUSE_POINTS, ONE, TOOL, block, house, place, read_written, run_tool, scratch
+
+SYSTEM_PYTHON = "/usr/bin/python3"      # which sees the packages of the distribution
 
 
 def refusal(act: Callable[[], object]) -> str:
@@ -180,7 +183,7 @@ def test_a_map_that_the_program_refuses_is_a_fault_of_the_tool():
     answers = {
         "echo refused MAP text 3; exit 4": f"{fault} refused MAP text 3",
         "echo gmap 2": f"{fault} another map",
-        "exit 7": "the program ended with status 7 and put nothing",
+        "exit 7": "the program ended with status 7 and printed nothing",
     }
     with scratch() as folder:
         stand_in, model, made = folder / "gmr", folder / "house.obj", folder / "house.gmap"
@@ -188,7 +191,7 @@ def test_a_map_that_the_program_refuses_is_a_fault_of_the_tool():
         for does, line in answers.items():
             stand_in.write_text(f"#!/bin/sh\n{does}\n")
             stand_in.chmod(0o755)
-            words = [program.SYSTEM_PYTHON, TOOL, "import", model, made]
+            words = [SYSTEM_PYTHON, TOOL, "import", model, made]
             said = subprocess.run(words, capture_output=True, text=True, check=False, env={"GMR": str(stand_in)})
             assert said.returncode == 1 and said.stderr == f"mesh: {model}: {line.format(made)}\n", said.stderr
             assert sorted(path.name for path in folder.iterdir()) == ["gmr", "house.obj"], "a part of a file is left"
@@ -202,7 +205,7 @@ def test_what_is_read_is_never_written_over():
         (folder / "link.gmap").symlink_to(model)
         for out in (model, folder / "." / "a.obj", folder / "link.gmap"):
             said = run_tool("import", model, out)
-            line = f"mesh: {out} is read, so it can't be written: name another file\n"
+            line = f"mesh: {out}: it is read, so it can't be written: name another file\n"
             assert (said.returncode, said.stderr) == (1, line) and model.read_bytes() == before, said.stderr
         (folder / "map.obj").write_text("gmap 1 dim 2 darts 0")
         said = run_tool("export", folder / "map.obj", folder / "map.obj")
@@ -218,7 +221,7 @@ def test_what_is_read_is_never_written_over():
 def test_the_program_is_looked_for_before_the_work():
     with scratch() as folder:
         (folder / "large.obj").write_text("this is no mesh\n")
-        words = [program.SYSTEM_PYTHON, TOOL, "import", folder / "large.obj", folder / "a.gmap"]
+        words = [SYSTEM_PYTHON, TOOL, "import", folder / "large.obj", folder / "a.gmap"]
         said = subprocess.run(words, capture_output=True, text=True, check=False, env={"GMR": str(folder / "none")})
         assert said.returncode == 1 and said.stderr.endswith(f": {folder}/none can't be run: $GMR names no program\n"), said.stderr
 
@@ -235,19 +238,19 @@ def test_what_is_missing_is_told():
     with scratch() as folder:
         for name in ("a.stl", "a.msh"):
             (folder / name).write_text("")
-        said = run_by(program.SYSTEM_PYTHON, "import", folder / "a.stl", "a.gmap", env={"PATH": "/nowhere", "GMR": program.find_program()})
-        assert (
-            said.returncode == 1
-            and said.stderr == "mesh: the program assimp is missing: apt-get install assimp-utils\n"
-        )
-        said = run_by(program.SYSTEM_PYTHON, "import", folder / "a.msh", "a.gmap")
-        line = "mesh: the Python module meshio is missing: apt-get install python3-meshio\n"
+        words = [SYSTEM_PYTHON, TOOL, "import", folder / "a.stl", "a.gmap"]
+        env = {"PATH": "/nowhere", "GMR": program.find_program()}
+        said = subprocess.run(words, capture_output=True, text=True, check=False, env=env)
+        line = f"mesh: {folder}/a.stl: the program assimp is missing: apt-get install assimp-utils\n"
         assert said.returncode == 1 and said.stderr == line, said.stderr
+        said = run_by(SYSTEM_PYTHON, "import", folder / "a.msh", "a.gmap")
+        line = r"mesh: .*the Python module \w+ is missing: apt-get install python3-\w+.*\n"
+        assert said.returncode == 1 and re.fullmatch(line, said.stderr), said.stderr
 
 
 def test_another_interpreter_is_taken_where_that_one_has_the_library():
     with scratch() as folder:
-        (folder / "python").symlink_to(program.SYSTEM_PYTHON)
+        (folder / "python").symlink_to(SYSTEM_PYTHON)
         write_mesh(folder / "house.vtk", house())
         said = run_by(folder / "python", "import", folder / "house.vtk", folder / "house.gmap", "--no-check")
         assert said.stdout == "imported points 10 faces 8 darts 60 scale 100\n", said.stderr

@@ -8,12 +8,14 @@ use Rattle.std.proofs.lemmas.List.{get_or-set_same, get_or-set_other, length-set
 use Rattle.std.proofs.lemmas.List.Sums.{sum_by_more}
 use Rattle.std.proofs.lemmas.Option.{slice_get-get_or}
 use Rattle.gm_model.specs.declared.schema.Embed.{Embed}
-use Rattle.gm_model.specs.Applications.{Decider}
+use Rattle.gm_model.specs.Applications.{Decider, IsReadUnits}
 use Rattle.gm_model.specs.Maps.{IsEmbedAt}
 use Rattle.gm_pending.specs.declared.deciding_instance.DecidingInstance.{DecidingInstance as Entry}
 use Rattle.gm_pending.specs.Results.{PendingOf, IsAsked, IsWithinReach, AreDecidingInstances, instances_of, deciding_of, with_instances}
 use Rattle.gm_apply.specs.declared.reading.Reading.{Reading}
-use Rattle.gm_apply.specs.Reads.{pending_at, unasked_at, decider_at, seen_before, seen_to, IsGivenRight, IsWithinSeen, HasRead}
+use Rattle.gm_theory.specs.Theorem.{Unfolded, IsDartOf}
+use Rattle.gm_apply.specs.ReadOnce.{IsReadOnce}
+use Rattle.gm_apply.specs.Reads.{app_at, place_at, pending_at, unasked_at, decider_at, seen_before, seen_to, IsGivenRight, IsWithinSeen, IsWithinSeenBy, IsWithinSeenOnce, HasRead}
 use Rattle.gm_apply.proofs.ReadValues.{some_embed}
 use Rattle.gm_apply.proofs.Sublists.{sum_cons}
 
@@ -74,6 +76,7 @@ module _ (reading : Reading) (hooks : List ℕ) where
     given = λ k j entry at early. elim early [ inl less ↦ absurd (omega (arith, less)) | inr here ↦ absurd (let less = here.1 in omega (arith, less)) ];
     rises = omega arith;
     within = λ result count units unfolds reached all. omega arith;
+    once = λ result count units unfolds reached all. omega arith;
   }
     where
       nothing : ℕ → List (Option (List Entry))
@@ -95,9 +98,9 @@ module _ (reading : Reading) (hooks : List ℕ) where
     cost_here : (embed : Embed) → IsEmbedAt reading.arena.now.schema e embed → IsWithinReach (pending_at reading before) e embed steps later
     cost_here = subst (λ (p : PendingOf). (embed : Embed) → IsEmbedAt p.map.schema e embed → IsWithinReach p e embed steps later) h.is cost
 
-    pub within_asked : IsWithinSeen reading hooks (seen_to before e 0) (suc e) start later
-    within_asked result count units unfolds reached all =
-        let first = h.within result count units unfolds reached all in
+    pub asked_by : (IsUnits : Unfolded → Decider → ℕ → Type 0) → IsWithinSeenBy reading hooks IsUnits (seen_to before e 0) e start steps → IsWithinSeenBy reading hooks IsUnits (seen_to before e 0) (suc e) start later
+    asked_by IsUnits so_far result count units unfolds reached all =
+        let first = so_far result count units unfolds reached all in
         let embed = some_embed reading.arena.now.schema.embeds e within in
         let each = reached.each in
         let long_counts : e < length reached.counts = omega (arith, within, each) in
@@ -108,6 +111,9 @@ module _ (reading : Reading) (hooks : List ℕ) where
         let d = reading.arena.now.schema.dim + 1 in
         let spread : 2 * d * sum (take (suc e) reached.counts) ≡ 2 * d * sum (take e reached.counts) + 2 * d * get_or reached.counts e 0 = ap (λ n. 2 * d * n) whole ∙ omega arith in
         omega (arith, first, here, spread)
+
+    pub within_asked : IsWithinSeen reading hooks (seen_to before e 0) (suc e) start later
+    within_asked = asked_by (λ result. IsReadUnits (app_at reading hooks) (place_at reading)) h.within
 
   module _ (before after : PendingOf) (e start steps later : ℕ) (h : HasRead reading hooks before e e 0 start steps) (within : e < length reading.arena.now.schema.embeds) (changed : after ≡ with_instances before e (instances_of after e))
       (are : (embed : Embed) → IsEmbedAt before.map.schema e embed → AreDecidingInstances before e embed (instances_of after e))
@@ -143,6 +149,7 @@ module _ (reading : Reading) (hooks : List ℕ) where
       given = λ k j entry at early. give k j entry at early;
       rises = let first = h.rises in omega (arith, first, rises);
       within = subst (λ seen. IsWithinSeen reading hooks seen (suc e) start later) (sym same_seen) (within_asked before e start steps later h within cost);
+      once = subst (λ seen. IsWithinSeenOnce reading hooks seen (suc e) start later) (sym same_seen) (asked_by before e start steps later h within cost (λ result. IsReadOnce (app_at reading hooks) (place_at reading) (IsDartOf result) result.alpha) h.once);
     }
       where
         go : (k : ℕ) → k < suc e → (k ≡ e) ⊎ (k ≡ e → ⊥) → IsAsked after k

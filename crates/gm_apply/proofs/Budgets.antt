@@ -18,7 +18,9 @@ use Rattle.gm_theory.proofs.Candidates.{match_is_candidate}
 use Rattle.gm_theory.proofs.Found.{IsFound, match_found}
 use Rattle.gm_theory.proofs.LikeCandidates.{candidates_like}
 use Rattle.gm_theory.proofs.CandidatesFound.{some_position}
+use Rattle.gm_apply.specs.ReadOnce.{IsBudgetOnce, IsReadOnceSum, OfReady}
 use Rattle.gm_apply.proofs.LikeApplications.{pre_units_there, ready_there}
+use Rattle.gm_apply.proofs.LikeReadOnce.{once_sum_there}
 use Rattle.gm_apply.proofs.LikeResults.{results_like}
 use Rattle.gm_apply.proofs.LikeScenes.{unfolding_there}
 use Rattle.gm_apply.proofs.LikeValues.{reached_sum_there, read_sum_there}
@@ -48,6 +50,12 @@ module _ (m : ArenaMap) (rule : Rule) (hooks : List ℕ) (params : List Value) w
   find_within most before after (Of k reached read positions work) cost =
       let found = cost k positions in
       within_budget 8 k 0 reached read before after (omega arith) (omega arith) (omega (arith, found))
+
+  pub find_within_once : (most before after : ℕ) → IsAccepted m.schema rule → IsBudgetOnce app most → ((k : ℕ) → HasPositions app k → after ≤ before + 8 * (m.schema.dim + 1) * (length rule.nodes * k + 1)) → after ≤ before + most
+  find_within_once most before after accepted (OfReady place live alpha reached u w ready unfolded reaches units reads) cost =
+      let here = match_found app place accepted ready.matched in
+      let found = cost place.positions (Candidate place here.darts here.candidate) in
+      within_budget 8 place.positions 0 reached (u + w) before after (omega arith) (omega arith) (omega (arith, found))
 
   -- ---- found
 
@@ -107,6 +115,17 @@ module _ (m : ArenaMap) (rule : Rule) (hooks : List ℕ) (params : List Value) w
         → ((u : ℕ) → IsPreUnits app here u → read_at ≤ found_at + 6 * (m.schema.dim + 1) * u) → read_at ≤ before + most
     pre_within most before found_at read_at budget finding reading = found_within most 0 before found_at read_at read_at budget (omega arith) finding reading (omega arith)
 
+    pub pre_within_once : (most before found_at read_at : ℕ) → IsBudgetOnce app most
+        → ((k : ℕ) → HasPositions app k → found_at ≤ before + 8 * (m.schema.dim + 1) * (length rule.nodes * k + 1))
+        → ((u : ℕ) → IsPreUnits app here u → read_at ≤ found_at + 6 * (m.schema.dim + 1) * u) → read_at ≤ before + most
+    pre_within_once most before found_at read_at (OfReady place live alpha reached u w ready unfolded reaches units reads) finding reading =
+        let candidate = candidate_of place ready.matched in
+        let same = (candidates_like app accepted.in_range accepted.incidence place here candidate found_here.candidate).positions in
+        let one = find_cost before found_at finding in
+        let two = reading u (units_here place u ready.matched units) in
+        within_budget 8 place.positions u reached (u + w) before read_at (omega arith) (omega arith)
+        (subst (λ p. read_at ≤ before + 8 * (m.schema.dim + 1) * (length rule.nodes * p + 1) + 6 * (m.schema.dim + 1) * u) (sym same) (omega (arith, one, two)))
+
     -- ---- ready
 
     -- the work of an application that is ready, over a result of this match
@@ -126,7 +145,7 @@ module _ (m : ArenaMap) (rule : Rule) (hooks : List ℕ) (params : List Value) w
           places_back rule (as_map m) (as_map m) here place
           (same_map rule (as_map m) here place accepted sound.is_map sound.generalised (candidates_like app accepted.in_range accepted.incidence here place found_here.candidate (candidate_of place theirs)) answer.matched.is_match.embedded.live)
 
-      ready_work : (reached read : ℕ) → IsWork app reached read → IsReadyWork reached read
+      pub ready_work : (reached read : ℕ) → IsWork app reached read → IsReadyWork reached read
       ready_work _ _ (NoMatch none) = absurd (none here answer.matched.is_match)
       ready_work _ _ (NotReady place u theirs unready units) =
           absurd (unready (ready_there rule hooks params (as_map m) (as_map m) here place (places_back rule (as_map m) (as_map m) place here (same_here place theirs)) ready_here theirs))
@@ -166,3 +185,25 @@ module _ (m : ArenaMap) (rule : Rule) (hooks : List ℕ) (params : List Value) w
           let here_most : after ≤ before + 24 * d * (n + reached + (this.pre + this.sets) + 1) = omega (arith, all, fits) in
           subst (λ r. after ≤ before + 24 * (m.schema.dim + 1) * (length rule.nodes * k + reached + r + 1)) (sym this.read_is)
           (subst (λ p. after ≤ before + 24 * (m.schema.dim + 1) * (length rule.nodes * p + reached + (this.pre + this.sets) + 1)) (sym (positions_here k positions)) here_most)
+
+      -- and the same, where what is shared is read once
+      pub ready_within_once : (most before found_at read_at after : ℕ) → IsBudgetOnce app most
+          → ((k : ℕ) → HasPositions app k → found_at ≤ before + 8 * (m.schema.dim + 1) * (length rule.nodes * k + 1))
+          → ((u : ℕ) → IsPreUnits app here u → read_at ≤ found_at + 6 * (m.schema.dim + 1) * u)
+          → ((result : Unfolded) → Unfolds (as_map m) rule here result → (reached read : ℕ) → IsReachedSum app here (IsDartOf result) result.alpha reached → IsReadOnceSum app here (IsDartOf result) result.alpha read
+          → after ≤ read_at + 16 * (m.schema.dim + 1) * (length rule.nodes * found.positions + reached + 1) + 6 * (m.schema.dim + 1) * read)
+          → after ≤ before + most
+      ready_within_once most before found_at read_at after (OfReady place live alpha reached u w ready unfolded reaches units reads) finding reading last =
+          let both = same_here place ready.matched in
+          let result : Unfolded = record { live = live; alpha = alpha; next = m.next + place.positions * added_nodes rule } in
+          let unfolds : Unfolds (as_map m) rule here result = unfolding_there rule (as_map m) (as_map m) place here both (λ d. IsTrue (live d)) alpha result.next unfolded in
+          let like = results_like rule hooks (as_map m) (as_map m) place here both of_schema ready.matched result result unfolded unfolds in
+          let one = find_cost before found_at finding in
+          let two = reading u (units_here place u ready.matched units) in
+          let three = last result unfolds reached w (reached_sum_there rule hooks params (as_map m) (as_map m) place here result result like reached reaches) (once_sum_there rule hooks params (as_map m) (as_map m) place here result result like w reads) in
+          let d = m.schema.dim + 1 in
+          let n = length rule.nodes * found.positions in
+          let all : after ≤ before + (8 * d * (n + 1) + 16 * d * (n + reached + 1) + 6 * d * u + 6 * d * w) = omega (arith, one, two, three) in
+          let fits : 8 * d * (n + 1) + 16 * d * (n + reached + 1) + 6 * d * u + 6 * d * w ≤ 24 * d * (n + reached + (u + w) + 1) = fits_within d n reached u w in
+          let here_most : after ≤ before + 24 * d * (n + reached + (u + w) + 1) = omega (arith, all, fits) in
+          subst (λ p. after ≤ before + 24 * (m.schema.dim + 1) * (length rule.nodes * p + reached + (u + w) + 1)) (sym both.like.positions) here_most

@@ -14,7 +14,8 @@ use Rattle.gm_theory.specs.Theorem.{Unfolded, Unfolds, IsDartOf}
 use Rattle.gm_theory.proofs.Lists.{some_same}
 use Rattle.gm_apply.specs.declared.reading.Reading.{Reading}
 use Rattle.gm_apply.specs.declared.refusal.Refusal.{Refusal}
-use Rattle.gm_apply.specs.Reads.{app_at, place_at, pending_at, HasEdits, IsEnded, IsWithinEdits}
+use Rattle.gm_apply.specs.ReadOnce.{IsReadOnceSum}
+use Rattle.gm_apply.specs.Reads.{app_at, place_at, pending_at, HasEdits, IsEnded, IsWithinEdits, IsWithinEditsOnce}
 
 module _ (reading : Reading) (hooks : List ℕ) where
   -- so many steps more: for each instance, for each dart that gets a value, and for each unit that is read
@@ -22,6 +23,13 @@ module _ (reading : Reading) (hooks : List ℕ) where
   IsWithinRest start steps =
       (result : Unfolded) → Unfolds (as_map reading.arena.now) (rule_of reading.plan.now.table) (place_at reading) result → (reached read : ℕ)
       → IsReachedSum (app_at reading hooks) (place_at reading) (IsDartOf result) result.alpha reached → IsReadSum (app_at reading hooks) (place_at reading) (IsDartOf result) result.alpha read
+      → steps ≤ start + 16 * (reading.arena.now.schema.dim + 1) * (length (rule_of reading.plan.now.table).nodes * reading.found.now.positions + reached + 1) + 6 * (reading.arena.now.schema.dim + 1) * read
+
+  -- and where what is shared is read once
+  abbrev pub IsWithinRestOnce : ℕ → ℕ → Type 0
+  IsWithinRestOnce start steps =
+      (result : Unfolded) → Unfolds (as_map reading.arena.now) (rule_of reading.plan.now.table) (place_at reading) result → (reached read : ℕ)
+      → IsReachedSum (app_at reading hooks) (place_at reading) (IsDartOf result) result.alpha reached → IsReadOnceSum (app_at reading hooks) (place_at reading) (IsDartOf result) result.alpha read
       → steps ≤ start + 16 * (reading.arena.now.schema.dim + 1) * (length (rule_of reading.plan.now.table).nodes * reading.found.now.positions + reached + 1) + 6 * (reading.arena.now.schema.dim + 1) * read
 
   fits : (d n reached : ℕ) → 2 * d * reached + 6 * d * (n + reached + 1) + 4 * d * (n + reached + 1) ≤ 16 * d * (n + reached + 1)
@@ -39,7 +47,19 @@ module _ (reading : Reading) (hooks : List ℕ) where
   pub ended_within : (refusal : Refusal) (start steps : ℕ) → IsEnded reading hooks refusal start steps → IsWithinRest start steps
   ended_within refusal start steps h = edits_within start steps h.within
 
+  rest_once : (start steps : ℕ) → IsWithinEditsOnce reading hooks start steps → IsWithinRestOnce start steps
+  rest_once start steps within result unfolds reached read sum units =
+      let all = within result reached read unfolds sum units in
+      let few = fits (reading.arena.now.schema.dim + 1) (length (rule_of reading.plan.now.table).nodes * reading.found.now.positions) reached in
+      omega (arith, all, few)
+
+  pub ended_within_once : (refusal : Refusal) (start steps : ℕ) → IsEnded reading hooks refusal start steps → IsWithinRestOnce start steps
+  ended_within_once refusal start steps h = rest_once start steps h.once
+
   module _ (edits : EditLists) (start steps : ℕ) (h : HasEdits reading hooks edits start steps) where
+    pub read_within_once : IsWithinRestOnce start steps
+    read_within_once = rest_once start steps h.once
+
     pub read_within : IsWithinRest start steps
     read_within = edits_within start steps h.within
 
@@ -70,5 +90,14 @@ module _ (reading : Reading) (hooks : List ℕ) where
         let in_all : IsReachedSumIn (pending_at reading h.pending) reached = record { result = result; unfolded = unfolds; counts = sum.counts; each = sum.each; counts_are = sum.counts_are; sum_is = sum.sum_is } in
         let last = cost (pending_at reading h.pending) reached edits_here in_all in
         let all = h.within result reached read unfolds sum units in
+        let few = fits (reading.arena.now.schema.dim + 1) (length (rule_of reading.plan.now.table).nodes * reading.found.now.positions) reached in
+        omega (arith, all, last, few)
+
+    pub committed_within_once : (later : ℕ) → ((app : PendingOf) (reached : ℕ) → AreEditsOf app edits → IsReachedSumIn app reached → later ≤ steps + 4 * (app.map.schema.dim + 1) * (length (rule_in app).nodes * app.placed.positions + reached + 1))
+        → IsWithinRestOnce start later
+    committed_within_once later cost result unfolds reached read sum units =
+        let in_all : IsReachedSumIn (pending_at reading h.pending) reached = record { result = result; unfolded = unfolds; counts = sum.counts; each = sum.each; counts_are = sum.counts_are; sum_is = sum.sum_is } in
+        let last = cost (pending_at reading h.pending) reached edits_here in_all in
+        let all = h.once result reached read unfolds sum units in
         let few = fits (reading.arena.now.schema.dim + 1) (length (rule_of reading.plan.now.table).nodes * reading.found.now.positions) reached in
         omega (arith, all, last, few)

@@ -8,13 +8,13 @@ use Rattle.std.proofs.lemmas.List.{length-set, take_more, take_all, length-map}
 use Rattle.std.proofs.lemmas.Option.{slice_get_within}
 use Rattle.gm_model.specs.declared.schema.Embed.{Embed}
 use Rattle.gm_model.specs.declared.value.Value.{Value}
-use Rattle.gm_model.specs.Applications.{GivesValue, IsFirstValueless, IsReady, IsReadUnits, IsRefused, NoValue, Valueless}
+use Rattle.gm_model.specs.Applications.{Decider, GivesValue, IsFirstValueless, IsReady, IsReadUnits, IsRefused, NoValue, Valueless}
 use Rattle.gm_model.specs.Components.{IsAssigned}
 use Rattle.gm_model.specs.Maps.{IsEmbedAt}
 use Rattle.gm_model.specs.Orbits.{IsPairBefore}
 use Rattle.gm_model.specs.Rules.{rule_of}
 use Rattle.gm_model.specs.Unfolding.{IsUnfolding, scene_of}
-use Rattle.gm_theory.specs.Theorem.{IsDartOf}
+use Rattle.gm_theory.specs.Theorem.{Unfolded, Unfolds, IsDartOf}
 use Rattle.gm_theory.proofs.Keeps.{rules_keep_generalised_maps}
 use Rattle.gm_theory.proofs.Lists.{get_contained, contained_at, none_some, some_same}
 use Rattle.gm_arena.specs.ArenaAsMap.{as_map}
@@ -23,9 +23,10 @@ use Rattle.gm_pending.specs.EditLists.{EditLists, AllGiven, AreEditsOf, IsReache
 use Rattle.gm_pending.specs.Results.{PendingOf, IsAsked, IsWithinReach, AreDecidingInstances, IsDecidingIn, instances_of, deciding_of, with_instances, given_at, place_of, rule_in}
 use Rattle.gm_apply.specs.declared.reading.Reading.{Reading}
 use Rattle.gm_apply.specs.declared.refusal.Refusal.TheVariants as refusals
-use Rattle.gm_apply.specs.Reads.{IsReadable, app_at, place_at, pending_at, unasked_at, decider_at, seen_at, seen_before, seen_to, IsGivenRight, IsWithinSeen, IsWithinRead, IsWithinEdits, IsEnded, HasEdits, HasRead}
-use Rattle.gm_apply.proofs.Asking.{nothing_behind, split_last, entry_same, entry_other, seen_same, is_there, within_asked}
-use Rattle.gm_apply.proofs.Seen.{decides, valued_before, within_read}
+use Rattle.gm_apply.specs.Reads.{IsReadable, app_at, place_at, pending_at, unasked_at, decider_at, seen_at, seen_before, seen_to, IsGivenRight, IsWithinSeen, IsWithinSeenBy, IsWithinSeenOnce, IsWithinRead, IsWithinReadOnce, IsWithinEdits, IsWithinEditsOnce, IsEnded, HasEdits, HasRead}
+use Rattle.gm_apply.specs.ReadOnce.{IsReadOnce}
+use Rattle.gm_apply.proofs.Asking.{asked_by, nothing_behind, split_last, entry_same, entry_other, seen_same, is_there, within_asked}
+use Rattle.gm_apply.proofs.Seen.{decides, valued_before, within_read, within_read_once}
 
 -- ---- a value in a list of entries
 
@@ -110,9 +111,12 @@ module _ (reading : Reading) (hooks : List ℕ) where
   pub within_edits : (start steps : ℕ) → IsWithinRead reading hooks start steps → IsWithinEdits reading hooks start steps
   within_edits start steps within result count read unfolds reached s = let spent = within result count read unfolds reached s in omega (arith, spent)
 
+  edits_once : (start steps : ℕ) → IsWithinReadOnce reading hooks start steps → IsWithinEditsOnce reading hooks start steps
+  edits_once start steps within result count read unfolds reached s = let spent = within result count read unfolds reached s in omega (arith, spent)
+
   -- memory was wanting for the deciding instances of an embedding
   pub ended_building : (start later : ℕ) → later ≡ start → IsEnded reading hooks refusals.OutOfMemory start later
-  ended_building start later same = record { refused = λ ready. tt; rises = omega (arith, same); within = λ result count read unfolds reached sum. omega (arith, same) }
+  ended_building start later same = record { refused = λ ready. tt; rises = omega (arith, same); within = λ result count read unfolds reached sum. omega (arith, same); once = λ result count read unfolds reached sum. omega (arith, same) }
 
   pub ended_asking : (before : PendingOf) (e start steps later : ℕ) → HasRead reading hooks before e e 0 start steps → e < length reading.arena.now.schema.embeds
       → ((embed : Embed) → IsEmbedAt before.map.schema e embed → IsWithinReach before e embed steps later) → steps ≤ later → IsEnded reading hooks refusals.OutOfMemory start later
@@ -120,6 +124,7 @@ module _ (reading : Reading) (hooks : List ℕ) where
     refused = λ ready. tt;
     rises = let first = h.rises in omega (arith, first, rises);
     within = within_edits start later (within_read reading hooks before e e 0 start steps h 0 (suc e) later (omega arith) (within_asked reading hooks before e start steps later h within cost));
+    once = edits_once start later (within_read_once reading hooks before e e 0 start steps h 0 (suc e) later (omega arith) (asked_by reading hooks before e start steps later h within cost (λ result. IsReadOnce (app_at reading hooks) (place_at reading) (IsDartOf result) result.alpha) h.once));
   }
 
   -- memory was wanting before the first of them was read
@@ -128,6 +133,7 @@ module _ (reading : Reading) (hooks : List ℕ) where
     refused = λ ready. tt;
     rises = h.rises;
     within = within_edits start steps (within_read reading hooks before (suc e) e 0 start steps h 0 (suc e) steps (omega arith) h.within);
+    once = edits_once start steps (within_read_once reading hooks before (suc e) e 0 start steps h 0 (suc e) steps (omega arith) h.once);
   }
 
   -- a deciding instance is an assigned one, at a position
@@ -163,14 +169,24 @@ module _ (reading : Reading) (hooks : List ℕ) where
     same_decider : record { embed = e; node = node; position = position } ≡ decider_at e here.entry
     same_decider = ap₂ (λ x p. record { embed = e; node = x; position = p }) (sym here.node_is) (sym here.position_is)
 
-    pub within_next : IsWithinSeen reading hooks (seen_to before e (suc i)) (suc e) start later
-    within_next result count units unfolds reached all =
-        let split = split_last (IsReadUnits (app_at reading hooks) (place_at reading)) (seen_to before e i) (decider_at e here.entry) units (subst (λ seen. AllZip (IsReadUnits (app_at reading hooks) (place_at reading)) seen units) one_more all) in
-        let first = h.within result count split.first unfolds reached split.are in
-        let last = cost split.last (subst (λ d. IsReadUnits (app_at reading hooks) (place_at reading) d split.last) (sym same_decider) split.is) in
+    next_by : (IsUnits : Unfolded → Decider → ℕ → Type 0) → IsWithinSeenBy reading hooks IsUnits (seen_to before e i) (suc e) start steps
+        → ((result : Unfolded) → Unfolds (as_map reading.arena.now) (rule_of reading.plan.now.table) (place_at reading) result → (u : ℕ) → IsUnits result (record { embed = e; node = node; position = position }) u → later ≤ steps + 6 * (reading.arena.now.schema.dim + 1) * u)
+        → IsWithinSeenBy reading hooks IsUnits (seen_to before e (suc i)) (suc e) start later
+    next_by IsUnits so_far spent result count units unfolds reached all =
+        let split = split_last (IsUnits result) (seen_to before e i) (decider_at e here.entry) units (subst (λ seen. AllZip (IsUnits result) seen units) one_more all) in
+        let first = so_far result count split.first unfolds reached split.are in
+        let last = spent result unfolds split.last (subst (λ d. IsUnits result d split.last) (sym same_decider) split.is) in
         let d = reading.arena.now.schema.dim + 1 in
         let spread : 6 * d * sum units ≡ 6 * d * sum split.first + 6 * d * split.last = ap (λ n. 6 * d * n) split.sum_is ∙ omega arith in
         omega (arith, first, last, spread)
+
+    pub within_next : IsWithinSeen reading hooks (seen_to before e (suc i)) (suc e) start later
+    within_next = next_by (λ result. IsReadUnits (app_at reading hooks) (place_at reading)) h.within (λ result unfolds. cost)
+
+    -- what reading it takes, where what is shared is read once
+    abbrev pub IsCheap : Type 0
+    IsCheap = (result : Unfolded) → Unfolds (as_map reading.arena.now) (rule_of reading.plan.now.table) (place_at reading) result → (u : ℕ)
+        → IsReadOnce (app_at reading hooks) (place_at reading) (IsDartOf result) result.alpha (record { embed = e; node = node; position = position }) u → later ≤ steps + 6 * (reading.arena.now.schema.dim + 1) * u
 
     -- it has no value
     module _ (readable : IsReadable reading hooks) (none : (v : Value) → GivesValue (app_at reading hooks) (place_at reading) e node position v → ⊥) (rises : steps ≤ later) where
@@ -187,11 +203,12 @@ module _ (reading : Reading) (hooks : List ℕ) where
           Valueless (place_at reading) result.live result.alpha (decider_at e here.entry) ready
           (subst (λ n. IsUnfolding (scene_of (as_map reading.arena.now) (rule_of reading.plan.now.table) (place_at reading)) (IsDartOf result) result.alpha n) unfolds.next_is unfolds) first
 
-      pub ended_without : IsEnded reading hooks (refusals.NoValue e node) start later
-      ended_without = record {
+      pub ended_without : IsCheap → IsEnded reading hooks (refusals.NoValue e node) start later
+      ended_without cheap = record {
         refused = λ ready. subst (λ x. IsRefused (app_at reading hooks) (NoValue e x)) here.node_is (refused_here ready);
         rises = let first = h.rises in omega (arith, first, rises);
         within = within_edits start later (within_read reading hooks before (suc e) e i start steps h (suc i) (suc e) later (omega arith) within_next);
+        once = edits_once start later (within_read_once reading hooks before (suc e) e i start steps h (suc i) (suc e) later (omega arith) (next_by (λ result. IsReadOnce (app_at reading hooks) (place_at reading) (IsDartOf result) result.alpha) h.once cheap));
       }
 
     -- it is given its value
@@ -214,8 +231,8 @@ module _ (reading : Reading) (hooks : List ℕ) where
       same_seen : seen_to after e (suc i) ≡ seen_to before e (suc i)
       same_seen = ap₂ (λ xs ys. xs ++ take (suc i) ys) (seen_same before after e (λ k less. same_deciders k (λ same. omega (arith, less, same)))) (ap (map (decider_at e)) these_deciders ∙ given_places e (instances_of before e) i v)
 
-      pub given_more : HasRead reading hooks after (suc e) e (suc i) start later
-      given_more = record {
+      pub given_more : IsCheap → HasRead reading hooks after (suc e) e (suc i) start later
+      given_more cheap = record {
         is = is_there reading hooks before after e (given_at (instances_of before e) i v) h.is changed;
         each = ap (λ (p : PendingOf). length p.asked) changed ∙ length-set before.asked e (Some (given_at (instances_of before e) i v)) ∙ h.each;
         few = h.few;
@@ -225,6 +242,7 @@ module _ (reading : Reading) (hooks : List ℕ) where
         given = λ k j entry at early. give k j entry at early (cases_eq k e);
         rises = let first = h.rises in omega (arith, first, rises);
         within = subst (λ seen. IsWithinSeen reading hooks seen (suc e) start later) (sym same_seen) within_next;
+        once = subst (λ seen. IsWithinSeenOnce reading hooks seen (suc e) start later) (sym same_seen) (next_by (λ result. IsReadOnce (app_at reading hooks) (place_at reading) (IsDartOf result) result.alpha) h.once cheap);
       }
         where
           known : (k : ℕ) → k < suc e → (k ≡ e) ⊎ (k ≡ e → ⊥) → IsAsked after k
@@ -272,6 +290,7 @@ module _ (reading : Reading) (hooks : List ℕ) where
     given = λ k j entry at early. give k j entry at early (cases_eq k e);
     rises = h.rises;
     within = subst (λ seen. IsWithinSeen reading hooks seen (suc e) start steps) whole h.within;
+    once = subst (λ seen. IsWithinSeenOnce reading hooks seen (suc e) start steps) whole h.once;
   }
     where
       give : (k j : ℕ) (entry : Entry) → slice_get (instances_of pending k) j ≡ Some entry → (k < suc e) ⊎ ((k ≡ suc e) × (j < 0)) → (k ≡ e) ⊎ (k ≡ e → ⊥) → IsGivenRight reading hooks k entry
@@ -314,8 +333,15 @@ module _ (reading : Reading) (hooks : List ℕ) where
           let last = cost_here count in_all in
           omega (arith, before_them, last)
 
+      all_within_once : IsWithinEditsOnce reading hooks start later
+      all_within_once result count read unfolds reached s =
+          let before_them = within_read_once reading hooks pending (length reading.arena.now.schema.embeds) (length reading.arena.now.schema.embeds) 0 start steps h 0 (length reading.arena.now.schema.embeds) steps (omega arith) h.once result count read unfolds reached s in
+          let in_all : IsReachedSumIn (pending_at reading pending) count = record { result = result; unfolded = unfolds; counts = reached.counts; each = reached.each; counts_are = reached.counts_are; sum_is = reached.sum_is } in
+          let last = cost_here count in_all in
+          omega (arith, before_them, last)
+
       pub ended_editing : IsEnded reading hooks refusals.OutOfMemory start later
-      ended_editing = record { refused = λ ready. tt; rises = let first = h.rises in omega (arith, first, rises); within = all_within }
+      ended_editing = record { refused = λ ready. tt; rises = let first = h.rises in omega (arith, first, rises); within = all_within; once = all_within_once }
 
       pub has_edits : (edits : EditLists) → AreEditsOf pending edits → HasEdits reading hooks edits start later
-      has_edits edits are = record { pending = pending; is = h.is; right = all_right; edits_of = are; rises = let first = h.rises in omega (arith, first, rises); within = all_within }
+      has_edits edits are = record { pending = pending; is = h.is; right = all_right; edits_of = are; rises = let first = h.rises in omega (arith, first, rises); within = all_within; once = all_within_once }

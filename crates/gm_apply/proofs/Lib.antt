@@ -7,6 +7,7 @@ pub mod LikeApplications
 pub mod LikeScenes
 pub mod LikeResults
 pub mod LikeValues
+pub mod LikeReadOnce
 pub mod Sublists
 pub mod Sums
 pub mod Applying
@@ -16,6 +17,7 @@ pub mod ReadValues
 pub mod Seen
 pub mod Asking
 pub mod Giving
+pub mod ReadBefore
 pub mod Remembering
 pub mod Ending
 pub mod Readying

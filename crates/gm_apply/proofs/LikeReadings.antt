@@ -52,7 +52,7 @@ module _ (rule : Rule) (r s : Reading) (like : AreLikeReadings rule r s) where
   term_same : (term : DartTerm) → IsTermInRange r.map.schema rule term → dart_at r term ≡ dart_at s term
   term_same term h = path_same term.path (r.place.dart_of term.node r.position) h.path (like.first.darts term.node h.node) ∙ ap (follow s.map.alpha term.path) (like.places term.node h.node)
 
-  collected_there : (mask : Mask) (term : DartTerm) (d : ℕ) → IsMaskInRange r.map.schema rule mask → IsTermInRange r.map.schema rule term → IsCollected r mask term d → IsCollected s mask term d
+  pub collected_there : (mask : Mask) (term : DartTerm) (d : ℕ) → IsMaskInRange r.map.schema rule mask → IsTermInRange r.map.schema rule term → IsCollected r mask term d → IsCollected s mask term d
   collected_there mask term d low h (path, all, e) =
       (path, all, ap (follow s.map.alpha path) (sym (term_same term h)) ∙ sym (path_same path (dart_at r term) (labels_low (dimension r.map) (has mask) low path all) (term_live rule r like.first term h)) ∙ e)
 

@@ -1,7 +1,7 @@
 -- Edits that were prepared, and the steps that they leave.
-use Rattle.std.proofs.Common.{◌≡◌, ℕ, ◌+◌, ◌*◌, ◌≤◌, List, length, subst, arith}
+use Rattle.std.proofs.Common.{◌≡◌, ℕ, ◌+◌, ◌*◌, ◌≤◌, List, length, subst, sym, arith}
 use Rattle.std.proofs.lemmas.Nat.{mul-le}
-use Rattle.gm_model.specs.Applications.{IsBudget, IsDone, IsReachedSum, IsReadSum}
+use Rattle.gm_model.specs.Applications.{HasPositions, IsBudget, IsDone, IsReachedSum, IsReadSum, IsWork}
 use Rattle.gm_model.specs.Maps.{IsSchema, IsSound}
 use Rattle.gm_model.specs.Rules.{rule_of}
 use Rattle.gm_model.specs.Unfolding.{added_nodes}
@@ -15,7 +15,7 @@ use Rattle.gm_theory.specs.Theorem.{Unfolded, Unfolds, IsDartOf}
 use Rattle.gm_apply.specs.declared.reading.Reading.{Reading}
 use Rattle.gm_apply.specs.Prepared.{IsCommittedOf, IsReadyToCommit, cost_with_rows, rows_of}
 use Rattle.gm_apply.specs.Reads.{app_at, place_at, pending_at, IsReadable, IsReadyAt}
-use Rattle.gm_apply.proofs.Budgets.{positions_here, ready_within}
+use Rattle.gm_apply.proofs.Budgets.{positions_here, ready_within, ready_work}
 use Rattle.gm_apply.proofs.Readying.{are_here, done, edits_there, new_is, old_is}
 
 few_product : (p a n : ℕ) → a ≤ n → p * a ≤ n * p
@@ -72,6 +72,15 @@ module _ (reading : Reading) (hooks : List ℕ) (readable : IsReadable reading h
           let here = are_here reading hooks readable added removed lists start steps ready in
           let fit = few_fit (reading.arena.now.schema.dim + 1) (length (rule_of reading.plan.now.table).nodes * reading.found.now.positions) reached (length edits.touched) lists.added (few (pending_at reading ready.edited.pending) reached here in_all) (few_new (pending_at reading ready.edited.pending) lists here) in
           rw same (omega (arith, fit))
+
+  -- the touched darts are no more than the instances and the darts that get values
+  pub few_touched : IsSchema reading.arena.now.schema → (k reached read touched : ℕ) → AreFew lists touched → HasPositions (app_at reading hooks) k → IsWork (app_at reading hooks) reached read → touched ≤ length (rule_of reading.plan.now.table).nodes * k + reached
+  few_touched of_schema k reached read touched few positions work =
+      let this = ready_work reading.arena.now (rule_of reading.plan.now.table) hooks reading.params.now readable.sound readable.accepted reading.found.now readable.answer of_schema ready.room.ready reached read work in
+      let in_all : IsReachedSumIn (pending_at reading ready.edited.pending) reached = record { result = this.result; unfolded = this.unfolds; counts = this.reaches.counts; each = this.reaches.each; counts_are = this.reaches.counts_are; sum_is = this.reaches.sum_is } in
+      let here = are_here reading hooks readable added removed lists start steps ready in
+      subst (λ n. touched ≤ length (rule_of reading.plan.now.table).nodes * n + reached) (sym (positions_here reading.arena.now (rule_of reading.plan.now.table) hooks reading.params.now readable.sound readable.accepted reading.found.now readable.answer k positions))
+      (few (pending_at reading ready.edited.pending) reached here in_all)
 
   -- the arena is ready for a commit
   pub prepared : (m : ArenaMap) (edits : OwnEdits) → HasSameRows reading.arena.now m → edits.lists ≡ lists → m.next + lists.added ≤ m.reserved → lists.added ≤ m.spare + length lists.removed → AreTouched m lists edits.touched

@@ -11,10 +11,11 @@ use Rattle.gm_pending.specs.Results.{PendingOf, rule_in}
 use Rattle.gm_apply.specs.declared.reading.Reading.{Reading}
 use Rattle.gm_apply.specs.declared.refusal.Refusal.{Refusal}
 use Rattle.gm_apply.specs.Outcomes.{IsRefusedFor}
+use Rattle.gm_apply.specs.ReadOnce.{IsBudgetOnce}
 use Rattle.gm_apply.specs.Reads.{app_at, place_at, pending_at, IsReadable, IsEnded, IsReadyAt, IsRefusedAt}
 use Rattle.gm_apply.proofs.Applying.{is_done}
-use Rattle.gm_apply.proofs.Budgets.{pre_within, ready_within}
-use Rattle.gm_apply.proofs.Ending.{ended_within, read_within, edits_here, rows_there, values_right, committed_within, kept_within}
+use Rattle.gm_apply.proofs.Budgets.{pre_within, pre_within_once, ready_within, ready_within_once}
+use Rattle.gm_apply.proofs.Ending.{ended_within, ended_within_once, read_within, read_within_once, edits_here, rows_there, values_right, committed_within, committed_within_once, kept_within}
 use Rattle.gm_apply.proofs.Sums.{names_fit, rises_twice}
 
 module _ (reading : Reading) (hooks : List ℕ) (readable : IsReadable reading hooks) where
@@ -31,6 +32,7 @@ module _ (reading : Reading) (hooks : List ℕ) (readable : IsReadable reading h
     refused = refused;
     rises = rises;
     within = λ most before budget finding. pre_within reading.arena.now (rule_of reading.plan.now.table) hooks reading.params.now readable.sound readable.accepted reading.found.now readable.answer most before start steps budget finding pre;
+    once = λ most before budget finding. pre_within_once reading.arena.now (rule_of reading.plan.now.table) hooks reading.params.now readable.sound readable.accepted reading.found.now readable.answer most before start steps budget finding pre;
   }
 
   pub refused_behind : (refusal : Refusal) (start read steps : ℕ) → IsSchema reading.arena.now.schema → IsReady (app_at reading hooks) (place_at reading) → start ≤ read → IsPreWithin start read → IsEnded reading hooks refusal read steps
@@ -40,6 +42,8 @@ module _ (reading : Reading) (hooks : List ℕ) (readable : IsReadable reading h
     rises = rises_twice start read steps rises ended.rises;
     within = λ most before budget finding. ready_within reading.arena.now (rule_of reading.plan.now.table) hooks reading.params.now readable.sound readable.accepted reading.found.now readable.answer of_schema ready most before start read steps budget finding pre
         (ended_within reading hooks refusal read steps ended);
+    once = λ most before budget finding. ready_within_once reading.arena.now (rule_of reading.plan.now.table) hooks reading.params.now readable.sound readable.accepted reading.found.now readable.answer of_schema ready most before start read steps budget finding pre
+        (ended_within_once reading hooks refusal read steps ended);
   }
 
   module _ (added removed : ℕ) (edits : EditLists) (start steps : ℕ) (ready : IsReadyAt reading hooks added removed edits start steps) where
@@ -75,3 +79,15 @@ module _ (reading : Reading) (hooks : List ℕ) (readable : IsReadable reading h
       pub within_done : (later : ℕ) → ((app : PendingOf) (reached : ℕ) → AreEditsOf app edits → IsReachedSumIn app reached → later ≤ steps + 4 * (app.map.schema.dim + 1) * (length (rule_in app).nodes * app.placed.positions + reached + 1)) → later ≤ before + most
       within_done later cost = ready_within reading.arena.now (rule_of reading.plan.now.table) hooks reading.params.now readable.sound readable.accepted reading.found.now readable.answer of_schema ready.room.ready most before start ready.read later budget finding ready.pre
           (committed_within reading hooks edits ready.read steps ready.edited later cost)
+
+    -- where what is shared is read once
+    pub within_ready_once : IsSchema reading.arena.now.schema → (most before : ℕ) → IsBudgetOnce (app_at reading hooks) most → IsFindWithin before start → steps ≤ before + most
+    within_ready_once of_schema most before budget finding =
+        ready_within_once reading.arena.now (rule_of reading.plan.now.table) hooks reading.params.now readable.sound readable.accepted reading.found.now readable.answer of_schema ready.room.ready most before start ready.read steps budget finding ready.pre
+        (read_within_once reading hooks edits ready.read steps ready.edited)
+
+    pub within_done_once : IsSchema reading.arena.now.schema → (most before : ℕ) → IsBudgetOnce (app_at reading hooks) most → IsFindWithin before start → (later : ℕ)
+        → ((app : PendingOf) (reached : ℕ) → AreEditsOf app edits → IsReachedSumIn app reached → later ≤ steps + 4 * (app.map.schema.dim + 1) * (length (rule_in app).nodes * app.placed.positions + reached + 1)) → later ≤ before + most
+    within_done_once of_schema most before budget finding later cost =
+        ready_within_once reading.arena.now (rule_of reading.plan.now.table) hooks reading.params.now readable.sound readable.accepted reading.found.now readable.answer of_schema ready.room.ready most before start ready.read later budget finding ready.pre
+        (committed_within_once reading hooks edits ready.read steps ready.edited later cost)

@@ -23,7 +23,7 @@ use Rattle.gm_pending.specs.declared.deciding_instance.DecidingInstance.{Decidin
 use Rattle.gm_pending.specs.Results.{PendingOf, given_at, instances_of, place_of}
 use Rattle.gm_apply.specs.declared.reading.Reading.{Reading}
 use Rattle.gm_apply.specs.Reads.{HasRead}
-use Rattle.gm_apply.specs.Readings.{AreReadingUnits, HaveFewCollectors, IsExpression, WasRead, places_of, read_at}
+use Rattle.gm_apply.specs.Readings.{IsExpression, WasRead, places_of, read_at}
 use Rattle.gm_apply.proofs.Giving.{entry_at}
 use Rattle.gm_apply.proofs.ReadValues.{some_embed}
 use Rattle.gm_apply.proofs.Sublists.{sum_cons}
@@ -60,13 +60,6 @@ nodes_rise reading hooks pending e i start steps h j k x p y q less at there = g
         by : (a b : Entry) → a.node ≡ x → b.node ≡ y → IsPairBefore a.node a.position b.node b.position → x ≤ y
         by a b f g (inl lower) = omega (arith, f, g, lower)
         by a b f g (inr (same, later)) = omega (arith, f, g, same)
-
--- ---- sums
-
-pub sum_of_first : (n : ℕ) (xs : List ℕ) → sum (take n xs) ≤ sum xs
-sum_of_first zero xs = omega arith
-sum_of_first (suc n) [] = omega arith
-sum_of_first (suc n) (x ∷ xs) = omega (arith, sum_cons x xs, sum_cons x (take n xs), sum_of_first n xs)
 
 -- ---- what is kept
 
@@ -161,7 +154,7 @@ module _ (reading : Reading) (e : ℕ) (places : List (ℕ × ℕ)) (count : ℕ
           some = λ opened. still_some old.entries (h.some opened) (turned apart);
           once = once_of new.entries empty;
           among = λ tree expression c at_hand. absurd (nothing_at_hand new.entries c empty at_hand);
-          left = λ opened tree expression c (j, q, less, there, reads, shared). absurd (apart (read_last j q less there));
+          left = λ opened tree expression c (j, q, less, there, reads, shared, few). absurd (apart (read_last j q less there));
         }
           where
             still_some : (o : Option (List KeptEntry)) → IsSome o → MatchOption o (new.entries ≡ None) (λ _. new.entries ≡ Some []) → IsSome new.entries
@@ -177,7 +170,7 @@ module _ (reading : Reading) (e : ℕ) (places : List (ℕ × ℕ)) (count : ℕ
 
   -- ---- the i-th reading
 
-  module _ (few : HaveFewCollectors reading e) (i x p : ℕ) (at : slice_get places i ≡ Some (x, p)) (old : KeptOf) (h : IsKeptFor i x old) where
+  module _ (i x p : ℕ) (at : slice_get places i ≡ Some (x, p)) (old : KeptOf) (h : IsKeptFor i x old) where
     pub kept_read : (new : KeptOf) → StillKept old.entries new.entries → new.reader ≡ old.reader
         → ((tree : Tree) (c : Collector) → IsExpression reading e x tree → IsAtHand new.entries c → IsAtHand old.entries c ⊎ Contains (collectors_of tree) c)
         → (AreKeptOnce old.entries → AreKeptOnce new.entries)
@@ -205,38 +198,25 @@ module _ (reading : Reading) (e : ℕ) (places : List (ℕ × ℕ)) (count : ℕ
             go (inr stands) = stands
 
         now_left : IsOpen → (tree : Tree) → IsExpression reading e x tree → (c : Collector) → WasRead reading e places (suc i) x tree c → IsAtHand new.entries c
-        now_left opened tree expression c (j, q, less, there, reads, shared) = go (cases_eq j i)
+        now_left opened tree expression c (j, q, less, there, reads, shared, few) = go (cases_eq j i)
           where
             room : HasRoom new.entries
-            room = has_room new.entries (collectors_of tree) (some_stays old.entries new.entries still (h.some opened)) (once h.once) (now_among tree expression) (few x tree expression)
+            room = has_room new.entries (collectors_of tree) (some_stays old.entries new.entries still (h.some opened)) (once h.once) (now_among tree expression) few
 
             go : (j ≡ i) ⊎ (j ≡ i → ⊥) → IsAtHand new.entries c
             go (inl same) =
                 let position : q ≡ p = sym (ap (λ (place : ℕ × ℕ). place.1) (here j x q same there)) in
                 remembers room tree c expression (subst (λ n. Reads (read_at reading n) tree c) position reads) (subst (λ n. IsShared reading.arena.now reading.found.now n c) position shared)
-            go (inr apart) = still_at_hand old.entries new.entries c still (h.left opened tree expression c (j, q, omega (arith, less, apart), there, reads, shared))
+            go (inr apart) = still_at_hand old.entries new.entries c still (h.left opened tree expression c (j, q, omega (arith, less, apart), there, reads, shared, few))
 
-    -- what it takes
-    pub within_one_more : (may_collect ≡ false → CollectsNothing (rule_of reading.plan.now.table) e) → (units : List ℕ) (start steps later : ℕ) → length places ≡ count → AreReadingUnits reading e places units
+    -- what it takes beside what was read before
+    pub cost_beside : (may_collect ≡ false → CollectsNothing (rule_of reading.plan.now.table) e) → (steps later : ℕ) → length places ≡ count
         → ((tree : Tree) (u : ℕ) → IsExpression reading e x tree → HasUnitsBeside (IsAtHand old.entries) (read_at reading p) tree u → later ≤ steps + 6 * (reading.arena.now.schema.dim + 1) * u)
-        → steps ≤ start + 6 * (reading.arena.now.schema.dim + 1) * sum (take i units) → later ≤ start + 6 * (reading.arena.now.schema.dim + 1) * sum (take (i + 1) units)
-    within_one_more silent units start steps later long are cheap before =
-        let d = reading.arena.now.schema.dim + 1 in
+        → (tree : Tree) (u : ℕ) → IsExpression reading e x tree → HasUnitsBeside (WasRead reading e places i x tree) (read_at reading p) tree u → later ≤ steps + 6 * (reading.arena.now.schema.dim + 1) * u
+    cost_beside silent steps later long cheap tree u expression beside =
         let within : i < length places = slice_get_within places i (x, p) at in
-        let each = are.each in
-        let inside : i < length units = omega (arith, within, each) in
-        let u : ℕ = get_or units i 0 in
-        let these = are.units_are i u (slice_get-get_or units i 0 inside) in
-        let same : ◌≡◌ {A = ℕ × ℕ} (these.node, these.position) (x, p) = some_same (these.node, these.position) (x, p) (sym these.at ∙ at) in
-        let node : these.node ≡ x = ap (λ (place : ℕ × ℕ). place.0) same in
-        let position : these.position ≡ p = ap (λ (place : ℕ × ℕ). place.1) same in
-        let expression : IsExpression reading e x these.tree = subst (λ y. IsExpression reading e y these.tree) node these.expression in
-        let beside : HasUnitsBeside (WasRead reading e places i x these.tree) (read_at reading p) these.tree u =
-        subst (λ y. HasUnitsBeside (WasRead reading e places i y these.tree) (read_at reading p) these.tree u) node (subst (λ q. HasUnitsBeside (WasRead reading e places i these.node these.tree) (read_at reading q) these.tree u) position these.beside) in
-        let last = cheap these.tree u expression
-        (units_more (WasRead reading e places i x these.tree) (IsAtHand old.entries) (λ c was. h.left (several within was.2, collecting these.tree expression c was may_collect refl) these.tree expression c was) (read_at reading p) these.tree u beside) in
-        let spread : 6 * d * sum (take (i + 1) units) ≡ 6 * d * sum (take i units) + 6 * d * u = ap (λ n. 6 * d * n) (sum_by_more (λ n. n) units i 0 inside) ∙ omega arith in
-        omega (arith, before, last, spread)
+        cheap tree u expression
+        (units_more (WasRead reading e places i x tree) (IsAtHand old.entries) (λ c was. h.left (several within was.2, collecting tree expression c was may_collect refl) tree expression c was) (read_at reading p) tree u beside)
       where
         several : {j : ℕ} → i < length places → j < i → 2 ≤ count
         several within less = omega (arith, within, less, long)
@@ -244,11 +224,4 @@ module _ (reading : Reading) (e : ℕ) (places : List (ℕ × ℕ)) (count : ℕ
         -- where no expression collects, none was read before
         collecting : (tree : Tree) → IsExpression reading e x tree → (c : Collector) → WasRead reading e places i x tree c → (b : Bool) → may_collect ≡ b → IsTrue may_collect
         collecting tree expression c was true is = is
-        collecting tree expression c (j, q, less, there, reads, shared) false is = absurd (none_to_read (read_at reading q) tree c (silent is x tree expression) reads)
-
--- what the first of them take is within what all take
-pub within_all : (d start steps i : ℕ) (units : List ℕ) → steps ≤ start + 6 * d * sum (take i units) → steps ≤ start + 6 * d * sum units
-within_all d start steps i units within = omega (arith, within, more)
-  where
-    more : 6 * d * sum (take i units) ≤ 6 * d * sum units
-    more = mul-le-mul_left (6 * d) (sum_of_first i units)
+        collecting tree expression c (j, q, less, there, reads, shared, few) false is = absurd (none_to_read (read_at reading q) tree c (silent is x tree expression) reads)

@@ -17,7 +17,8 @@ use Rattle.gm_arena.specs.ArenaAsMap.{as_map}
 use Rattle.gm_pending.specs.declared.deciding_instance.DecidingInstance.{DecidingInstance as Entry}
 use Rattle.gm_pending.specs.Results.{PendingOf, IsAsked, instances_of, deciding_of}
 use Rattle.gm_apply.specs.declared.reading.Reading.{Reading}
-use Rattle.gm_apply.specs.Reads.{app_at, place_at, decider_at, seen_at, seen_before, seen_to, IsWithinSeen, IsWithinRead, HasRead}
+use Rattle.gm_apply.specs.ReadOnce.{IsReadOnce, IsReadOnceSum}
+use Rattle.gm_apply.specs.Reads.{app_at, place_at, decider_at, seen_at, seen_before, seen_to, IsWithinSeen, IsWithinSeenOnce, IsWithinRead, IsWithinReadOnce, HasRead}
 use Rattle.gm_apply.proofs.ReadValues.{some_embed}
 use Rattle.gm_apply.proofs.Sublists.{AreOrdered, HasUnitsOf, units_among}
 
@@ -56,7 +57,7 @@ mapped_at e [] d c = absurd (let less = c.1 in omega (arith, less))
 mapped_at e (entry ∷ entries) d (zero, within, is) = (zero, entry, refl, sym is)
 mapped_at e (entry ∷ entries) d (suc k, within, is) = let rest = mapped_at e entries d (k, omega (arith, within), is) in (suc rest.0, rest.1, rest.2, rest.3)
 
-abbrev IsAscending : List Entry → Type 0
+abbrev pub IsAscending : List Entry → Type 0
 IsAscending entries = (k l : ℕ) (a b : Entry) → k < l → slice_get entries k ≡ Some a → slice_get entries l ≡ Some b → IsPairBefore a.node a.position b.node b.position
 
 entries_ordered : (e : ℕ) (entries : List Entry) → IsAscending entries → AreOrdered (map (decider_at e) entries)
@@ -120,14 +121,14 @@ module _ (reading : Reading) (hooks : List ℕ) (pending : PendingOf) (asked e i
         record { embed = embed.0; embed_at = embed.1; deciding = (h.deciders k embed.0 known embed.1).decide result unfolds entry (get_contained (instances_of pending k) j entry at) }
 
     -- a deciding instance, among the entries
-    record IsEntry (d : Decider) : Type 0 where
-      place : ℕ
-      entry : Entry
-      at : slice_get (instances_of pending d.embed) place ≡ Some entry
-      node_is : entry.node ≡ d.node
-      position_is : entry.position ≡ d.position
+    pub record IsEntry (d : Decider) : Type 0 where
+      pub place : ℕ
+      pub entry : Entry
+      pub at : slice_get (instances_of pending d.embed) place ≡ Some entry
+      pub node_is : entry.node ≡ d.node
+      pub position_is : entry.position ≡ d.position
 
-    entry_for : (d : Decider) → IsDecider app (place_at reading) (IsDartOf result) result.alpha d → d.embed < asked → IsEntry d
+    pub entry_for : (d : Decider) → IsDecider app (place_at reading) (IsDartOf result) result.alpha d → d.embed < asked → IsEntry d
     entry_for d is known =
         let found = (h.deciders d.embed is.embed known is.embed_at).all result unfolds d.node d.position is.deciding in
         record { place = found.1.0; entry = found.0; at = contained_at (instances_of pending d.embed) found.0 found.1; node_is = found.2; position_is = found.3 }
@@ -198,7 +199,7 @@ module _ (reading : Reading) (hooks : List ℕ) (pending : PendingOf) (asked e i
             let less = found.2 in
             subst (IsRead app (place_at reading) (IsDartOf result) result.alpha) (sym found.4) (read_there e found.0 found.1 found.3 (inr (refl, omega (arith, less, few))))
 
-    ascending_at : (k : ℕ) → IsAscending (instances_of pending k)
+    pub ascending_at : (k : ℕ) → IsAscending (instances_of pending k)
     ascending_at k j l a b less at there =
         let known = entry_known k j a at in
         let embed = embed_at k known in
@@ -221,10 +222,27 @@ module _ (reading : Reading) (hooks : List ℕ) (pending : PendingOf) (asked e i
     units_of : (n read : ℕ) → n ≤ suc i → (s : IsReadSum app (place_at reading) (IsDartOf result) result.alpha read) → HasUnitsOf (IsReadUnits app (place_at reading)) (seen_to pending e n) (sum s.units)
     units_of n read few s = units_among (IsReadUnits app (place_at reading)) (seen_to pending e n) s.read s.units (to_ordered n) (places_ordered s.read s.ordered) (λ d c. (s.same d).1 (all_read n few d c)) s.units_are
 
+    once_of : (n read : ℕ) → n ≤ suc i → (s : IsReadOnceSum app (place_at reading) (IsDartOf result) result.alpha read) → HasUnitsOf (IsReadOnce app (place_at reading) (IsDartOf result) result.alpha) (seen_to pending e n) (sum s.units)
+    once_of n read few s = units_among (IsReadOnce app (place_at reading) (IsDartOf result) result.alpha) (seen_to pending e n) s.read s.units (to_ordered n) (places_ordered s.read s.ordered) (λ d c. (s.same d).1 (all_read n few d c)) s.units_are
+
   -- what was seen is within what is read
   pub within_read : (n upto last : ℕ) → n ≤ suc i → IsWithinSeen reading hooks (seen_to pending e n) upto start last → IsWithinRead reading hooks start last
   within_read n upto last few within result count read unfolds reached s =
       let us = units_of result unfolds n read few s in
+      let spent = within result count us.units unfolds reached us.units_are in
+      let d = reading.arena.now.schema.dim + 1 in
+      let one : sum (take upto reached.counts) ≤ sum reached.counts = sum_by-take-le (λ n. n) reached.counts upto in
+      let all = reached.sum_is in
+      let two = us.few in
+      let whole = s.sum_is in
+      let first : 2 * d * sum (take upto reached.counts) ≤ 2 * d * count = mul-le (2 * d) (sum (take upto reached.counts)) (2 * d) count (omega arith) (omega (arith, one, all)) in
+      let second : 6 * d * sum us.units ≤ 6 * d * read = mul-le (6 * d) (sum us.units) (6 * d) read (omega arith) (omega (arith, two, whole)) in
+      omega (arith, spent, first, second)
+
+  -- and where what is shared is read once, it is within that
+  pub within_read_once : (n upto last : ℕ) → n ≤ suc i → IsWithinSeenOnce reading hooks (seen_to pending e n) upto start last → IsWithinReadOnce reading hooks start last
+  within_read_once n upto last few within result count read unfolds reached s =
+      let us = once_of result unfolds n read few s in
       let spent = within result count us.units unfolds reached us.units_are in
       let d = reading.arena.now.schema.dim + 1 in
       let one : sum (take upto reached.counts) ≤ sum reached.counts = sum_by-take-le (λ n. n) reached.counts upto in

@@ -1,11 +1,11 @@
--- What reading the values of an embedding takes, where a collector over an orbit that its node shares is walked once. No public clause cites this module.
+-- Where the expressions of an embedding are read, and what earlier readings read. No public clause cites this module.
 use Rattle.std.specs.Prelude.{◌≡◌, ℕ, ◌<◌, ◌≤◌, List, length, map, slice_get, Some}
 use Rattle.gm_model.specs.Expressions as model
 use Rattle.gm_model.specs.Rules.{Assigns, rule_of}
 use Rattle.gm_model.specs.Trees.{Tree}
 use Rattle.gm_eval.specs.declared.kept.Collector.{Collector}
 use Rattle.gm_eval.specs.Places.{reading_in}
-use Rattle.gm_eval.specs.Sharing.{HasUnitsBeside, IsShared, Reads, collectors_of}
+use Rattle.gm_eval.specs.Sharing.{IsShared, Reads, collectors_of}
 use Rattle.gm_pending.specs.Results.{PendingOf, instances_of, place_of}
 use Rattle.gm_apply.specs.declared.reading.Reading.{Reading}
 
@@ -22,25 +22,7 @@ module _ (reading : Reading) (e : ℕ) where
   abbrev pub IsExpression : ℕ → Tree → Type 0
   IsExpression x tree = Assigns (rule_of reading.plan.now.table) x e tree
 
-  -- an expression that is assigned to the embedding has at most 36 collectors
-  abbrev pub HaveFewCollectors : Type 0
-  HaveFewCollectors = (x : ℕ) (tree : Tree) → IsExpression x tree → length (collectors_of tree) ≤ 36
-
   module _ (places : List (ℕ × ℕ)) where
-    -- before the i-th, a reading of the node's expression read the collector, whose orbit there holds the collector's node at every position
+    -- before the i-th, a reading of the node's expression read the collector, whose orbit there holds the collector's node at every position; the expression has at most 36 of them
     abbrev pub WasRead : ℕ → ℕ → Tree → Collector → Type 0
-    WasRead i x tree c = (j : ℕ) × (p : ℕ) × (j < i) × (slice_get places j ≡ Some (x, p)) × Reads (read_at reading p) tree c × IsShared reading.arena.now reading.found.now p c
-
-    -- the i-th reading takes so many units, where a collector that was read before may be left out
-    pub record IsReadingUnits (i u : ℕ) : Type 0 where
-      pub node : ℕ
-      pub position : ℕ
-      pub tree : Tree
-      pub at : slice_get places i ≡ Some (node, position)
-      pub expression : IsExpression node tree
-      pub beside : HasUnitsBeside (WasRead i node tree) (read_at reading position) tree u
-
-    -- a number of units for each reading
-    pub record AreReadingUnits (units : List ℕ) : Type 0 where
-      pub each : length units ≡ length places
-      pub units_are : (i u : ℕ) → slice_get units i ≡ Some u → IsReadingUnits i u
+    WasRead i x tree c = (j : ℕ) × (p : ℕ) × (j < i) × (slice_get places j ≡ Some (x, p)) × Reads (read_at reading p) tree c × IsShared reading.arena.now reading.found.now p c × (length (collectors_of tree) ≤ 36)

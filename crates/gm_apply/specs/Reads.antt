@@ -21,6 +21,7 @@ use Rattle.gm_plan.specs.InArena.{placement_in}
 use Rattle.gm_apply.specs.declared.reading.Reading.{Reading}
 use Rattle.gm_apply.specs.declared.refusal.Refusal.{Refusal}
 use Rattle.gm_apply.specs.Outcomes.{IsRefusedFor, HasRoom}
+use Rattle.gm_apply.specs.ReadOnce.{IsBudgetOnce, IsReadOnce, IsReadOnceSum}
 
 -- ---- where expressions are read
 
@@ -74,11 +75,18 @@ module _ (reading : Reading) (hooks : List ℕ) where
   IsGivenRight e entry = (v : Value) × (entry.given ≡ Some v) × GivesValue (app_at reading hooks) (place_at reading) e entry.node entry.position v
 
   -- from start to steps: 2(n + 1) for each dart that the first embeddings reach, and 6(n + 1) for each unit of what was seen
-  abbrev pub IsWithinSeen : List Decider → ℕ → ℕ → ℕ → Type 0
-  IsWithinSeen seen e start steps =
+  abbrev pub IsWithinSeenBy : (Unfolded → Decider → ℕ → Type 0) → List Decider → ℕ → ℕ → ℕ → Type 0
+  IsWithinSeenBy IsUnits seen e start steps =
       (result : Unfolded) (count : ℕ) (units : List ℕ) → Unfolds (as_map reading.arena.now) (rule_of reading.plan.now.table) (place_at reading) result
-      → (reached : IsReachedSum (app_at reading hooks) (place_at reading) (IsDartOf result) result.alpha count) → AllZip (IsReadUnits (app_at reading hooks) (place_at reading)) seen units
+      → (reached : IsReachedSum (app_at reading hooks) (place_at reading) (IsDartOf result) result.alpha count) → AllZip (IsUnits result) seen units
       → steps ≤ start + 2 * (reading.arena.now.schema.dim + 1) * sum (take e reached.counts) + 6 * (reading.arena.now.schema.dim + 1) * sum units
+
+  abbrev pub IsWithinSeen : List Decider → ℕ → ℕ → ℕ → Type 0
+  IsWithinSeen seen e start steps = IsWithinSeenBy (λ result. IsReadUnits (app_at reading hooks) (place_at reading)) seen e start steps
+
+  -- where what is shared is read once
+  abbrev pub IsWithinSeenOnce : List Decider → ℕ → ℕ → ℕ → Type 0
+  IsWithinSeenOnce seen e start steps = IsWithinSeenBy (λ result. IsReadOnce (app_at reading hooks) (place_at reading) (IsDartOf result) result.alpha) seen e start steps
 
   -- The embeddings below `asked` were asked for. Of those below e each deciding instance has its value, and of e each of the first i.
   pub record HasRead (pending : PendingOf) (asked e i start steps : ℕ) : Type 0 where
@@ -91,12 +99,20 @@ module _ (reading : Reading) (hooks : List ℕ) where
     pub given : (k j : ℕ) (entry : Entry) → slice_get (instances_of pending k) j ≡ Some entry → (k < e) ⊎ ((k ≡ e) × (j < i)) → IsGivenRight k entry
     pub rises : start ≤ steps
     pub within : IsWithinSeen (seen_to pending e i) asked start steps
+    pub once : IsWithinSeenOnce (seen_to pending e i) asked start steps
 
   -- not more steps than what is reached and read takes
   abbrev pub IsWithinRead : ℕ → ℕ → Type 0
   IsWithinRead start steps =
       (result : Unfolded) (count read : ℕ) → Unfolds (as_map reading.arena.now) (rule_of reading.plan.now.table) (place_at reading) result
       → IsReachedSum (app_at reading hooks) (place_at reading) (IsDartOf result) result.alpha count → IsReadSum (app_at reading hooks) (place_at reading) (IsDartOf result) result.alpha read
+      → steps ≤ start + 2 * (reading.arena.now.schema.dim + 1) * count + 6 * (reading.arena.now.schema.dim + 1) * read
+
+  -- where what is shared is read once
+  abbrev pub IsWithinReadOnce : ℕ → ℕ → Type 0
+  IsWithinReadOnce start steps =
+      (result : Unfolded) (count read : ℕ) → Unfolds (as_map reading.arena.now) (rule_of reading.plan.now.table) (place_at reading) result
+      → IsReachedSum (app_at reading hooks) (place_at reading) (IsDartOf result) result.alpha count → IsReadOnceSum (app_at reading hooks) (place_at reading) (IsDartOf result) result.alpha read
       → steps ≤ start + 2 * (reading.arena.now.schema.dim + 1) * count + 6 * (reading.arena.now.schema.dim + 1) * read
 
   -- and what edits of that take
@@ -107,11 +123,20 @@ module _ (reading : Reading) (hooks : List ℕ) where
       → steps ≤ start + 2 * (reading.arena.now.schema.dim + 1) * count + 6 * (reading.arena.now.schema.dim + 1) * read
       + 6 * (reading.arena.now.schema.dim + 1) * (length (rule_of reading.plan.now.table).nodes * reading.found.now.positions + count + 1)
 
+  -- where what is shared is read once
+  abbrev pub IsWithinEditsOnce : ℕ → ℕ → Type 0
+  IsWithinEditsOnce start steps =
+      (result : Unfolded) (count read : ℕ) → Unfolds (as_map reading.arena.now) (rule_of reading.plan.now.table) (place_at reading) result
+      → IsReachedSum (app_at reading hooks) (place_at reading) (IsDartOf result) result.alpha count → IsReadOnceSum (app_at reading hooks) (place_at reading) (IsDartOf result) result.alpha read
+      → steps ≤ start + 2 * (reading.arena.now.schema.dim + 1) * count + 6 * (reading.arena.now.schema.dim + 1) * read
+      + 6 * (reading.arena.now.schema.dim + 1) * (length (rule_of reading.plan.now.table).nodes * reading.found.now.positions + count + 1)
+
   -- it ended with a refusal, as the application is refused where it is ready
   pub record IsEnded (refusal : Refusal) (start steps : ℕ) : Type 0 where
     pub refused : IsReady (app_at reading hooks) (place_at reading) → IsRefusedFor (app_at reading hooks) refusal
     pub rises : start ≤ steps
     pub within : IsWithinEdits start steps
+    pub once : IsWithinEditsOnce start steps
 
   -- the edits are those of the application, where each deciding instance was given the value of its expression
   pub record HasEdits (edits : EditLists) (start steps : ℕ) : Type 0 where
@@ -121,6 +146,7 @@ module _ (reading : Reading) (hooks : List ℕ) where
     pub edits_of : AreEditsOf pending edits
     pub rises : start ≤ steps
     pub within : IsWithinEdits start steps
+    pub once : IsWithinEditsOnce start steps
 
   -- it is ready: so much is added and removed, from start to read steps the precondition was read, and behind that the edits were made
   pub record IsReadyAt (added removed : ℕ) (edits : EditLists) (start steps : ℕ) : Type 0 where
@@ -136,4 +162,6 @@ module _ (reading : Reading) (hooks : List ℕ) where
     pub refused : IsRefusedFor (app_at reading hooks) refusal
     pub rises : start ≤ steps
     pub within : (most before : ℕ) → IsBudget (app_at reading hooks) most
+        → ((k : ℕ) → HasPositions (app_at reading hooks) k → start ≤ before + 8 * (reading.arena.now.schema.dim + 1) * (length (rule_of reading.plan.now.table).nodes * k + 1)) → steps ≤ before + most
+    pub once : (most before : ℕ) → IsBudgetOnce (app_at reading hooks) most
         → ((k : ℕ) → HasPositions (app_at reading hooks) k → start ≤ before + 8 * (reading.arena.now.schema.dim + 1) * (length (rule_of reading.plan.now.table).nodes * k + 1)) → steps ≤ before + most

@@ -13,6 +13,7 @@ ghost use Rattle.gm_plan.specs.InArena.{placement_in};
 ghost use Rattle.gm_walk.specs.Room.{Fits};
 ghost use Rattle.gm_apply.specs.declared.refusal.Refusal.TheVariants as refusals;
 ghost use Rattle.gm_apply.specs.Outcomes.{HasRoom, IsRefusedFor, StaysInRoom};
+ghost use Rattle.gm_apply.specs.ReadOnce.{IsBudgetOnce};
 ghost use Rattle.gm_apply.specs.Reads.{IsReadable, IsReadyAt, IsRefusedAt};
 
 use crate::reading::Reading;
@@ -28,6 +29,10 @@ use std::sync::ledger::Ledger;
 
 /// Applies the plan's rule to the map, at the darts that the hooks name, with these values for its
 /// parameters.
+///
+/// An expression with at most 36 collectors reads once what its positions share: a collector over an
+/// orbit that holds the collector's node at every position counts at the first of the positions that
+/// it is read at, and nothing at the later ones.
 ///
 /// The arena has a sound map again, whatever the answer is, and after a refusal the same one.
 /// Where memory was wanting, its spare and reserved names may have risen, but not past what the
@@ -51,6 +56,7 @@ pub fn apply<L: Ledger>(
     ensures sound { IsSound (as_map arena.new) }
     ensures schema { arena.new.schema ≡ arena.old.schema }
     ensures most { (most : ℕ) → IsBudget (application_of arena.old (rule_of plan.now.table) hooks.now params.now) most → steps.new ≤ steps.old + most }
+    ensures once { (most : ℕ) → IsBudgetOnce (application_of arena.old (rule_of plan.now.table) hooks.now params.now) most → steps.new ≤ steps.old + most }
     ensures least { IfOk result (λ applied. steps.old + applied.added + applied.removed ≤ steps.new) }
     ensures rises { steps.old ≤ steps.new }
     ensures room { scratch.old.bound ≤ scratch.new.bound }
@@ -80,7 +86,7 @@ pub fn apply<L: Ledger>(
     Ok(applied)
 }
 
-/// Keeps what a commit gives back, for the next application.
+/// Hands on what a commit answers, to be lent to the next application. Nothing is said of its room.
 fn keep_room(scratch: &mut Scratch, slots: Vec<Slot>, marks: Option<Vec<Mark>>)
     ensures { scratch.new ≡ scratch.old }
 {

@@ -1,6 +1,6 @@
 //! An application up to its commit, so that its caller can keep what the commit changes.
 ghost use Rattle.std.specs.Prelude.{◌≡◌, ◌≢◌, ℕ, ◌+◌, ◌-◌, ◌*◌, ◌≤◌, length, max, IfErr, IfOk, MatchResult};
-ghost use Rattle.gm_model.specs.Applications.{IsBudget};
+ghost use Rattle.gm_model.specs.Applications.{HasPositions, IsBudget, IsWork};
 ghost use Rattle.gm_model.specs.Kinds.{AreGoodParams};
 ghost use Rattle.gm_model.specs.Maps.{IsSound};
 ghost use Rattle.gm_model.specs.Rules.{rule_of};
@@ -29,6 +29,8 @@ use std::sync::ledger::Ledger;
 ///
 /// The steps that the edits leave of the budget are enough for the commit, and for reading the rows
 /// of the touched darts before it and those of the touched and the added ones behind it.
+///
+/// No more darts are touched than the rule has instances, and orbits with an assigned one have darts.
 pub fn prepare<L: Ledger>(
     alloc: Global,
     plan: &Plan<'_>,
@@ -50,6 +52,8 @@ pub fn prepare<L: Ledger>(
     ensures most { (most : ℕ) → IsBudget (application_of arena.old (rule_of plan.now.table) hooks.now params.now) most → steps.new ≤ steps.old + most }
     ensures left { (most : ℕ) → IsBudget (application_of arena.old (rule_of plan.now.table) hooks.now params.now) most → IfOk result (λ edits. steps.new + cost_with_rows arena.old.schema.dim edits ≤ steps.old + most) }
     ensures few { (most : ℕ) → IsBudget (application_of arena.old (rule_of plan.now.table) hooks.now params.now) most → IfOk result (λ edits. 7 * (arena.old.schema.dim + 1) * rows_of edits ≤ most) }
+    ensures touched { (k reached read : ℕ) → HasPositions (application_of arena.old (rule_of plan.now.table) hooks.now params.now) k → IsWork (application_of arena.old (rule_of plan.now.table) hooks.now params.now) reached read
+        → IfOk result (λ edits. length edits.touched ≤ length (rule_of plan.now.table).nodes * k + reached) }
     ensures rises { steps.old ≤ steps.new }
     ensures room { scratch.old.bound ≤ scratch.new.bound }
     ensures spare { IfOk result (λ edits. arena.new.spare ≡ max arena.old.spare (edits.lists.added - length edits.lists.removed)) }

@@ -1,8 +1,7 @@
 //! The edits of an application, with the values of its result.
-ghost use Rattle.std.specs.Prelude.{◌≡◌, ℕ, suc, ◌+◌, ◌*◌, ◌<◌, ◌≤◌, List, length, sum, MatchResult};
+ghost use Rattle.std.specs.Prelude.{◌≡◌, ℕ, suc, ◌+◌, ◌<◌, List, length, MatchResult};
 ghost use Rattle.gm_pending.specs.Results.{instances_of};
 ghost use Rattle.gm_walk.specs.Room.{Fits};
-ghost use Rattle.gm_apply.specs.Readings.{AreReadingUnits, HaveFewCollectors, places_of};
 ghost use Rattle.gm_apply.specs.Reads.{IsReadable, HasRead, HasEdits, IsEnded};
 
 use crate::reading::Reading;
@@ -81,8 +80,6 @@ impl<'a, 'm> Reading<'a, 'm> {
         ensures given { (hooks : List ℕ) (start : ℕ) → IsReadable self.now hooks → HasRead self.now hooks pending.old (suc embed) embed 0 start steps.old → MatchResult result
             (λ _. HasRead self.now hooks pending.new (embed + 1) (embed + 1) 0 start steps.new)
             (λ refusal. IsEnded self.now hooks refusal start steps.new) }
-        ensures once { (units : List ℕ) → HaveFewCollectors self.now embed → AreReadingUnits self.now embed (places_of pending.old embed) units
-            → steps.new ≤ steps.old + 6 * (self.now.arena.now.schema.dim + 1) * sum units }
         ensures room { scratch.new.bound ≡ scratch.old.bound }
     {
         let collects = self.plan.collects(embed);

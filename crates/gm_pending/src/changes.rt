@@ -52,8 +52,7 @@ impl<'a> Model for Changes<'a> {
 
 impl<'a> Pending<'a, '_> {
     /// The changes that make the arena the result. Each embedding was asked for, and each of its
-    /// deciding instances has a value. The vector is taken for its room alone, and the commit gives it
-    /// back.
+    /// deciding instances has a value. The vector is taken for its room alone.
     pub fn into_changes<L: Ledger>(
         self,
         mut slots: Vec<Slot>,

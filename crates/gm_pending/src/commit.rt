@@ -36,8 +36,9 @@ impl Changes<'_> {
     /// the arcs that led to them are freed, then they are removed, then darts are added, then linked.
     /// An arc whose step is the same on both sides stays as it is. The values of old darts come last.
     ///
-    /// It gives back the vector that the changes were made with, and one in which darts were marked,
-    /// where there is one: for their room alone.
+    /// It answers vectors that can be used again: the one that the changes were made with, and one in
+    /// which darts were marked, where there is one. What is in them means nothing, and nothing is said of
+    /// their room.
     pub fn commit<L: Ledger>(
         self,
         arena: &mut Arena,

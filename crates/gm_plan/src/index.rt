@@ -1,5 +1,5 @@
 //! Instances of a rule by the numbers of darts.
-ghost use Rattle.std.specs.Prelude.{◌≡◌, ℕ, None, MatchOption, IfOk, nat_eq};
+ghost use Rattle.std.specs.Prelude.{◌≡◌, ℕ, None, MatchOption, IfOk, OnErr, nat_eq};
 ghost use Rattle.std.specs.HashMap.{get};
 ghost use Rattle.gm_plan.specs.Indices.{index_at, AreTheSame, IsElsewhere, IsOneMore, IsPlaceOf};
 
@@ -51,11 +51,13 @@ impl Index {
         }
     }
 
-    /// Gives the dart an index, unless it has one, which is answered.
+    /// Gives the dart an index, unless it has one, which is answered. Where memory was wanting, each dart
+    /// has what it had.
     #[inline]
     pub fn put(&mut self, number: u64, index: u32) -> Result<Option<u32>, OutOfMemory>
         ensures had { IfOk result (λ had. had ≡ index_at self.old number) }
         ensures put { IfOk result (λ had. MatchOption had (IsOneMore (index_at self.old) (index_at self.new) number index) (λ _. AreTheSame (index_at self.old) (index_at self.new))) }
+        ensures err { OnErr result (AreTheSame (index_at self.old) (index_at self.new)) }
     {
         let Some(place) = self.place(number) else {
             return put_in(&mut self.others, number, index);
@@ -94,6 +96,7 @@ fn put_in(
 ) -> Result<Option<u32>, OutOfMemory>
     ensures had { IfOk result (λ had. had ≡ get nat_eq others.old number) }
     ensures put { IfOk result (λ had. MatchOption had (IsOneMore (get nat_eq others.old) (get nat_eq others.new) number index) (λ _. AreTheSame (get nat_eq others.old) (get nat_eq others.new))) }
+    ensures err { OnErr result (AreTheSame (get nat_eq others.old) (get nat_eq others.new)) }
 {
     // So most darts, which are new, are looked up once.
     let had = others.insert(number, index)?;

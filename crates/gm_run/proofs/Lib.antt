@@ -12,6 +12,7 @@ pub mod OneBudget
 pub mod OneOutcome
 pub mod OneRun
 pub mod ReadyEnds
+pub mod Rising
 pub mod RunsThrough
 pub mod EachSteps
 pub mod Sayable

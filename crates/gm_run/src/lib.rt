@@ -14,7 +14,7 @@ mod standing;
 mod words;
 
 pub use alike::alike_maps_run_alike;
-pub use laws::one_run_at_most;
+pub use laws::{next_never_falls, one_run_at_most};
 pub use outcome::{Outcome, Report};
 pub use printing::{count_done, print_report};
 pub use running::run;

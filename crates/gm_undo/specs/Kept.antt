@@ -29,10 +29,6 @@ pub record HistoryOf : Type 0 where
   -- where a group is open, how many were made where it began
   pub group : Option ℕ
 
--- nothing was kept
-abbrev pub nothing_kept : HistoryOf
-nothing_kept = record { labels = 0; width = 0; changes = []; made = 0; group = None }
-
 abbrev pub row_code : Coded KeptRow
 row_code =
     code_by

@@ -61,7 +61,7 @@ impl Scratch {
         }
     }
 
-    /// Two empty vectors, with the room that they had when they were last given back.
+    /// Two empty vectors, those that were last kept. How much room they have isn't said.
     pub fn lend_rows(&mut self, alloc: Global) -> (Vec<Slot>, Vec<u32>)
         ensures slots { result.0.items ≡ [] }
         ensures turns { result.1.items ≡ [] }
@@ -74,7 +74,8 @@ impl Scratch {
         (slots, turns)
     }
 
-    /// Keeps the room of two vectors for the next ones that are lent. What is in them is forgotten.
+    /// Takes two vectors that are to be lent again. What is in them is forgotten, and nothing is said of
+    /// their room.
     pub fn keep_rows(&mut self, slots: Vec<Slot>, turns: Vec<u32>)
         ensures { self.new ≡ self.old }
     {
@@ -82,21 +83,21 @@ impl Scratch {
         self.turns = turns;
     }
 
-    /// A vector with the room that it had when it was last given back. What is in it means nothing.
+    /// The vector that was last kept. What is in it means nothing, and how much room it has isn't said.
     pub fn lend_slots(&mut self, alloc: Global) -> Vec<Slot>
         ensures { self.new ≡ self.old }
     {
         mem::replace(&mut self.list, Vec::new(alloc))
     }
 
-    /// Keeps the room of a vector for the next one that is lent.
+    /// Takes a vector that is to be lent again. Nothing is said of its room.
     pub fn keep_slots(&mut self, slots: Vec<Slot>)
         ensures { self.new ≡ self.old }
     {
         self.list = slots;
     }
 
-    /// An empty vector for marks, with the room that it had when it was last given back.
+    /// An empty vector for marks, the one that was last kept. How much room it has isn't said.
     pub fn lend_marks(&mut self, alloc: Global) -> Vec<Mark>
         ensures marks { result.items ≡ [] }
         ensures stays { self.new ≡ self.old }
@@ -106,7 +107,8 @@ impl Scratch {
         marks
     }
 
-    /// Keeps the room of a vector for the next marks. What is in it is forgotten.
+    /// Takes a vector that is to be lent again for marks. What is in it is forgotten, and nothing is said
+    /// of its room.
     pub fn keep_marks(&mut self, marks: Vec<Mark>)
         ensures { self.new ≡ self.old }
     {

@@ -8,6 +8,8 @@ from pathlib import Path
 
 from gmr import program
 from gmr.books import Book, end_of_blank, load_book, split_book
+from gmr.commands.frame import new_parser, run_command
+from gmr.files import write_whole
 from gmr.maps import Embed
 from gmr.places import line_and_column
 from gmr.scripts import read_script
@@ -19,10 +21,9 @@ EXAMPLES = """examples:
   tools/book take library.gbook --rules split merge --out used.gbook"""
 
 
-def parse(words: list[str]) -> argparse.Namespace:
+def parse(words: Sequence[str]) -> argparse.Namespace:
     """The command line, taken apart."""
-    form = argparse.RawDescriptionHelpFormatter
-    parser = argparse.ArgumentParser(prog="tools/book", description=__doc__, epilog=EXAMPLES, formatter_class=form)
+    parser = new_parser("book", __doc__, EXAMPLES)
     commands = parser.add_subparsers(dest="command", required=True, metavar="COMMAND")
     join = commands.add_parser("join", help="one book of several, which have the same dimension and embeddings")
     join.add_argument("books", metavar="BOOK", nargs="+")
@@ -92,14 +93,6 @@ def order_of(paths: Sequence[str], books: Sequence[Book], order: str | None) -> 
     return first.embeds
 
 
-def load(path: str) -> Book:
-    """The book of a file; where the program refuses it, that is said with the file's name."""
-    try:
-        return load_book(path)
-    except program.Refused as why:
-        raise program.Refused(f"{path}: {why}", why.status) from None
-
-
 def spell(embed: Embed) -> str:
     """An embedding as a schema has it."""
     return f"{embed.name} <{' '.join(map(str, embed.labels))}> {embed.kind}"
@@ -107,7 +100,7 @@ def spell(embed: Embed) -> str:
 
 def join(paths: Sequence[str], order: str | None) -> str:
     """The text of one book with the rules of several, each book's own comments above its rules."""
-    books = [load(path) for path in paths]
+    books = [load_book(path) for path in paths]
     embeds, version = order_of(paths, books, order), max(book.version for book in books)
     owners: dict[str, str] = {}
     for path, book in zip(paths, books):
@@ -140,7 +133,7 @@ def judge(text: str) -> None:
         program.put_or_refuse("book", path)
 
 
-def main(words: list[str]) -> None:
+def main(words: Sequence[str]) -> None:
     """Prints or saves the book that the command line asks for."""
     asked = parse(words)
     if asked.command == "join":
@@ -151,13 +144,10 @@ def main(words: list[str]) -> None:
     if asked.out is None:
         sys.stdout.write(text)
     else:
-        Path(asked.out).write_text(text, encoding="latin-1")
+        reads = asked.books if asked.command == "join" else [asked.book, *asked.scripts]
+        write_whole(asked.out, text.encode("latin-1"), reads)
 
 
 def run() -> int:
     """Does what the command line asks for; the status."""
-    try:
-        main(sys.argv[1:])
-    except (program.Refused, OSError, ValueError) as why:
-        program.fail(str(why))
-    return 0
+    return run_command("book", main)

@@ -11,12 +11,17 @@ A picture of solids needs points. It has the faces in their colours, as they are
 --names each face's least dart. Of volumes the border is seen, or with --apart each of them."""
 import argparse
 import sys
+from collections.abc import Sequence
+from io import BytesIO
 from pathlib import Path
 
+from gmr.commands.frame import new_parser, run_command
 from gmr.draw import flat as draw_flat, solid as draw_solid
-from gmr import program
 from gmr.draw.model import Model, load_model
 from gmr.draw.solid import View
+from gmr.errors import told_with
+from gmr.files import check_apart, write_whole
+from gmr.progress import tell
 
 FORMS = (".svg", ".png", ".pdf")
 EXAMPLES = """examples:
@@ -29,11 +34,9 @@ EXAMPLES = """examples:
 The picture's form is that of the name's ending: .svg; and .png and .pdf for solids."""
 
 
-def parse(words: list[str]) -> argparse.Namespace:
+def parse(words: Sequence[str]) -> argparse.Namespace:
     """The command line, taken apart."""
-    form = argparse.RawDescriptionHelpFormatter
-    usage = "tools/draw MAP [MAP ..] [OUT] [OPTIONS]"
-    parser = argparse.ArgumentParser("tools/draw", usage, __doc__, EXAMPLES, formatter_class=form)
+    parser = new_parser("draw", __doc__, EXAMPLES, "tools/draw MAP [MAP ..] [OUT] [OPTIONS]")
     parser.add_argument("maps", metavar="MAP", nargs="+",
                         help="files of maps, which are drawn side by side; a last name that ends in .svg, .png or .pdf "
                         "is the picture's, which else goes to standard output")
@@ -48,7 +51,8 @@ def parse(words: list[str]) -> argparse.Namespace:
     solids.add_argument("--view", nargs=2, type=float, metavar=("UP", "ROUND"),
                         help="from how many degrees above, and how many round; else 25 -60, or plane maps from above")
     solids.add_argument("--axis", choices="xyz", default="z", help="the axis that goes up, else z")
-    solids.add_argument("--apart", type=float, default=0, metavar="SHARE", help="volumes smaller by a share, and all seen")
+    solids.add_argument("--apart", type=float, default=0, metavar="SHARE",
+                        help="volumes smaller by a share, and all seen")
     solids.add_argument("--size", type=float, default=5, metavar="INCHES", help="how wide each map is drawn, else 5")
     solids.add_argument("--columns", type=int, default=4, metavar="N", help="how many maps stand side by side, else 4")
     solids.add_argument("--clear", type=float, default=0, metavar="SHARE", help="how far one sees through faces, to 1")
@@ -63,7 +67,7 @@ def parse(words: list[str]) -> argparse.Namespace:
 def is_solid(asked: argparse.Namespace, models: list[Model]) -> bool:
     """Whether solids are drawn: where it is said, and else of many darts in space."""
     if asked.solid is not None:
-        return asked.solid
+        return bool(asked.solid)
     return any(map(is_in_space, models)) and sum(len(it.alpha[0]) for it in models) > draw_flat.MOST_NAMES
 
 
@@ -81,27 +85,39 @@ def titles_of(paths: list[str]) -> list[str | None]:
     return [name if names.count(name) == 1 else f"{Path(path).parent.name}/{name}" for path, name in zip(paths, names)]
 
 
-def main(words: list[str]) -> None:
+def main(words: Sequence[str]) -> None:
     """Draws the maps, to standard output or into a file."""
     asked = parse(words)
-    models = [load_model(path, asked.colours) for path in asked.maps]
+    if asked.out:
+        check_apart(asked.out, asked.maps)
+    models = []
+    for path in asked.maps:
+        tell(f"reading {path}")
+        with told_with(path):
+            models.append(load_model(path, asked.colours))
+    tell("drawing")
     titled = list(zip(asked.titles or titles_of(asked.maps), models))
     form = Path(asked.out).suffix[1:] if asked.out else "svg"
     if is_solid(asked, models):
         above, turn = asked.view or ((25, -60) if any(map(is_in_space, models)) else (90, -90))
         view = View(above, turn, asked.axis, asked.apart, asked.clear, asked.columns, asked.size, asked.names)
-        draw_solid.draw(titled, view, asked.out or sys.stdout.buffer, form)
+        picture = BytesIO()
+        draw_solid.draw(titled, view, picture, form)
+        put(picture.getvalue(), asked.out)
     elif form != "svg":
         raise ValueError(f"a flat picture is .svg, and no .{form}; --solid draws faces as .{form} too")
     else:
-        with open(asked.out or 1, "w", encoding="utf-8") as file:
-            file.write(draw_flat.draw(titled, asked.names))
+        put(draw_flat.draw(titled, asked.names).encode("utf-8"), asked.out)
+
+
+def put(picture: bytes, out: str | None) -> None:
+    """Writes a picture into a file, whole or not at all, or to standard output."""
+    if out:
+        write_whole(out, picture)
+    else:
+        sys.stdout.buffer.write(picture)
 
 
 def run() -> int:
     """Does what the command line asks for; the status."""
-    try:
-        main(sys.argv[1:])
-    except (OSError, ValueError) as why:
-        program.fail(str(why))
-    return 0
+    return run_command("draw", main)

@@ -4,12 +4,14 @@ import json
 import re
 import string
 import sys
-from pathlib import Path
+from collections.abc import Sequence
 from typing import Any
 
-from gmr import maps, program
+from gmr import maps
+from gmr.commands.frame import new_parser, run_command, say
 from gmr.distances import place_of
 from gmr.find.finder import CELLS, Finder, Found, Spot
+from gmr.progress import tell
 
 EXAMPLES = """examples:
   tools/find MAP --at 0 0 1                      the vertex at this point, or the nearest one
@@ -48,15 +50,9 @@ class AddSpot(argparse.Action):
         namespace.spots = [*(namespace.spots or []), (cell, place_of(values))]
 
 
-def parse(words: list[str]) -> argparse.Namespace:
+def parse(words: Sequence[str]) -> argparse.Namespace:
     """The command line, taken apart."""
-    parser = argparse.ArgumentParser(
-        "tools/find",
-        "tools/find MAP WHAT [OPTIONS]",
-        __doc__,
-        EXAMPLES,
-        formatter_class=argparse.RawDescriptionHelpFormatter,
-    )
+    parser = new_parser("find", __doc__, EXAMPLES, "tools/find MAP WHAT [OPTIONS]")
     parser.add_argument("map", metavar="MAP", help="the file of a map")
     what = parser.add_argument_group("what to find, one of these")
     what.add_argument("--at", dest="spots", nargs="+", type=float, metavar="X", action=AddSpot, default=[],
@@ -68,9 +64,11 @@ def parse(words: list[str]) -> argparse.Namespace:
     what.add_argument("--orbit", nargs=2, metavar=("LABELS", "DART"), help="the orbit of a dart along labels")
     what.add_argument("--list", type=int, metavar="N", help="all cells of this dimension")
     what.add_argument("--parts", action="store_true", help="the parts of the map that hang together")
-    parser.add_argument("--cell", type=int, default=0, metavar="N", help="the cell's dimension with --at and --of, else 0")
+    parser.add_argument("--cell", type=int, default=0, metavar="N",
+                        help="the cell's dimension with --at and --of, else 0")
     parser.add_argument("--points", metavar="NAME", help="the embedding with the points, else the first on vertices")
-    parser.add_argument("--scale", type=float, default=1, metavar="S", help="places are multiplied by S, as points were")
+    parser.add_argument("--scale", type=float, default=1, metavar="S",
+                        help="places are multiplied by S, as points were")
     parser.add_argument("--within", type=float, metavar="R", help="nothing that is further from the place than this")
     parser.add_argument("--free", type=int, metavar="LABEL", help="only what has a dart that is free along the label")
     parser.add_argument("--where", metavar="NAME=VALUE", help="only what has this value of the embedding somewhere")
@@ -150,10 +148,12 @@ def for_scripts(it: maps.Map, found: list[Found], form: str) -> str:
     return "".join(lines)
 
 
-def main(words: list[str]) -> int:
+def main(words: Sequence[str]) -> int:
     """Finds and prints; 1 where nothing is found."""
     asked = parse(words)
+    tell(f"reading {asked.map}")
     it = maps.load_map(asked.map)
+    tell("looking for it")
     found = find(it, asked)
     if asked.json:
         text = for_programs(found)
@@ -162,14 +162,9 @@ def main(words: list[str]) -> int:
     else:
         text = for_people(found)
     sys.stdout.write(text)
-    if not found:
-        print("find: nothing that was asked for is there", file=sys.stderr)
-    return 0 if found else 1
+    return 0 if found else say("find", "nothing that was asked for is there")
 
 
 def run() -> int:
     """Does what the command line asks for; the status."""
-    try:
-        return main(sys.argv[1:])
-    except (program.Refused, ValueError) as why:
-        program.fail(str(why))
+    return run_command("find", main)

@@ -2,17 +2,24 @@
 
 A dart that has the same name in both maps stays; the others go or come. The rule is folded from the example, the
 program accepts it, and a run of the program makes the map after of the map before, but for the names of new darts.
-Then the book and its script are put, and the status is 0. Where no rule makes it one line says so, and the status is 1."""
+Then the book and its script are printed, and the status is 0. Where no rule makes it one line says so, and the status
+is 1."""
 import argparse
 import re
-import sys
-from pathlib import Path
+from collections.abc import Sequence
 
-from gmr import program
 from gmr.books import RESERVED
+from gmr.commands.frame import new_parser, run_command
+from gmr.files import write_whole
 from gmr.infer.inference import Further, infer, write_book
 from gmr.infer.example import Example, NoRule, compare
-from gmr.maps import Map, load_map
+from gmr.infer.search import Candidate
+from gmr.maps import load_map
+from gmr.progress import tell
+
+EXAMPLES = """examples:
+  tools/infer before.gmap after.gmap
+  tools/infer before.gmap after.gmap --hook 4 --orbit '0 1' --name raise_face --out rule.gbook rule.gscript"""
 
 
 def read_name(text: str) -> str:
@@ -22,9 +29,9 @@ def read_name(text: str) -> str:
     return text
 
 
-def read_words() -> argparse.Namespace:
+def read_words(words: Sequence[str]) -> argparse.Namespace:
     """The command line."""
-    parser = argparse.ArgumentParser(prog="infer", description=__doc__, formatter_class=argparse.RawDescriptionHelpFormatter)
+    parser = new_parser("infer", __doc__, EXAMPLES)
     parser.add_argument("before", metavar="BEFORE", help="the map before")
     parser.add_argument("after", metavar="AFTER", help="the map after")
     parser.add_argument("--hook", type=int, metavar="D", help="the dart of BEFORE that is the first hook")
@@ -33,7 +40,7 @@ def read_words() -> argparse.Namespace:
     parser.add_argument("--also", nargs=3, action="append", default=[], metavar=("BEFORE", "AFTER", "D"),
                         help="a further example of the same operation, and the darts of its hooks, as '4' or '0 5'")
     parser.add_argument("--out", nargs=2, metavar=("BOOK", "SCRIPT"), help="files for the book and its script")
-    return parser.parse_args()
+    return parser.parse_args(words)
 
 
 def read_orbit(example: Example, orbit: str | None) -> list[tuple[int, ...]] | None:
@@ -49,14 +56,6 @@ def read_orbit(example: Example, orbit: str | None) -> list[tuple[int, ...]] | N
     return [word]
 
 
-def load(path: str) -> Map:
-    """The map of a file; NoRule where the program takes none."""
-    try:
-        return load_map(path)
-    except program.Refused as refused:
-        raise NoRule(f"{path}: {refused.line}") from None
-
-
 def read_further(further: list[list[str]]) -> list[Further]:
     """The further examples, each with the darts of its hooks."""
     found = []
@@ -65,41 +64,37 @@ def read_further(further: list[list[str]]) -> list[Further]:
             darts = tuple(map(int, hooks.split()))
         except ValueError:
             raise NoRule(f"the hooks '{hooks}' aren't names of darts with blanks between") from None
-        found.append((compare(load(before), load(after)), darts))
+        found.append((compare(load_map(before), load_map(after)), darts))
     return found
 
 
-def put(book: str, script: str, files: list[str] | None) -> None:
-    """Puts the book and its script into the files, or else on standard output, the script as comments."""
+def put(book: str, script: str, files: list[str] | None, reads: Sequence[str]) -> None:
+    """Writes the book and its script into the files, or else to standard output, the script as comments."""
     if files is None:
         print(book + "".join(f"# {line}\n" for line in script.splitlines()), end="")
         return
     for path, text in zip(files, (book, script)):
-        try:
-            Path(path).write_text(text, encoding="ascii")
-        except OSError as error:
-            raise NoRule(f"{path}: {error.strerror}") from None
+        write_whole(path, text, reads)
 
 
-def main() -> int:
-    """Reads the maps, and puts the rule or why there is none."""
-    words = read_words()
+def main(words: Sequence[str]) -> None:
+    """Reads the maps, and prints the rule or why there is none."""
+    asked = read_words(words)
+    example = compare(load_map(asked.before), load_map(asked.after))
+    further, orbits = read_further(asked.also), read_orbit(example, asked.orbit)
+    reads = [asked.before, asked.after, *(path for pair in asked.also for path in pair[:2])]
+    none: NoRule | None = None
+    tell("looking for a rule")
     try:
-        example = compare(load(words.before), load(words.after))
-        further, orbits = read_further(words.also), read_orbit(example, words.orbit)
-        try:
-            candidate, why = infer(example, further, orbits, words.hook, words.name), None
-        except NoRule as none:
-            candidate, why = none.candidate, str(none)
-        if candidate is not None:
-            put(write_book(example, candidate, words.name), candidate.script(words.name), words.out)
-    except (NoRule, ValueError, program.Refused) as fault:
-        why = str(fault)
-    if why:
-        program.fail(why)
-    return 0
+        candidate: Candidate | None = infer(example, further, orbits, asked.hook, asked.name)
+    except NoRule as fault:
+        candidate, none = fault.candidate, fault
+    if candidate is not None:
+        put(write_book(example, candidate, asked.name), candidate.script(asked.name), asked.out, reads)
+    if none is not None:
+        raise none
 
 
 def run() -> int:
     """Does what the command line asks for; the status."""
-    return main()
+    return run_command("infer", main)

@@ -1,16 +1,21 @@
 """Meshes in, meshes out: files of surfaces and volumes become maps, and maps such files."""
 import argparse
 import gc
-import sys
+from collections.abc import Sequence
 from pathlib import Path
 
-from gmr import program
+from gmr.commands.frame import new_parser, run_command
+from gmr.errors import told_with
 from gmr.mesh.convert import Wish, export_map, import_mesh
 from gmr.mesh.formats import list_written
-from gmr.mesh.model import Unfit
 from gmr.mesh.scale import parse_scale
+from gmr.progress import tell
 
 NOTES = """\
+examples
+  tools/mesh import model.obj model.gmap
+  tools/mesh export out.gmap out.ply --scale 1000
+
 scale
   Values of maps are whole numbers, so coordinates are multiplied by a scale and rounded. Without --scale it is the
   least power of ten that makes all of them whole, or, where the greatest would then pass 100,000,000, the greatest
@@ -46,11 +51,9 @@ refused, with faces, cells and points as the file counts them, or by their place
 """
 
 
-def read_words() -> argparse.Namespace:
+def read_words(words: Sequence[str]) -> argparse.Namespace:
     """The command line."""
-    parser = argparse.ArgumentParser(
-        prog="mesh", description=__doc__, epilog=NOTES, formatter_class=argparse.RawDescriptionHelpFormatter
-    )
+    parser = new_parser("mesh", __doc__, NOTES)
     commands = parser.add_subparsers(dest="command", required=True, metavar="COMMAND")
 
     reading = commands.add_parser("import", help="a mesh's file becomes a map")
@@ -66,7 +69,7 @@ def read_words() -> argparse.Namespace:
     writing.add_argument("map", type=Path, metavar="MAP", help="the map, of dimension 2 or 3")
     writing.add_argument("out", type=Path, metavar="OUT", help=f"the mesh: {' '.join(list_written())}")
     writing.add_argument("--scale", type=parse_scale, metavar="S", help="what coordinates are divided by")
-    return parser.parse_args()
+    return parser.parse_args(words)
 
 
 def parse_channel(word: str) -> int:
@@ -77,26 +80,23 @@ def parse_channel(word: str) -> int:
     return number
 
 
-def main() -> None:
+def main(words: Sequence[str]) -> None:
     """Does what the command line asks for, and tells of it in one line."""
-    words = read_words()
+    asked = read_words(words)
     gc.disable()  # large lists of tuples and no cycles: the collector would only look at each again and again
-    source = words.model if words.command == "import" else words.map
-    try:
-        if words.command == "import":
-            wish = Wish(words.colours, tuple(words.paint) if words.paint else None)
-            print(import_mesh(words.model, words.out, words.scale, wish, not words.no_check))
+    source = asked.model if asked.command == "import" else asked.map
+    tell(f"{asked.command}ing {source}")
+    with told_with(source):
+        if asked.command == "import":
+            red, green, blue = asked.paint or (0, 0, 0)
+            wish = Wish(asked.colours, (red, green, blue) if asked.paint else None)
+            told = import_mesh(asked.model, asked.out, asked.scale, wish, not asked.no_check)
         else:
-            print(export_map(words.map, words.out, words.scale))
-    except (Unfit, program.Refused) as refusal:
-        program.fail(f"{source}: {refusal}")
-    except ValueError as refusal:
-        program.fail(str(refusal))
-    except OSError as error:
-        program.fail(f"{error.filename or source}: {error.strerror}")
+            told = export_map(asked.map, asked.out, asked.scale)
+    if not asked.quiet:
+        print(told)
 
 
 def run() -> int:
     """Does what the command line asks for; the status."""
-    main()
-    return 0
+    return run_command("mesh", main)

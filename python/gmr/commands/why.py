@@ -1,31 +1,38 @@
 """Runs a script by the program, and says why each line that is refused is refused; where a file is at fault or a rule
 isn't accepted, it says why, where, and how to mend it."""
 import argparse
-import signal
-import sys
 import tempfile
+from collections.abc import Sequence
 from pathlib import Path
 
 from gmr.books import read_book
 from gmr.commands.draw import main as draw_maps
+from gmr.commands.frame import new_parser, run_command
+from gmr.errors import Fault
 from gmr.maps import Map, load_map
-from gmr.places import marked, read_bytes, tell_place, tokens_from, tokens_up_to
-from gmr.program import Refused, answer, fail
+from gmr.places import read_bytes, tell_place, tokens_from
+from gmr.program import answer
 from gmr.scripts import Outcome, is_in_group, read_report
 from gmr.why.books import tell_twice, tell_type, tell_unknown
 from gmr.why.lines import Line, plural, tell_line
 from gmr.why.maps import tell_agree, tell_map
-from gmr.why.rules import tell_rule
+from gmr.why.refused import tell_rules
 from gmr.why.scripts import Prefixes, tell_script
 from gmr.why.texts import tell_limit, tell_text
 
 FILES = ("MAP", "BOOK", "SCRIPT")
+EXAMPLES = """examples:
+  tools/why map.gmap book.gbook script.gscript
+  tools/why map.gmap book.gbook script.gscript --line 3 --draw met.svg
+  tools/why book.gbook
+
+The status is 0 where nothing is refused, and 1 where something is. The program is $GMR, or that of this checkout."""
 USAGE = """%(prog)s [-h] [--line N] [--most N] [--draw OUT] MAP BOOK SCRIPT
        %(prog)s MAP
-       %(prog)s BOOK"""
+       %(prog)s [--example FOLDER] BOOK"""
 
 
-def tell_file(role: str, files: dict[str, str], fault: list[str]) -> list[str]:
+def tell_file(role: str, files: dict[str, str], fault: list[str], folder: Path | None) -> list[str]:
     """Why a file stands for no map, no book or no script."""
     path, text, kind = files[role], read_bytes(files[role]), fault[0]
     if kind == "text":
@@ -33,7 +40,7 @@ def tell_file(role: str, files: dict[str, str], fault: list[str]) -> list[str]:
     if kind == "limit":
         return tell_limit(path, text, fault[1], int(fault[2]))
     if kind == "rule":
-        return tell_rules(path)
+        return tell_rules(path, folder)
     if kind == "twice":
         return tell_twice(path, text, int(fault[1]))
     if role == "MAP":
@@ -43,20 +50,6 @@ def tell_file(role: str, files: dict[str, str], fault: list[str]) -> list[str]:
     return tell_script(path, text, read_book(read_bytes(files["BOOK"])), kind, int(fault[1]))
 
 
-def tell_rules(path: str) -> list[str]:
-    """Why each rule of a book that isn't accepted isn't."""
-    text, lines = read_bytes(path), []
-    book = read_book(text)
-    rules = {rule.name: rule for rule in book.rules}
-    tokens = tokens_up_to(text, len(text))
-    heads = {name.word: (rule.begin, name.end) for rule, name in zip(tokens, tokens[1:]) if rule.word == "rule"}
-    for said in answer("check", path)[1].splitlines()[:-1]:
-        _, name, state, *fault = said.split()
-        if state == "refused":
-            lines += [said, *marked(text, *heads[name]), *tell_rule(rules[name], book.dimension, " ".join(fault)), ""]
-    return lines[:-1]
-
-
 def tell_load(path: str) -> list[str]:
     """Why a file can't be read."""
     if not Path(path).exists():
@@ -64,8 +57,8 @@ def tell_load(path: str) -> list[str]:
     return [f"{path} is a folder." if Path(path).is_dir() else f"{path} can't be read."]
 
 
-def tell_refusal(line: str, files: dict[str, str]) -> list[str]:
-    """Why the program refused before it ran anything, by the line that it put."""
+def tell_refusal(line: str, files: dict[str, str], folder: Path | None) -> list[str]:
+    """Why the program refused before it ran anything, by the line that it put. Examples go into the folder."""
     _, what, *fault = line.split() + [""]
     if what == "load":
         return tell_load(files[fault[0]])
@@ -74,7 +67,7 @@ def tell_refusal(line: str, files: dict[str, str]) -> list[str]:
                 "program takes."]
     if what == "agree":
         return tell_agree(load_map(files["MAP"]), read_book(read_bytes(files["BOOK"])))
-    return tell_file(what, files, fault[:-1]) if what in FILES else []
+    return tell_file(what, files, fault[:-1], folder) if what in FILES else []
 
 
 class Run:
@@ -134,8 +127,8 @@ def draw(amap: Map, out: str, folder: Path) -> None:
     path.write_text(amap.text(), encoding="ascii")
     try:
         draw_maps([str(path), out])
-    except (OSError, ValueError) as error:
-        fail(f"{out} wasn't drawn: {error}")
+    except ValueError as error:
+        raise Fault(f"{out} wasn't drawn: {error}") from error
 
 
 def tell_run(words: argparse.Namespace, files: dict[str, str], report: str, folder: Path) -> None:
@@ -143,7 +136,7 @@ def tell_run(words: argparse.Namespace, files: dict[str, str], report: str, fold
     run = Run(files, report, folder)
     refused = [at for at in run.refused() if words.line in (None, at + 1)]
     if words.line and not refused:
-        fail(f"line {words.line} isn't refused")
+        raise Fault(f"line {words.line} isn't refused")
     for place, at in enumerate(refused[:words.most]):
         lines, amap = run.tell(at, words.most)
         print("\n".join(([""] if place else []) + lines))
@@ -163,11 +156,11 @@ def tell_files(files: dict[str, str], words: argparse.Namespace) -> int:
         elif status == 1:
             tell_run(words, files, report, folder)
         else:
-            tell_answer(status, report, files)
+            tell_answer(status, report, files, words.example)
     return min(status, 1)
 
 
-def tell_one_file(path: str) -> int:
+def tell_one_file(path: str, folder: Path | None) -> int:
     """Prints why a map or a book alone is refused, or rules of the book, and gives the status."""
     tokens = tokens_from(read_bytes(path), 0, 1) if Path(path).is_file() else []
     role = "BOOK" if tokens and tokens[0].word == "book" else "MAP"
@@ -175,48 +168,44 @@ def tell_one_file(path: str) -> int:
     if status == 0:
         print("nothing is refused")
     elif status == 1:
-        print("\n".join(tell_rules(path)))
+        print("\n".join(tell_rules(path, folder)))
     else:
-        tell_answer(status, said, {role: path})
+        tell_answer(status, said, {role: path}, folder)
     return min(status, 1)
 
 
-def tell_answer(status: int, said: str, files: dict[str, str]) -> None:
+def tell_answer(status: int, said: str, files: dict[str, str], folder: Path | None) -> None:
     """Prints the line by which the program refused a file, and why."""
     line = said.partition("\n")[0] or f"the program ended with status {status} and printed nothing"
-    print("\n".join([line, *tell_refusal(line, files)]))
+    print("\n".join([line, *tell_refusal(line, files, folder)]))
 
 
-def parse_arguments() -> argparse.Namespace:
+def parse_arguments(given: Sequence[str]) -> argparse.Namespace:
     """The arguments of the command line."""
-    parser = argparse.ArgumentParser(
-        prog="tools/why", description=__doc__, usage=USAGE,
-        epilog="The status is 0 where nothing is refused, and 1 where something is. The program is $GMR, or that of "
-               "this checkout.")
+    parser = new_parser("why", __doc__, EXAMPLES, USAGE)
     parser.add_argument("files", metavar="FILE", nargs="+",
                         help="a map, a book and a script, as of `gmr run`; or a map, or a book, alone")
     parser.add_argument("--line", type=int, metavar="N", help="this line of the script alone, counted from 1")
     parser.add_argument("--most", type=int, default=10, metavar="N",
                         help="so many lines at most, and so many darts of an each (10)")
     parser.add_argument("--draw", metavar="OUT", help="draw the map that the first of these lines met, by tools/draw")
-    words = parser.parse_args()
+    parser.add_argument("--example", metavar="FOLDER", type=Path,
+                        help="write into this folder, for each rule that isn't accepted and would break a map, this "
+                        "map, its script, what would come of it, and a picture of both")
+    words = parser.parse_args(given)
     if len(words.files) not in (1, len(FILES)):
         parser.error("give a map, a book and a script, or one file")
     return words
 
 
-def main() -> int:
+def main(given: Sequence[str]) -> int:
     """Says what is refused, and why."""
-    words = parse_arguments()
-    try:
-        if len(words.files) == 1:
-            return tell_one_file(words.files[0])
-        return tell_files(dict(zip(FILES, words.files)), words)
-    except Refused as fault:
-        fail(fault.line)
+    words = parse_arguments(given)
+    if len(words.files) == 1:
+        return tell_one_file(words.files[0], words.example)
+    return tell_files(dict(zip(FILES, words.files)), words)
 
 
 def run() -> int:
     """Does what the command line asks for; the status."""
-    signal.signal(signal.SIGPIPE, signal.SIG_DFL)     # who reads no further, as `head`, ends it quietly
-    return main()
+    return run_command("why", main)

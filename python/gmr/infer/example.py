@@ -1,15 +1,22 @@
 """An example of an operation: a map before it and a map after it, and what differs between the two."""
+from __future__ import annotations
+
 from collections.abc import Container
 from dataclasses import dataclass
 from functools import cached_property
+from typing import TYPE_CHECKING
 
+from gmr.errors import Fault
 from gmr.maps import Embed, Map
 
+if TYPE_CHECKING:
+    from gmr.infer.search import Candidate
 
-class NoRule(Exception):
+
+class NoRule(Fault):
     """Why no rule comes of the example, in one plain line, and where one came close the candidate."""
 
-    def __init__(self, line: str, candidate: object = None) -> None:
+    def __init__(self, line: str, candidate: Candidate | None = None) -> None:
         super().__init__(line)
         self.candidate = candidate
 

@@ -5,7 +5,7 @@ import tempfile
 from dataclasses import replace
 from pathlib import Path
 
-from gmr import program
+from gmr.errors import Missing
 from gmr.mesh.model import Point, Surface, Unfit
 from gmr.mesh.ply import read_ply, shorten
 
@@ -14,7 +14,7 @@ def read_by_assimp(path: Path) -> Surface:
     """The surface of a file. Its points are those places where corners lie: corners at one place are one point."""
     found = shutil.which("assimp")
     if found is None:
-        program.fail("the program assimp is missing: apt-get install assimp-utils")
+        raise Missing("the program assimp is missing: apt-get install assimp-utils")
     with tempfile.TemporaryDirectory() as scratch:
         turned = Path(scratch) / "turned.ply"
         done = subprocess.run([found, "export", path, turned, "-fply"], capture_output=True, check=False)

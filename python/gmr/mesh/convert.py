@@ -4,10 +4,10 @@ from pathlib import Path
 from typing import NamedTuple
 
 from gmr import maps, program
+from gmr.files import check_apart, write_beside
 from gmr.maps import Map
 from gmr.mesh.formats import check_written, read_mesh, write_mesh, writes_volumes
 from gmr.mesh.model import POLYHEDRON, Colour, Paint, Surface, Unfit, Volume
-from gmr.mesh.outputs import check_apart, write_beside
 from gmr.mesh.scale import choose_scale, read_scale, scale_points, tell_scale
 from gmr.mesh.surface import make_surface_map, read_surface_map
 from gmr.mesh.volume import make_volume_map, read_volume_map

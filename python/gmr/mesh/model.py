@@ -5,6 +5,7 @@ from dataclasses import dataclass
 from pathlib import Path
 from typing import NamedTuple
 
+from gmr.errors import Fault
 from gmr.maps import Embed
 
 Point = tuple[float, float, float]
@@ -21,7 +22,7 @@ CELL_FACES: dict[str, tuple[Polygon, ...]] = {
 POLYHEDRON = "polyhedron"  # a cell that is told by its faces alone
 
 
-class Unfit(ValueError):
+class Unfit(Fault, ValueError):
     """A mesh, or a map, that the other can't hold: one plain line that says where."""
 
 

@@ -4,8 +4,9 @@ from typing import NamedTuple
 from gmr.books import Book, Node, Rule, tokens_of
 from gmr.expressions import NoValue, Reader, Scene, Tree, leaves_of, show, value_of
 from gmr.maps import MOST_DARTS, MOST_NAME, Map, Value
-from gmr.matches import Candidate, Step, deciding_positions, find_candidate, step_of, way_to
-from gmr.why.rules import link_text, word_text
+from gmr.matches import Candidate, Step, find_candidate, labels_of, step_of, way_to
+from gmr.unfolding import deciding_positions
+from gmr.why.edits import link_text, word_text
 
 MOST_PARTS = 12     # parts of an expression that are told
 CONSTANTS = ("number", "truth")
@@ -106,8 +107,7 @@ def wanted_as(found: Candidate, step: Step, node: Node, position: int) -> str:
 def where(found: Candidate, node: Node, position: int) -> list[str]:
     """How the program came to a node's dart at a position."""
     first = found.hooks[0]
-    word = tuple(letter for letter in first.left or () if letter is not None)
-    way = way_to(position, found.turns, word)
+    way = way_to(position, found.turns, labels_of(first.left))
     said = [f"Position {position} is reached from the dart {found.darts[first.name][0]} of the hook {first.name} "
             f"along {' '.join(map(str, way))}."] if position else []
     route = found.routes.get(node.name)
@@ -221,7 +221,7 @@ def tell_no_value(line: Line) -> list[str]:
 def tell_full(line: Line) -> list[str]:
     """The result has no room for darts or names."""
     first, more = int(line.cause[2]), int(line.cause[4])
-    count = line.candidate().count()
+    count = line.candidate().size()
     added = sum(1 for node in line.rule.nodes if node.left is None)
     made = (f"{line.rule.name} adds {added} {plural(added, 'node')} at {count} {plural(count, 'position')}, which "
             f"makes {more} new darts")
@@ -243,5 +243,3 @@ CAUSES = {
     "no-dart": tell_no_dart, "no-match arc": tell_arc, "no-match same": tell_same, "pre-no-value": tell_pre,
     "pre-false": tell_pre, "full-darts": tell_full, "full-names": tell_full, "no-value": tell_no_value,
 }
-
-

@@ -1,6 +1,7 @@
 """Why a rule isn't accepted, and how to mend it: the guide's advice for each fault, with the rule's own names."""
 from gmr.books import Link, Node, Rule
 from gmr.matches import Step, step_of
+from gmr.why.edits import link_text, word_text
 
 SIDES = {"left": "on the left", "right": "on the right"}
 
@@ -42,16 +43,6 @@ class Told:
         """The labels that a node has on a side, as a text."""
         found = [str(label) for label in range(self.dimension + 1) if self.step(side, name, label)]
         return " and ".join([", ".join(found[:-1]), found[-1]] if found[1:] else found) or "none"
-
-
-def word_text(word: tuple[int | None, ...]) -> str:
-    """A word as it is written."""
-    return f"<{' '.join('_' if letter is None else str(letter) for letter in word)}>"
-
-
-def link_text(link: Link) -> str:
-    """A link as it is written."""
-    return f"{link[0]} -{link[1]}- {link[2]}"
 
 
 def tell_hooks(told: Told) -> list[str]:
@@ -138,9 +129,7 @@ def tell_square(told: Told) -> list[str]:
              f"then {other} must end where the way along {other} and then {one} does."]
     ways = []
     for label, step in ((one, steps[0]), (other, steps[1])):
-        ways.append(f"along {label} it has " + ("nothing of its own" if step is None else "a link to "
-                                                                                          f"{step.node}" if step.node
-                                                  else f"the letter at place {step.place}"))
+        ways.append(f"along {label} it has {'nothing of its own' if step is None else told_step(step)}")
     return [*lines, f"Node {name}: {', and '.join(ways)}.", mend_of_square(told, name, (one, other), steps)]
 
 
@@ -165,7 +154,8 @@ def mend_of_square(told: Told, name: str, labels: tuple[int, int], steps: tuple[
                 f"{told_step(told.step('right', str(node), label))}.")
     word = told.hooks[0].left or () if told.hooks else ()
     return (f"Two letters commute where the labels of the first hook's word {word_text(word)} at their places are "
-            f"two or more apart; these are {word[first.place]} and {word[second.place]}. Use a link for one of them.")
+            f"two or more apart; these are {word[first.place or 0]} and {word[second.place or 0]}. Use a link for one "
+            "of them.")
 
 
 def letter_at(node: Node, place: int | None) -> str:

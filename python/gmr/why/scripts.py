@@ -9,6 +9,7 @@ from gmr.places import tell_place
 from gmr.program import answer
 from gmr.scripts import Statement, read_script, text_before
 
+
 def tell_script(path: str, text: str, book: Book, kind: str, place: int) -> list[str]:
     """Why a line of a script disagrees with the book."""
     line = next(line for line in read_script(text) if line.begin <= place < line.end)

@@ -7,8 +7,8 @@ use Rattle.gm_match.specs.Outcome.{application_of}
 use Rattle.gm_theory.proofs.ValuesKept.{applications_keep_sound_maps}
 use Rattle.gm_apply.specs.Outcomes.{AsBefore, ForResult}
 use Rattle.gm_apply.proofs.Applying.{refused_match, sound_again, accepted_for, readable_at}
-use Rattle.gm_apply.proofs.Budgets.{find_within}
-use Rattle.gm_apply.proofs.Readying.{names_there, edits_there, new_is, old_is, done, within_ready, within_done}
+use Rattle.gm_apply.proofs.Budgets.{find_within, find_within_once}
+use Rattle.gm_apply.proofs.Readying.{names_there, edits_there, new_is, old_is, done, within_ready, within_ready_once, within_done, within_done_once}
 use Rattle.gm_apply.proofs.Sums.{stays, no_less, rises_twice, rises_thrice, rises_to_the_end, steps_of_darts, names_reserved, still_above, room_reserved, spare_then, spare_stays, spare_stays_then}
 use Rattle.gm_apply.proofs.application.apply.Goals as goal
 
@@ -23,6 +23,7 @@ returns-in_err-fit g c =
       sound = c.requires.sound;
       schema = refl;
       most = λ most budget. no_less _ _;
+      once = λ most budget. no_less _ _;
       least = unless_ok _ c.from_residual.result c.from_residual.ensures.0;
       rises = stays _;
       room = c.fit.ensures.kept;
@@ -50,6 +51,7 @@ returns-in_err-found g c =
       sound = c.requires.sound;
       schema = refl;
       most = λ most budget. find_within c.args.arena.now (rule_of c.args.plan.now.table) c.args.hooks.now c.args.params.now most c.args.steps.now c.find.new.steps budget (c.in_err-found.ensures.cost c.args.params.now);
+      once = λ most budget. find_within_once c.args.arena.now (rule_of c.args.plan.now.table) c.args.hooks.now c.args.params.now most c.args.steps.now c.find.new.steps (accepted_for c.args.arena.now c.args.plan.now.schema (rule_of c.args.plan.now.table) c.requires.schema c.rule.ensures.planned) budget (c.in_err-found.ensures.cost c.args.params.now);
       least = unless_ok _ c.from_residual-in_err-found.result c.from_residual-in_err-found.ensures.0;
       rises = c.in_err-found.ensures.least;
       room = still_above _ _ _ c.fit.ensures.kept c.find.ensures.room;
@@ -77,6 +79,7 @@ returns-in_err-applied g c =
       sound = c.requires.sound;
       schema = refl;
       most = λ most budget. refused.within most c.args.steps.now budget (c.in_ok-found.ensures.cost c.args.params.now);
+      once = λ most budget. refused.once most c.args.steps.now budget (c.in_ok-found.ensures.cost c.args.params.now);
       least = unless_ok _ c.from_residual-in_err-applied.result c.from_residual-in_err-applied.ensures.0;
       rises = rises_twice _ _ _ c.in_ok-found.ensures.least refused.rises;
       room = still_above _ _ _ c.fit.ensures.kept (c.ready.ensures.room ∙ c.find.ensures.room);
@@ -107,6 +110,7 @@ returns-in_err-reserve g c =
       sound = sound_again c.args.arena.now c.reserve.new.arena c.reserve.ensures.rows c.requires.sound;
       schema = ap (λ m. m.schema) c.reserve.ensures.rows;
       most = λ most budget. within_ready _ _ readable _ _ _ _ _ ready c.reserve.ensures.lawful.schema most c.args.steps.now budget (c.in_ok-found.ensures.cost c.args.params.now);
+      once = λ most budget. within_ready_once _ _ readable _ _ _ _ _ ready c.reserve.ensures.lawful.schema most c.args.steps.now budget (c.in_ok-found.ensures.cost c.args.params.now);
       least = unless_ok _ c.from_residual-in_err-reserve.result c.from_residual-in_err-reserve.ensures.0;
       rises = rises_thrice _ _ _ _ c.in_ok-found.ensures.least ready.rises ready.edited.rises;
       room = still_above _ _ _ c.fit.ensures.kept (c.ready.ensures.room ∙ c.find.ensures.room);
@@ -138,6 +142,7 @@ returns g c =
           (done _ _ readable _ _ _ _ _ ready c.reserve.new.arena c.commit-left.new.arena c.in_ok-reserve.ensures.rows c.commit-left.ensures.unfolded);
       schema = c.commit-left.ensures.schema ∙ ap (λ m. m.schema) c.in_ok-reserve.ensures.rows;
       most = λ most budget. within_done _ _ readable _ _ _ _ _ ready c.reserve.ensures.lawful.schema most c.args.steps.now budget (c.in_ok-found.ensures.cost c.args.params.now) c.commit-left.new.steps c.commit-left.ensures.most;
+      once = λ most budget. within_done_once _ _ readable _ _ _ _ _ ready c.reserve.ensures.lawful.schema most c.args.steps.now budget (c.in_ok-found.ensures.cost c.args.params.now) c.commit-left.new.steps c.commit-left.ensures.most;
       least = steps_of_darts _ _ _ _ _ _ _ _ _ c.in_ok-found.ensures.least ready.rises ready.edited.rises c.commit-left.ensures.least (new_is _ _ readable _ _ _ _ _ ready) (old_is _ _ readable _ _ _ _ _ ready);
       rises = rises_to_the_end _ _ _ _ _ _ _ c.in_ok-found.ensures.least ready.rises ready.edited.rises c.commit-left.ensures.least;
       room = still_above _ _ _ c.fit.ensures.kept (ap (λ room. room.bound) (c.keep_rows.ensures ∙ c.keep_room.ensures) ∙ c.ready.ensures.room ∙ c.find.ensures.room);

@@ -8,7 +8,7 @@ use Rattle.gm_apply.specs.Outcomes.{AsBefore, ForResult}
 use Rattle.gm_theory.proofs.ValuesKept.{applications_keep_sound_maps}
 use Rattle.gm_apply.proofs.Applying.{refused_match, accepted_for, readable_at}
 use Rattle.gm_apply.proofs.Budgets.{find_within}
-use Rattle.gm_apply.proofs.Preparing.{prepared, few_rows, rows_within}
+use Rattle.gm_apply.proofs.Preparing.{prepared, few_rows, few_touched, rows_within}
 use Rattle.gm_apply.proofs.Readying.{names_there, edits_there, new_is, old_is, within_ready, within_kept}
 use Rattle.gm_apply.proofs.Sums.{stays, no_less, rises_twice, rises_thrice, names_reserved, room_reserved, still_above}
 use Rattle.gm_apply.proofs.preparation.prepare.Goals as goal
@@ -26,6 +26,7 @@ returns-in_err-fit g c =
       most = λ most budget. no_less _ _;
       left = λ most budget. unless_ok _ c.from_residual.result c.from_residual.ensures.0;
       few = λ most budget. unless_ok _ c.from_residual.result c.from_residual.ensures.0;
+      touched = λ k reached read positions work. unless_ok _ c.from_residual.result c.from_residual.ensures.0;
       rises = stays _;
       room = c.fit.ensures.kept;
       spare = unless_ok _ c.from_residual.result c.from_residual.ensures.0;
@@ -53,6 +54,7 @@ returns-in_err-found g c =
       most = λ most budget. find_within c.args.arena.now (rule_of c.args.plan.now.table) c.args.hooks.now c.args.params.now most c.args.steps.now c.find.new.steps budget (c.in_err-found.ensures.cost c.args.params.now);
       left = λ most budget. unless_ok _ c.from_residual-in_err-found.result c.from_residual-in_err-found.ensures.0;
       few = λ most budget. unless_ok _ c.from_residual-in_err-found.result c.from_residual-in_err-found.ensures.0;
+      touched = λ k reached read positions work. unless_ok _ c.from_residual-in_err-found.result c.from_residual-in_err-found.ensures.0;
       rises = c.in_err-found.ensures.least;
       room = still_above _ _ _ c.fit.ensures.kept c.find.ensures.room;
       spare = unless_ok _ c.from_residual-in_err-found.result c.from_residual-in_err-found.ensures.0;
@@ -80,6 +82,7 @@ returns-in_err-applied g c =
       most = λ most budget. refused.within most c.args.steps.now budget (c.in_ok-found.ensures.cost c.args.params.now);
       left = λ most budget. unless_ok _ c.from_residual-in_err-applied.result c.from_residual-in_err-applied.ensures.0;
       few = λ most budget. unless_ok _ c.from_residual-in_err-applied.result c.from_residual-in_err-applied.ensures.0;
+      touched = λ k reached read positions work. unless_ok _ c.from_residual-in_err-applied.result c.from_residual-in_err-applied.ensures.0;
       rises = rises_twice _ _ _ c.in_ok-found.ensures.least refused.rises;
       room = still_above _ _ _ c.fit.ensures.kept (c.ready.ensures.room ∙ c.find.ensures.room);
       spare = unless_ok _ c.from_residual-in_err-applied.result c.from_residual-in_err-applied.ensures.0;
@@ -110,6 +113,7 @@ returns-in_err-reserve g c =
       most = λ most budget. within_ready _ _ readable _ _ _ _ _ ready c.reserve.ensures.lawful.schema most c.args.steps.now budget (c.in_ok-found.ensures.cost c.args.params.now);
       left = λ most budget. unless_ok _ c.from_residual-in_err-reserve.result c.from_residual-in_err-reserve.ensures.0;
       few = λ most budget. unless_ok _ c.from_residual-in_err-reserve.result c.from_residual-in_err-reserve.ensures.0;
+      touched = λ k reached read positions work. unless_ok _ c.from_residual-in_err-reserve.result c.from_residual-in_err-reserve.ensures.0;
       rises = rises_thrice _ _ _ _ c.in_ok-found.ensures.least ready.rises ready.edited.rises;
       room = still_above _ _ _ c.fit.ensures.kept (c.ready.ensures.room ∙ c.find.ensures.room);
       spare = unless_ok _ c.from_residual-in_err-reserve.result c.from_residual-in_err-reserve.ensures.0;
@@ -141,6 +145,7 @@ returns-in_err-edits g c =
       most = λ most budget. within_ready _ _ readable _ _ _ _ _ ready c.reserve.ensures.lawful.schema most c.args.steps.now budget (c.in_ok-found.ensures.cost c.args.params.now);
       left = λ most budget. unless_ok _ c.from_residual-in_err-edits.result c.from_residual-in_err-edits.ensures.0;
       few = λ most budget. unless_ok _ c.from_residual-in_err-edits.result c.from_residual-in_err-edits.ensures.0;
+      touched = λ k reached read positions work. unless_ok _ c.from_residual-in_err-edits.result c.from_residual-in_err-edits.ensures.0;
       rises = rises_thrice _ _ _ _ c.in_ok-found.ensures.least ready.rises ready.edited.rises;
       room = rises_twice _ _ _ c.fit.ensures.kept (subst (λ n. n ≤ c.into_edits.new.scratch.bound) (c.ready.ensures.room ∙ c.find.ensures.room) c.into_edits.ensures.room);
       spare = unless_ok _ c.from_residual-in_err-edits.result c.from_residual-in_err-edits.ensures.0;
@@ -162,6 +167,7 @@ returns g c =
       most = λ most budget. within_ready _ _ readable _ _ _ _ _ ready c.reserve.ensures.lawful.schema most c.args.steps.now budget (c.in_ok-found.ensures.cost c.args.params.now);
       left = λ most budget. within_kept _ _ readable _ _ _ _ _ ready c.reserve.ensures.lawful.schema most c.args.steps.now budget (c.in_ok-found.ensures.cost c.args.params.now) _ (rows_within _ _ readable _ _ _ _ _ ready c.in_ok-edits.edits c.in_ok-edits.ensures.edits c.in_ok-edits.ensures.few);
       few = λ most budget. few_rows _ _ readable _ _ _ _ _ ready c.reserve.ensures.lawful.schema most budget c.in_ok-edits.edits c.in_ok-edits.ensures.edits c.in_ok-edits.ensures.few;
+      touched = λ k reached read positions work. few_touched _ _ readable _ _ _ _ _ ready c.reserve.ensures.lawful.schema k reached read _ c.in_ok-edits.ensures.few positions work;
       rises = rises_thrice _ _ _ _ c.in_ok-found.ensures.least ready.rises ready.edited.rises;
       room = still_above _ _ _ (rises_twice _ _ _ c.fit.ensures.kept (subst (λ n. n ≤ c.into_edits.new.scratch.bound) (c.ready.ensures.room ∙ c.find.ensures.room) c.into_edits.ensures.room)) (ap (λ room. room.bound) c.keep_rows.ensures);
       spare = rw (c.in_ok-edits.ensures.edits, new_is _ _ readable _ _ _ _ _ ready, old_is _ _ readable _ _ _ _ _ ready) c.in_ok-reserve.ensures.spare;

@@ -1,7 +1,7 @@
-use Rattle.std.proofs.Common.{◌≡◌, ℕ, suc, ◌+◌, ◌*◌, ◌≤◌, List, length, sum, take}
+use Rattle.std.proofs.Common.{◌≡◌, ℕ, suc, List, length}
 use Rattle.gm_eval.specs.Keeping.{AreKept}
 use Rattle.gm_pending.specs.Results.{instances_of}
-use Rattle.gm_apply.specs.Readings.{AreReadingUnits, HaveFewCollectors, places_of}
+use Rattle.gm_apply.specs.Readings.{places_of}
 use Rattle.gm_apply.specs.Reads.{IsReadable, HasRead}
 use Rattle.gm_apply.proofs.Remembering.{IsKeptBefore}
 use Rattle.gm_apply.proofs.reading.Reading.read_values.Given as goal
@@ -13,6 +13,5 @@ invariant-loop-index g l = record {
   places : places_of l.pending l.embed ≡ places_of l.fn.pending l.embed;
   room : l.scratch.bound ≡ l.fn.scratch.bound;
   kept : AreKept l.self.arena.now l.self.found.now l.self.params.now l.kept.entries;
-  before : HaveFewCollectors l.self l.embed → IsKeptBefore l.self l.embed (places_of l.fn.pending l.embed) l.count l.collects l.index l.kept;
-  once : (units : List ℕ) → HaveFewCollectors l.self l.embed → AreReadingUnits l.self l.embed (places_of l.fn.pending l.embed) units → l.steps ≤ l.fn.steps + 6 * (l.self.arena.now.schema.dim + 1) * sum (take l.index units);
+  before : IsKeptBefore l.self l.embed (places_of l.fn.pending l.embed) l.count l.collects l.index l.kept;
 }

@@ -1,0 +1,75 @@
+"""What all commands share: how words are read, and the one place where what is raised becomes a line and a status.
+
+The status is 0, 1 for what is refused or can't be done, 2 for wrong words, and 130 for an interrupt."""
+import argparse
+import os
+import sys
+from collections.abc import Callable, Sequence
+from importlib.metadata import PackageNotFoundError, version
+from pathlib import Path
+from typing import NoReturn
+
+from gmr.errors import INTERRUPTED, REFUSED, WRONG_WORDS, Fault
+from gmr.progress import shown
+
+
+class Parser(argparse.ArgumentParser):
+    """A reader of words that tells a fault of them in one line, under the tool's name, with status 2."""
+
+    def error(self, message: str) -> NoReturn:
+        """Ends with the fault of the words."""
+        name = self.prog.removeprefix("tools/")
+        self.exit(WRONG_WORDS, f"{name}: {message}; {self.prog} --help has more\n")
+
+
+def new_parser(name: str, description: str | None, examples: str, usage: str | None = None) -> Parser:
+    """The parser of a tool's words: with examples behind its help, --version and --quiet."""
+    parser = Parser(f"tools/{name}", usage, description, examples,
+                    formatter_class=argparse.RawDescriptionHelpFormatter, allow_abbrev=False)
+    parser.add_argument("--version", action="version", version=f"{name} of gmr {package_version()}")
+    parser.add_argument("--quiet", action="store_true", help="nothing but what was asked for, and what goes wrong")
+    return parser
+
+
+def package_version() -> str:
+    """The version of the package, where it is installed or not."""
+    try:
+        return version("gmr")
+    except PackageNotFoundError:
+        lines = Path(__file__).resolve().parents[2].joinpath("pyproject.toml").read_text(encoding="utf-8").splitlines()
+        return next(line.split('"')[1] for line in lines if line.startswith("version"))
+
+
+def run_command(name: str, main: Callable[[Sequence[str]], int | None]) -> int:
+    """Runs a command over the words that the process was given: its status, after a line for what goes wrong."""
+    words = sys.argv[1:]
+    try:
+        with shown(name, "--quiet" in words):
+            status = main(words) or 0
+        sys.stdout.flush()
+        return status
+    except KeyboardInterrupt:
+        return say(name, "interrupted", INTERRUPTED)
+    except BrokenPipeError:     # who reads no further, as `head`, is told nothing
+        os.dup2(os.open(os.devnull, os.O_WRONLY), sys.stdout.fileno())
+        return REFUSED
+    except Fault as fault:
+        return say(name, fault.told())
+    except OSError as error:
+        return say(name, tell_system(error))
+    except (ValueError, RecursionError) as fault:
+        return say(name, str(fault))
+    except MemoryError:
+        return say(name, "memory ran out")
+
+
+def tell_system(error: OSError) -> str:
+    """What the system said of a file, with its name."""
+    reason = error.strerror or str(error)
+    return f"{os.fspath(error.filename)}: {reason}" if error.filename is not None else reason
+
+
+def say(name: str, line: str, status: int = REFUSED) -> int:
+    """Says a line on standard error under a tool's name, and answers the status."""
+    print(f"{name}: {' '.join(line.split())}", file=sys.stderr)
+    return status
