@@ -1,10 +1,12 @@
 """Files of the folder are opened, saved, imported and exported, and sessions that ended without a save come back."""
 import tempfile
+from argparse import ArgumentTypeError
 from fractions import Fraction
 from pathlib import Path
 from typing import Any
 
 from gmr import program
+from gmr.errors import Fault
 from gmr.mesh.convert import Wish, export_map, import_mesh
 from gmr.mesh.formats import list_written
 from gmr.mesh.model import Unfit
@@ -132,7 +134,7 @@ def scale_in(body: Json) -> Fraction | None:
     text = text_in(body, "scale", "")
     try:
         return parse_scale(text) if text else None
-    except Exception as error:      # an argument's type of the command line
+    except (ValueError, ArgumentTypeError) as error:
         raise Unclear(f"the scale: {error}") from None
 
 
@@ -152,7 +154,7 @@ def import_data(name: str, data: bytes, scale: Fraction | None, is_painted: bool
         try:
             line = import_mesh(model, out, scale, Wish(paint=PAINT) if is_painted else Wish(), True)
         except Unfit as fault:
-            raise program.Refused(f"{name}: {fault}", 1) from None
+            raise Fault(fault.line, name) from None
         return out.read_bytes(), line
 
 
@@ -169,7 +171,7 @@ def export_file(session: Session, body: Json) -> Json:
         try:
             line = export_map(given, out, scale_in(body))
         except Unfit as fault:
-            raise program.Refused(f"{name}: {fault}", 1) from None
+            raise Fault(fault.line, name) from None
         session.folder.write(name, out.read_bytes())
     return {"answer": [f"{line}; written as {name}"], "why": []}
 

@@ -9,6 +9,8 @@ from collections.abc import Iterator
 from contextlib import contextmanager
 from pathlib import Path
 
+from gmr.errors import Fault
+
 MOST_BYTES = 268_435_456
 MOST_LISTED, DEEPEST = 2_000, 6
 KEPT_APART = ".gmr-studio"     # the folder of sessions; no name that begins with a dot is taken from outside
@@ -17,7 +19,7 @@ READ_FLAGS = os.O_RDONLY | os.O_NOFOLLOW | os.O_NONBLOCK | os.O_CLOEXEC
 WRITE_FLAGS = os.O_WRONLY | os.O_CREAT | os.O_EXCL | os.O_NOFOLLOW | os.O_CLOEXEC
 
 
-class Outside(Exception):
+class Outside(Fault):
     """A name that isn't one of a file in the folder, in one line."""
 
 

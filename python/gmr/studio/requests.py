@@ -3,6 +3,7 @@ import json
 import re
 from typing import Any
 
+from gmr.errors import Fault
 from gmr.maps import LEAST_NUMBER, MOST_NAME, MOST_NUMBER, WIDTHS, Value
 
 Json = dict[str, Any]
@@ -10,7 +11,7 @@ NAME = re.compile(r"[A-Za-z][A-Za-z0-9_]{0,31}", re.ASCII)
 MOST_DARTS_NAMED = 100_000
 
 
-class Unclear(Exception):
+class Unclear(Fault):
     """A request that asks for nothing that there is, in one line."""
 
 

@@ -12,7 +12,7 @@ from wsgiref.simple_server import WSGIRequestHandler, WSGIServer, make_server
 
 import bottle  # type: ignore
 
-from gmr import program
+from gmr.errors import Fault, Refused
 from gmr.studio.actions import ACTIONS, CHANGING, UNLOCKED
 from gmr.studio.folder import Outside
 from gmr.studio.guard import HEADERS, Environ, Guard
@@ -94,8 +94,9 @@ class Server:
                 return send(200, ACTIONS[name](self.session, body))
         except (Unclear, Outside) as fault:
             return send(400, {"fault": str(fault)})
-        except program.Refused as fault:
-            return send(200, {"answer": [fault.line], "why": [], "refused": True})
+        except Fault as fault:
+            why = fault.sentences if isinstance(fault, Refused) else []
+            return send(200, {"answer": [fault.told()], "why": why, "refused": True})
         except OSError as error:
             return send(400, {"fault": f"{error.filename or 'a file'}: {error.strerror or error}"})
         except Exception:   # pylint: disable=broad-except

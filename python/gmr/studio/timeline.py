@@ -14,7 +14,7 @@ MOST_KEPT = 512 * 2**20     # bytes of maps between statements that are kept; wh
 
 class Step(NamedTuple):
     """A statement, or a whole group, as it stands in the script; what the program answered; and what came of it:
-    'done', 'nothing' where no map changed, 'undo' or 'redo' where it went back or forth, 'note' where it is a comment."""
+    'done', 'nothing' where no map changed, 'undo' or 'redo' where it went back or forth, 'note' for a comment."""
     text: str
     report: tuple[str, ...]
     came: str
