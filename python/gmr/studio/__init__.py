@@ -1,0 +1,1 @@
+"""A live modeller in the browser: each click is an application that the program does."""
