@@ -1,0 +1,40 @@
+"""Tests of the files for editors and shells."""
+import subprocess
+import tempfile
+from pathlib import Path
+
+from standins import ROOT
+
+
+def completions(folder: Path, *words: str) -> list[str]:
+    """What bash offers for the last of these words, the first of which is the program's name."""
+    script = (f'source "{ROOT}/editors/bash/gmr"; COMP_WORDS=("$@"); COMP_CWORD=$(($# - 1)); _gmr; '
+              'printf "%s\\n" "${COMPREPLY[@]}"')
+    done = subprocess.run(["bash", "-c", script, "bash", *words], cwd=folder, capture_output=True, text=True,
+                          check=True)
+    return sorted(done.stdout.split())
+
+
+def test_completion() -> None:
+    """Commands, and files by their endings."""
+    with tempfile.TemporaryDirectory() as name:
+        folder = Path(name)
+        for file in ("a.gmap", "b.gbook", "c.gscript", "d.txt"):
+            (folder / file).touch()
+        assert completions(folder, "gmr", "c") == ["cells", "check"]
+        assert completions(folder, "gmr", "--p") == ["--prove"]
+        assert completions(folder, "gmr", "run", "") == ["a.gmap"]
+        assert completions(folder, "gmr", "run", "a.gmap", "") == ["b.gbook"]
+        assert completions(folder, "gmr", "run", "a.gmap", "b.gbook", "") == ["c.gscript"]
+        for word in ("--unproved", "--prove"):
+            assert completions(folder, "gmr", word, "ch") == ["check"]
+            assert completions(folder, "gmr", word, "check", "") == ["b.gbook"]
+        assert completions(folder, "gmr", "grid", "") == []
+
+
+def test_vim_knows_the_formats_words() -> None:
+    """Each keyword of the formats has a colour."""
+    syntax = (ROOT / "editors" / "vim" / "syntax" / "gmr.vim").read_text(encoding="utf-8").split()
+    text = (ROOT / "docs" / "FORMATS.md").read_text(encoding="utf-8")
+    keywords = text.split("The keywords are no names: `")[1].split("`")[0].split()
+    assert not [word for word in keywords if word not in syntax]
