@@ -2,3 +2,4 @@ mod Lookups
 mod Reading
 mod Saving
 mod Told
+mod Walks

@@ -44,9 +44,9 @@ module _ {T : Type 0} where
   on_failed (Err (TooLong seen)) p = tt
   on_failed (Err OutOfMemory) p = tt
 
-  pub unless_failed : (P : Type 0) (answer : Result T LoadFault) → is_err answer ≡ false → OnFailed answer P
-  unless_failed P (Ok x) is = tt
-  unless_failed P (Err e) is = absurd (false≢true (sym is))
+  pub not_ok : (P : Type 0) (answer : Result T LoadFault) → IsFailed answer → OnOk answer P
+  not_ok P (Ok x) failed = absurd failed
+  not_ok P (Err e) failed = tt
 
   pub unless_failing : (P : Type 0) (answer : Result T LoadFault) → (IsFailed answer → ⊥) → OnFailed answer P
   unless_failing P (Ok x) never = tt

@@ -2,9 +2,10 @@
 use Rattle.std.specs.Prelude.{ℕ, ◌≡◌, ◌++◌, List, Option, Some, None, take}
 use Rattle.std.specs.Io.KnownBytes.{Appends}
 
--- how many loads there were and how many of them were not answered with a file, how many saves there were and how many of them failed
+-- how many loads there were, of which names, in order, and how many of them failed; how many saves there were and how many of them failed
 pub record Counts : Type 0 where
   pub loads : ℕ
+  pub loaded : List (List ℕ)
   pub load_faults : ℕ
   pub saves : ℕ
   pub save_faults : ℕ

@@ -1,5 +1,5 @@
 -- What a store in memory is, and what a load and a save leave of it.
-use Rattle.std.specs.Prelude.{ℕ, refl, ◌≡◌, ◌==◌, Bool, List, Option, Some, None, Result, Ok, Err, take, if◌then◌else◌}
+use Rattle.std.specs.Prelude.{ℕ, refl, ◌≡◌, ◌==◌, ◌∷◌, ◌++◌, [], Bool, List, Option, Some, None, Result, Ok, Err, take, if◌then◌else◌}
 use Rattle.std.specs.Coded.{Coded, code_by, coded×, coded_ℕ, coded_list, coded_option}
 use Rattle.std.specs.List.{list_any}
 use Rattle.std.specs.Ordering.{nat_cmp}
@@ -13,12 +13,13 @@ use Rattle.gm_host.specs.declared.fault.SaveFault.TheVariants.{Failed, OutOfMemo
 abbrev pub Plan : Type 0
 Plan = FinMap nat_cmp (Option ℕ)
 
--- its files, the loads and the saves that are to fail, and its counts
+-- its files, the loads and the saves that are to fail, its counts, and the names of the loads, in order
 pub record StoreState : Type 0 where
   pub files : Files
   pub failing_loads : List ℕ
   pub failing_saves : Plan
   pub loads : ℕ
+  pub loaded : List (List ℕ)
   pub load_faults : ℕ
   pub saves : ℕ
   pub save_faults : ℕ
@@ -26,17 +27,18 @@ pub record StoreState : Type 0 where
 -- a state is stored as the tuple of its fields
 abbrev pub state_code : Coded StoreState
 state_code =
-    code_by (Files × (List ℕ × (Plan × (ℕ × (ℕ × (ℕ × ℕ))))))
-    (coded× files_code (coded× (coded_list coded_ℕ) (coded× (code coded_ℕ (coded_option coded_ℕ)) (coded× coded_ℕ (coded× coded_ℕ (coded× coded_ℕ coded_ℕ))))))
-    (λ s. (s.files, (s.failing_loads, (s.failing_saves, (s.loads, (s.load_faults, (s.saves, s.save_faults)))))))
+    code_by (Files × (List ℕ × (Plan × (ℕ × (List (List ℕ) × (ℕ × (ℕ × ℕ)))))))
+    (coded× files_code (coded× (coded_list coded_ℕ) (coded× (code coded_ℕ (coded_option coded_ℕ)) (coded× coded_ℕ (coded× (coded_list (coded_list coded_ℕ)) (coded× coded_ℕ (coded× coded_ℕ coded_ℕ)))))))
+    (λ s. (s.files, (s.failing_loads, (s.failing_saves, (s.loads, (s.loaded, (s.load_faults, (s.saves, s.save_faults))))))))
     (λ p. record {
       files = p.0;
       failing_loads = p.1.0;
       failing_saves = p.1.1.0;
       loads = p.1.1.1.0;
-      load_faults = p.1.1.1.1.0;
-      saves = p.1.1.1.1.1.0;
-      save_faults = p.1.1.1.1.1.1;
+      loaded = p.1.1.1.1.0;
+      load_faults = p.1.1.1.1.1.0;
+      saves = p.1.1.1.1.1.1.0;
+      save_faults = p.1.1.1.1.1.1.1;
     }) (λ _. refl)
 
 -- ---- loads
@@ -45,10 +47,11 @@ state_code =
 abbrev pub fails_next : StoreState → Bool
 fails_next state = list_any (λ call. call == state.loads) state.failing_loads
 
--- the state after a load: every load counts, and one that was named to fail counts as a fault
-abbrev pub after_load : StoreState → StoreState
-after_load state = record state {
+-- the state after a load of the name: every load counts, and one that was named to fail counts as a fault
+abbrev pub after_load : StoreState → List ℕ → StoreState
+after_load state name = record state {
   loads = counted state.loads;
+  loaded = state.loaded ++ name ∷ [];
   load_faults = if fails_next state then counted state.load_faults else state.load_faults;
 }
 

@@ -5,12 +5,15 @@
 //! The forms in memory tell all, and fail where a test says; the real forms tell nothing.
 #![tactic(auto)]
 
+mod beside;
 mod bytes;
 mod fault;
 mod file_store;
 mod file_table;
+mod limit;
 mod mem_sink;
 mod mem_store;
+mod names;
 mod opened;
 mod replacing;
 mod sink;

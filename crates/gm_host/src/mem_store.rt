@@ -9,6 +9,7 @@ ghost use Rattle.gm_host.specs.MemStore.{fails_next, after_load, IsSaveAsPlanned
 
 use crate::fault::{LoadFault, SaveFault};
 use crate::file_table::FileTable;
+use crate::names::{Asked, Names};
 use crate::store::Store;
 use gm_model::OutOfMemory;
 use std::alloc::Global;
@@ -27,6 +28,7 @@ pub struct MemStore {
     failing_loads: Vec<u64>,
     failing_saves: BTreeMap<u64, Option<usize>>,
     loads: u64,
+    loaded: Names,
     load_faults: u64,
     saves: u64,
     save_faults: u64,
@@ -45,6 +47,7 @@ impl Model for MemStore {
       failing_loads = store.failing_loads.items;
       failing_saves = from_entries store.failing_saves.entries;
       loads = store.loads;
+      loaded = store.loaded.items;
       load_faults = store.load_faults;
       saves = store.saves;
       save_faults = store.save_faults;
@@ -54,13 +57,14 @@ impl Model for MemStore {
 impl MemStore {
     /// A store that holds nothing, and of which no load and no save is to fail.
     pub fn new(alloc: Global) -> MemStore
-        ensures { result ≡ record { files = map.empty; failing_loads = []; failing_saves = map.empty; loads = 0; load_faults = 0; saves = 0; save_faults = 0 } }
+        ensures { result ≡ record { files = map.empty; failing_loads = []; failing_saves = map.empty; loads = 0; loaded = []; load_faults = 0; saves = 0; save_faults = 0 } }
     {
         MemStore {
             files: FileTable::new(alloc),
             failing_loads: Vec::new(alloc),
             failing_saves: BTreeMap::new(alloc),
             loads: 0,
+            loaded: Names::new(),
             load_faults: 0,
             saves: 0,
             save_faults: 0,
@@ -116,6 +120,8 @@ impl Store for MemStore {
 
     ghost loads = { λ store. store.loads };
 
+    ghost loaded = { λ store. store.loaded };
+
     ghost saves = { λ store. store.saves };
 
     ghost load_faults = { λ store. store.load_faults };
@@ -125,6 +131,7 @@ impl Store for MemStore {
     fn load(&mut self, alloc: Global, name: &str, limit: usize) -> Result<Vec<u8>, LoadFault>
         ensures held { told self.new.files ≡ told self.old.files }
         ensures each_load_counts { self.new.loads ≡ counted self.old.loads }
+        ensures each_name_kept { self.new.loaded ≡ self.old.loaded ++ name.now ∷ [] }
         ensures no_save { self.new.saves ≡ self.old.saves }
         ensures faults_never_fall { self.old.load_faults ≤ self.new.load_faults }
         ensures no_save_fault { self.new.save_faults ≡ self.old.save_faults }
@@ -137,11 +144,13 @@ impl Store for MemStore {
         ensures seen_held { IfTooLong result (λ seen. IsCutFromHeld (told self.old.files) name.now limit seen) }
         ensures longer { HoldsLongerFile (told self.old.files) name.now limit → IsTooLongUnlessFailing result }
         ensures ok_no_fault { OnOk result (self.new.load_faults ≡ self.old.load_faults) }
+        ensures no_fault { ¬ IsFailed result → self.new.load_faults ≡ self.old.load_faults }
         ensures fails_exactly { IsFailed result ↔ IsTrue (fails_next self.old) }
-        ensures after { self.new ≡ after_load self.old }
+        ensures after { self.new ≡ after_load self.old name.now }
     {
         let call = self.loads;
         self.loads = self.loads.saturating_add(1);
+        self.loaded = self.loaded.and(&Asked { name });
         if self.failing_loads.contains(&call) {
             self.load_faults = self.load_faults.saturating_add(1);
             return Err(LoadFault::Failed);
@@ -152,6 +161,7 @@ impl Store for MemStore {
     fn save(&mut self, name: &str, bytes: &[u8]) -> Result<(), SaveFault>
         ensures each_save_counts { self.new.saves ≡ counted self.old.saves }
         ensures no_load { self.new.loads ≡ self.old.loads }
+        ensures no_name { self.new.loaded ≡ self.old.loaded }
         ensures no_load_fault { self.new.load_faults ≡ self.old.load_faults }
         ensures faults_never_fall { self.old.save_faults ≤ self.new.save_faults }
         ensures ok { OnOk result (IsSaved (told self.old.files) name.now bytes.now (told self.new.files)) }

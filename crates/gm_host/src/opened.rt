@@ -1,7 +1,8 @@
 //! What a load reads from an opened file, and what a save writes to one.
-ghost use Rattle.std.specs.Prelude.{◌≡◌, ◌+◌, ◌<◌, ◌≤◌, [], IfOk, OnOk, OnErr, length, vec_len, vec_capacity};
-ghost use Rattle.std.specs.Io.{StartsWith};
-ghost use Rattle.std.specs.Io.KnownBytes.{Appends, Consumes, IsAtEnd};
+ghost use Rattle.std.specs.Prelude.{◌≡◌, ◌≢◌, ◌+◌, ◌<◌, ◌≤◌, [], IfOk, IfErr, OnOk, OnErr, length, vec_len, vec_capacity};
+ghost use Rattle.std.specs.Io.{StartsWith, ReadsAtMost};
+ghost use Rattle.std.specs.Io.KnownBytes.{Appends, Consumes, IsAtEnd, ReadConsumes};
+ghost use Rattle.std.specs.IoError.{error_kind};
 ghost use Rattle.gm_host.specs.Store.{IsAbsent, IsFailed, IfTooLong};
 ghost use Rattle.gm_host.specs.FileStore.{IsAllOf, IsFrontOf};
 ghost use Rattle.gm_host.specs.Saves as saves;
@@ -12,7 +13,7 @@ use gm_model::Items;
 use std::alloc::{AllocError, Global};
 use std::fs::OpenFile;
 use std::io;
-use std::io::{Read, Write};
+use std::io::{ErrorKind, Read, Write};
 
 /// How many bytes one read asks for at most.
 const PIECE: usize = 131_072;
@@ -54,7 +55,7 @@ fn read_within<F: Read + OpenFile>(
         let held = bytes.len();
         let wanted = (limit - held).saturating_add(1).min(PIECE);
         lengthen(&mut bytes, wanted)?;
-        let Ok(count) = file.read(&mut bytes[held..]) else {
+        let Ok(count) = read_again(file, &mut bytes[held..]) else {
             return Err(LoadFault::Failed);
         };
         bytes.truncate(held + count);
@@ -65,6 +66,25 @@ fn read_within<F: Read + OpenFile>(
     Err(LoadFault::TooLong {
         seen: Items::new(bytes),
     })
+}
+
+/// One read, which is made again where a signal interrupts it.
+fn read_again<F: Read>(file: &mut F, room: &mut [u8]) -> io::Result<usize>
+    ensures bound { ReadsAtMost result room.new }
+    ensures bytes { ReadConsumes (F.remaining file.old) (F.remaining file.new) result room.new }
+    ensures uninterrupted { IfErr result (λ error. error_kind error ≢ ErrorKind.Interrupted) }
+{
+    for _ in 0..u64::MAX {
+        match file.read(room) {
+            Ok(count) => return Ok(count),
+            Err(error) => {
+                if error.kind() != ErrorKind::Interrupted {
+                    return Err(error);
+                }
+            }
+        }
+    }
+    Err(ErrorKind::TimedOut.into())
 }
 
 /// An empty vector with room for what the file says that it holds, and for one byte more, so that

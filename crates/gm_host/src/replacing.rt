@@ -1,69 +1,125 @@
 //! A save to a file of the system: written beside the file that stands there, and put in its place.
-ghost use Rattle.std.specs.Prelude.{◌≡◌, ◌++◌, ◌∷◌, IfOk, OnOk, decimal};
+ghost use Rattle.std.specs.Prelude.{◌≡◌, OnOk, bit_and, if◌then◌else◌};
 ghost use Rattle.std.specs.Io.KnownBytes.{Appends};
 ghost use Rattle.gm_host.specs.Saves.{IsOutOfMemory};
 
+use crate::beside::{UNDONE, is_same, make_beside};
 use crate::fault::SaveFault;
+use crate::limit::{OUTPUT, may_be_so_long};
 use crate::opened::write_made;
 use crate::whole::write_whole;
-use arrayvec::ArrayString;
-use std::fmt::Write as _;
-use std::fs::{Files, OpenFile, OpenOptions, Permissions};
+use std::fs::{File, Files, Metadata, OpenFile, OpenOptions, Permissions};
 use std::io::{ErrorKind, Write};
-use std::os::unix::fs::{OpenOptionsExt, PermissionsExt};
-use std::{fmt, fs, io};
-
-/// No path of the system is longer.
-const LONGEST_PATH: usize = 4_096;
-
-/// How many names beside a file are tried.
-const MOST_NAMES: u32 = 1_000;
+use std::os::fd::AsFd;
+use std::os::unix::fs::{MetadataExt, PermissionsExt, fchown};
+use std::path::Path;
+use std::{fs, io};
 
 /// The bits of a mode that say who may read, write and run a file.
 const ACCESS_BITS: u32 = 0o777;
+
+/// The same without the group's.
+const ACCESS_BUT_GROUP: u32 = 0o707;
+
+/// The same of the owner alone.
+const OWNER_BITS: u32 = 0o700;
 
 /// The access that a new file asks for, of which the process's mask takes away.
 const NEW_FILE_ACCESS: u32 = 0o666;
 
 /// Makes the bytes those of the file under the name.
 ///
-/// Where the name is a regular file's, or nothing's, the bytes are written beside it first. What is
-/// no regular file is written through.
-pub(crate) fn write_file<R: Files>(rt: &R, name: &str, bytes: &[u8]) -> Result<(), SaveFault>
+/// Where the name is a regular file's, a link's to one, or nothing's, the bytes are written beside it
+/// first. What is no regular file is written through. A file that the standard output goes to is left.
+pub(crate) fn write_file<R: Files<File = File> + AllocGlobal>(
+    rt: &R,
+    name: &str,
+    bytes: &[u8],
+) -> Result<(), SaveFault>
     ensures { ¬ IsOutOfMemory result }
 {
+    if is_output(rt, name) {
+        return Err(SaveFault::Failed);
+    }
     match fs::symlink_metadata(rt, name) {
-        Ok(found) if found.is_file() => {
-            let access = writable_access(rt, name)?;
-            replace(rt, name, bytes, Some(access))
-        }
-        Ok(_) => {
-            write_made(fs::create(rt, name), bytes)?;
-            Ok(())
-        }
+        Ok(found) if found.is_file() => replace_old(rt, name, bytes),
+        Ok(found) if found.is_symlink() => write_at_target(rt, name, bytes),
+        Ok(_) => write_through(rt, name, bytes),
         Err(error) if error.kind() == ErrorKind::NotFound => replace(rt, name, bytes, None),
         Err(_) => Err(SaveFault::Failed),
     }
 }
 
-/// Who may use the file. A file that must not be written is an error, though its name could be taken
-/// from it.
-fn writable_access<R: Files>(rt: &R, name: &str) -> io::Result<u32> {
+/// Whether the standard output goes to the regular file of this name: what is put would be written
+/// over what is saved.
+fn is_output<R: Files>(rt: &R, name: &str) -> bool {
+    match (fs::metadata(rt, name), fs::metadata(rt, OUTPUT)) {
+        (Ok(found), Ok(output)) => found.is_file() && is_same(&found, &output),
+        _ => false,
+    }
+}
+
+/// A link to a regular file stays, and the file is replaced where it lies. Else the bytes are written
+/// through the link.
+fn write_at_target<R: Files<File = File> + AllocGlobal>(
+    rt: &R,
+    name: &str,
+    bytes: &[u8],
+) -> Result<(), SaveFault>
+    ensures { ¬ IsOutOfMemory result }
+{
+    match fs::metadata(rt, name) {
+        Ok(found) if found.is_file() => match fs::canonicalize(rt, name) {
+            Ok(target) => replace_old(rt, target.as_path().as_str(), bytes),
+            Err(_) => Err(SaveFault::Failed),
+        },
+        _ => write_through(rt, name, bytes),
+    }
+}
+
+/// Writes the bytes to what stands under the name, or behind the link.
+fn write_through<R: Files>(rt: &R, name: &str, bytes: &[u8]) -> Result<(), SaveFault>
+    ensures { ¬ IsOutOfMemory result }
+{
+    write_made(fs::create(rt, name), bytes)?;
+    Ok(())
+}
+
+/// Puts a new file in the place of a regular one. One that must not be written is an error, though its
+/// name could be taken from it.
+fn replace_old<R: Files<File = File>>(rt: &R, name: &str, bytes: &[u8]) -> Result<(), SaveFault>
+    ensures { ¬ IsOutOfMemory result }
+{
+    match look_at_writable(rt, name) {
+        Ok(old) => replace(rt, name, bytes, Some(&old)),
+        Err(_) => Err(SaveFault::Failed),
+    }
+}
+
+/// What the system knows of a file that may be written.
+fn look_at_writable<R: Files>(rt: &R, name: &str) -> io::Result<Metadata> {
     let file = OpenOptions::new().write(true).open(rt, name)?;
-    Ok(file.metadata()?.permissions().mode() & ACCESS_BITS)
+    file.metadata()
 }
 
 /// Writes the bytes to a new file beside the name, and gives it the name. Where that fails the new
 /// file is removed.
-fn replace<R: Files>(rt: &R, name: &str, bytes: &[u8], access: Option<u32>) -> Result<(), SaveFault>
+fn replace<R: Files<File = File>>(
+    rt: &R,
+    name: &str,
+    bytes: &[u8],
+    old: Option<&Metadata>,
+) -> Result<(), SaveFault>
     ensures { ¬ IsOutOfMemory result }
 {
-    let Some((beside, mut file)) = make_beside(rt, name, access) else {
+    if !may_be_so_long(bytes.len() as u64) {
+        return Err(SaveFault::Failed);
+    }
+    let Some((beside, mut file)) = make_beside(rt, name, first_access(old)) else {
         return Err(SaveFault::Failed);
     };
-    let lasting = write_lasting(&mut file, bytes, access).is_ok();
-    drop(file);
-    if lasting && fs::rename(rt, beside.as_str(), name).is_ok() {
+    if put_in_place(rt, &mut file, beside.as_str(), name, bytes, old).is_ok() {
+        sync_folder(rt, name);
         return Ok(());
     }
     // The answer tells of a fault already.
@@ -71,52 +127,84 @@ fn replace<R: Files>(rt: &R, name: &str, bytes: &[u8], access: Option<u32>) -> R
     Err(SaveFault::Failed)
 }
 
-/// Writes all of the bytes to a file that was just made, and waits until the disk has them.
-fn write_lasting<F: Write + OpenFile>(
+/// Writes the bytes to the new file, and gives it the name. Only then it is no longer marked as undone.
+fn put_in_place<R: Files<File = File>>(
+    rt: &R,
+    file: &mut File,
+    beside: &str,
+    name: &str,
+    bytes: &[u8],
+    old: Option<&Metadata>,
+) -> io::Result<()> {
+    let access = write_lasting(file, bytes, old)?;
+    fs::rename(rt, beside, name)?;
+    // A mark that stays says nothing of a file that has its name.
+    let _ = file.set_permissions(Permissions::from_mode(access));
+    Ok(())
+}
+
+/// The access that a file is made with: where there is an old one, no more than its owner has of that.
+fn first_access(old: Option<&Metadata>) -> u32 {
+    match old {
+        Some(old) => old.mode() & OWNER_BITS,
+        None => NEW_FILE_ACCESS,
+    }
+}
+
+/// Writes all of the bytes to a file that was just made, gives it the access that it is to have beside
+/// its mark, and waits until the disk has both. Answers the access.
+fn write_lasting<F: Write + OpenFile + AsFd>(
     made: &mut F,
     bytes: &[u8],
-    access: Option<u32>,
-) -> io::Result<()>
+    old: Option<&Metadata>,
+) -> io::Result<u32>
     ensures { OnOk result (Appends (F.contents made.old) (F.contents made.new) bytes.now) }
 {
     write_whole(made, bytes)?;
-    if let Some(access) = access {
-        made.set_permissions(Permissions::from_mode(access))?;
-    }
-    made.sync_all()
+    let access = hand_over(made, old)?;
+    made.set_permissions(Permissions::from_mode(access | UNDONE))?;
+    made.sync_all()?;
+    Ok(access)
 }
 
-/// Makes a file under the first of the names beside this one that nothing has yet.
-fn make_beside<R: Files>(
-    rt: &R,
-    name: &str,
-    access: Option<u32>,
-) -> Option<(ArrayString<LONGEST_PATH>, R::File)> {
-    for number in 0..MOST_NAMES {
-        let beside = name_beside(name, number).ok()?;
-        match make_new(rt, beside.as_str(), access.unwrap_or(NEW_FILE_ACCESS)) {
-            Ok(file) => return Some((beside, file)),
-            Err(error) if error.kind() == ErrorKind::AlreadyExists => {}
-            Err(_) => return None,
-        }
+/// Gives a new file the old one's owner and group, where the process may, and answers the access that
+/// it is to have: the old one's, or without it what the process gave the new one.
+fn hand_over<F: OpenFile + AsFd>(made: &F, old: Option<&Metadata>) -> io::Result<u32> {
+    let found = made.metadata()?;
+    match old {
+        Some(old) => Ok(kept_access(old.mode(), takes_group(made, &found, old))),
+        None => Ok(kept_access(found.mode(), true)),
     }
-    None
 }
 
-/// The name, a dot and the number.
-fn name_beside(name: &str, number: u32) -> Result<ArrayString<LONGEST_PATH>, fmt::Error>
-    ensures { IfOk result (λ beside. beside.bytes ≡ name.now ++ 46 ∷ decimal number) }
+/// The access bits of a mode, and the group's only where the file has the same group. The bits that
+/// change the user or the group that a program runs as are never kept.
+fn kept_access(mode: u32, has_group: bool) -> u32
+    ensures { result ≡ bit_and mode (if has_group then 0o777 else 0o707) }
 {
-    let mut beside = ArrayString::new();
-    write!(beside, "{name}.{number}")?;
-    Ok(beside)
+    if has_group {
+        mode & ACCESS_BITS
+    } else {
+        mode & ACCESS_BUT_GROUP
+    }
 }
 
-/// A file that this call made. What stands under the name is never opened, nor is a link followed.
-fn make_new<R: Files>(rt: &R, name: &str, access: u32) -> io::Result<R::File> {
-    OpenOptions::new()
-        .write(true)
-        .create_new(true)
-        .mode(access)
-        .open(rt, name)
+/// Whether the new file has the group of the old one, which it takes with the owner where that can be.
+fn takes_group<F: AsFd>(made: &F, found: &Metadata, old: &Metadata) -> bool {
+    if found.uid() != old.uid() && fchown(made, Some(old.uid()), Some(old.gid())).is_ok() {
+        return true;
+    }
+    found.gid() == old.gid() || fchown(made, None, Some(old.gid())).is_ok()
+}
+
+/// Waits until the disk has the folder in which the name stands. A folder that can't be opened to read
+/// can't be waited for, and what the save wrote is there whatever comes of it.
+fn sync_folder<R: Files>(rt: &R, name: &str) {
+    let folder = match Path::new(name).parent() {
+        Some(path) if !path.as_str().is_empty() => path.as_str(),
+        _ => ".",
+    };
+    if let Ok(opened) = fs::open(rt, folder) {
+        let _ = opened.sync_all();
+    }
 }

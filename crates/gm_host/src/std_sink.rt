@@ -4,10 +4,12 @@ ghost use Rattle.gm_host.specs.Count.{counted, Rises};
 ghost use Rattle.gm_host.specs.Sink.{untold, extended, ExtendsInPart, OnFailed, IsOutOfMemory, OnOutOfMemory};
 
 use crate::fault::PutFault;
+use crate::limit::output_may_take;
 use crate::sink::Sink;
 use crate::whole::write_whole;
+use std::fs::Files;
 use std::io;
-use std::io::{Print, Write};
+use std::io::{ErrorKind, Print, Write};
 use std::marker::Model;
 
 /// The standard output. It does not tell what was written, and contracts see its counts of puts and of
@@ -40,7 +42,7 @@ impl<'r, R: Print> StdSink<'r, R> {
     }
 }
 
-impl<'r, R: Print> Sink for StdSink<'r, R> {
+impl<'r, R: Print + Files> Sink for StdSink<'r, R> {
     ghost written = { λ _. untold };
 
     ghost puts = { λ sink. sink.puts };
@@ -73,8 +75,11 @@ struct Output<'r, R> {
     rt: &'r R,
 }
 
-impl<'r, R: Print> Write for Output<'r, R> {
+impl<'r, R: Print + Files> Write for Output<'r, R> {
     fn write(&mut self, bytes: &[u8]) -> io::Result<usize> {
+        if !output_may_take(self.rt, bytes.len() as u64) {
+            return Err(ErrorKind::FileTooLarge.into());
+        }
         self.rt.write_some(bytes)
     }
 

@@ -1,6 +1,6 @@
-ghost use Rattle.std.specs.Prelude.{◌≡◌, ◌+◌, ◌≤◌, ℕ, List, Option, length, OnOk, IfOk};
+ghost use Rattle.std.specs.Prelude.{◌≡◌, ◌+◌, ◌≤◌, ◌∷◌, ◌++◌, [], ℕ, List, Option, length, OnOk, IfOk};
 ghost use Rattle.gm_host.specs.Count.{counted, Rises};
-ghost use Rattle.gm_host.specs.Store.{Lacks, IsHeld, IsCutFromHeld, HoldsLongerFile, OnAbsent, OnFailed, IfTooLong, IsAbsentUnlessFailing, IsTooLongUnlessFailing};
+ghost use Rattle.gm_host.specs.Store.{Lacks, IsHeld, IsCutFromHeld, HoldsLongerFile, IsFailed, OnAbsent, OnFailed, IfTooLong, IsAbsentUnlessFailing, IsTooLongUnlessFailing};
 ghost use Rattle.gm_host.specs.Saves as saving;
 ghost use Rattle.gm_host.specs.Saves.{IsSaved, IsSavedInPart};
 
@@ -10,13 +10,16 @@ use std::alloc::Global;
 /// Files by name.
 ///
 /// Contracts see what the store holds, as a function from names to bytes, or that it does not tell.
-/// They see how many loads and how many saves there were, whatever they answered, and two counts of
-/// faults: one rises where a load answers `Failed`, the other where a save does. A count that has
-/// reached 18,446,744,073,709,551,615 stays there, and counts as risen from then on.
+/// They see how many loads and how many saves there were, whatever they answered, the names of the
+/// loads, in order, and two counts of faults: one rises where a load answers `Failed`, the other where
+/// a save does. A count that has reached 18,446,744,073,709,551,615 stays there, and counts as risen
+/// from then on. The names take no bytes: proofs alone read them.
 pub trait Store {
     ghost holds: { Self → Option (List ℕ → Option (List ℕ)) };
 
     ghost loads: { Self → ℕ };
+
+    ghost loaded: { Self → List (List ℕ) };
 
     ghost saves: { Self → ℕ };
 
@@ -31,6 +34,7 @@ pub trait Store {
     fn load(&mut self, alloc: Global, name: &str, limit: usize) -> Result<Vec<u8>, LoadFault>
         ensures held { holds self.new ≡ holds self.old }
         ensures each_load_counts { loads self.new ≡ counted (loads self.old) }
+        ensures each_name_kept { loaded self.new ≡ loaded self.old ++ name.now ∷ [] }
         ensures no_save { saves self.new ≡ saves self.old }
         ensures faults_never_fall { load_faults self.old ≤ load_faults self.new }
         ensures no_save_fault { save_faults self.new ≡ save_faults self.old }
@@ -42,12 +46,14 @@ pub trait Store {
         ensures seen_length { IfTooLong result (λ seen. length seen ≡ limit + 1) }
         ensures seen_held { IfTooLong result (λ seen. IsCutFromHeld (holds self.old) name.now limit seen) }
         ensures longer { HoldsLongerFile (holds self.old) name.now limit → IsTooLongUnlessFailing result }
-        ensures ok_no_fault { OnOk result (load_faults self.new ≡ load_faults self.old) };
+        ensures ok_no_fault { OnOk result (load_faults self.new ≡ load_faults self.old) }
+        ensures no_fault { ¬ IsFailed result → load_faults self.new ≡ load_faults self.old };
 
     /// Makes the bytes those of the file `name`, all of them where the answer is Ok.
     fn save(&mut self, name: &str, bytes: &[u8]) -> Result<(), SaveFault>
         ensures each_save_counts { saves self.new ≡ counted (saves self.old) }
         ensures no_load { loads self.new ≡ loads self.old }
+        ensures no_name { loaded self.new ≡ loaded self.old }
         ensures no_load_fault { load_faults self.new ≡ load_faults self.old }
         ensures faults_never_fall { save_faults self.old ≤ save_faults self.new }
         ensures ok { OnOk result (IsSaved (holds self.old) name.now bytes.now (holds self.new)) }

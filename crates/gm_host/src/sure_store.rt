@@ -1,4 +1,4 @@
-ghost use Rattle.std.specs.Prelude.{◌≡◌, ◌+◌, ◌≤◌, OnOk, OnErr, IfOk, option_copied, length};
+ghost use Rattle.std.specs.Prelude.{◌≡◌, ◌+◌, ◌≤◌, ◌∷◌, ◌++◌, [], OnOk, OnErr, IfOk, option_copied, length};
 ghost use Rattle.std.specs.FinMap as map;
 ghost use Rattle.gm_host.specs.Files.{told};
 ghost use Rattle.gm_host.specs.Count.{counted, Rises};
@@ -9,6 +9,7 @@ ghost use Rattle.gm_host.specs.Saves.{IsSaved, IsSavedInPart};
 
 use crate::fault::{LoadFault, SaveFault};
 use crate::file_table::FileTable;
+use crate::names::{Asked, Names};
 use crate::store::Store;
 use gm_model::OutOfMemory;
 use std::alloc::Global;
@@ -19,6 +20,7 @@ use std::marker::Model;
 pub struct SureStore {
     files: FileTable,
     loads: u64,
+    loaded: Names,
     saves: u64,
 }
 
@@ -29,17 +31,18 @@ impl Model for SureStore {
 
     ghost coded = { state_code };
 
-    ghost view = { λ store. record { files = store.files; loads = store.loads; saves = store.saves } };
+    ghost view = { λ store. record { files = store.files; loads = store.loads; loaded = store.loaded.items; saves = store.saves } };
 }
 
 impl SureStore {
     /// A store that holds nothing.
     pub fn new(alloc: Global) -> SureStore
-        ensures { result ≡ record { files = map.empty; loads = 0; saves = 0 } }
+        ensures { result ≡ record { files = map.empty; loads = 0; loaded = []; saves = 0 } }
     {
         SureStore {
             files: FileTable::new(alloc),
             loads: 0,
+            loaded: Names::new(),
             saves: 0,
         }
     }
@@ -65,6 +68,8 @@ impl Store for SureStore {
 
     ghost loads = { λ store. store.loads };
 
+    ghost loaded = { λ store. store.loaded };
+
     ghost saves = { λ store. store.saves };
 
     ghost load_faults = { λ _. no_faults };
@@ -74,6 +79,7 @@ impl Store for SureStore {
     fn load(&mut self, alloc: Global, name: &str, limit: usize) -> Result<Vec<u8>, LoadFault>
         ensures held { told self.new.files ≡ told self.old.files }
         ensures each_load_counts { self.new.loads ≡ counted self.old.loads }
+        ensures each_name_kept { self.new.loaded ≡ self.old.loaded ++ name.now ∷ [] }
         ensures no_save { self.new.saves ≡ self.old.saves }
         ensures faults_never_fall { no_faults ≤ no_faults }
         ensures no_save_fault { no_faults ≡ no_faults }
@@ -86,16 +92,19 @@ impl Store for SureStore {
         ensures seen_held { IfTooLong result (λ seen. IsCutFromHeld (told self.old.files) name.now limit seen) }
         ensures longer { HoldsLongerFile (told self.old.files) name.now limit → IsTooLongUnlessFailing result }
         ensures ok_no_fault { OnOk result (no_faults ≡ no_faults) }
+        ensures no_fault { ¬ IsFailed result → no_faults ≡ no_faults }
         ensures never_fails { ¬ IsFailed result }
-        ensures after { self.new ≡ record self.old { loads = counted self.old.loads } }
+        ensures after { self.new ≡ record self.old { loads = counted self.old.loads; loaded = self.old.loaded ++ name.now ∷ [] } }
     {
         self.loads = self.loads.saturating_add(1);
+        self.loaded = self.loaded.and(&Asked { name });
         self.files.load(alloc, name, limit)
     }
 
     fn save(&mut self, name: &str, bytes: &[u8]) -> Result<(), SaveFault>
         ensures each_save_counts { self.new.saves ≡ counted self.old.saves }
         ensures no_load { self.new.loads ≡ self.old.loads }
+        ensures no_name { self.new.loaded ≡ self.old.loaded }
         ensures no_load_fault { no_faults ≡ no_faults }
         ensures faults_never_fall { no_faults ≤ no_faults }
         ensures ok { OnOk result (IsSaved (told self.old.files) name.now bytes.now (told self.new.files)) }

@@ -1,5 +1,5 @@
 -- What the end of a call says of the words, the loads and the save, command by command; and what a put makes of it.
-use Rattle.std.proofs.Common.{◌≡◌, ◌⊎◌, ℕ, List, inl, inr, Option, Result, refl, sym, subst}
+use Rattle.std.proofs.Common.{◌≡◌, ◌⊎◌, ◌∷◌, ◌++◌, [], ℕ, List, inl, inr, Option, Result, refl, sym, subst}
 use Rattle.std.proofs.lemmas.Bool.{eqb-false}
 use Rattle.std.specs.Prelude.{IfOk, IfSome}
 use Rattle.gm_host.specs.Count.{counted, Rises}
@@ -12,6 +12,7 @@ use Rattle.gm_tool.specs.GridAnswer.{AsksGrid, IsGridReply}
 use Rattle.gm_tool.specs.Loads.{FailsAt, LoadsInOrder, IsUnloaded, CountsSaves, StopsInTime, UnlessNoMemory}
 use Rattle.gm_tool.specs.MadeRuns.{IsSoundReply, HoldsMap, IsRunStatus}
 use Rattle.gm_tool.specs.Migrating.{MigrateNames, AsksMigrate}
+use Rattle.gm_tool.specs.OwnFiles.{LoadsFirst, NoFile, OfFile, OfMigrate, OfDual, OfRun, dual_files, run_files}
 use Rattle.gm_tool.specs.Replies.{IsPlainStatus}
 use Rattle.gm_tool.specs.Program.{IsCommand, IsSavingCommand}
 use Rattle.gm_tool.specs.RunAnswer.{RunNames, AsksRun}
@@ -23,6 +24,7 @@ use Rattle.gm_tool.specs.declared.reply.Reply.{Reply}
 use Rattle.gm_tool.proofs.Asking.{file_is_no_run, file_is_no_migrate, file_is_no_dual, file_is_no_grid, run_is_no_migrate, run_is_no_dual, run_is_no_grid, migrate_is_no_dual, migrate_is_no_grid, dual_is_no_grid, grid_reads_none, grid_reads_no_one, reads_some, run_reads_no_one, dual_reads_no_one, same_named, same_dual, sound_no_usage, file_refused, plain_refused, plain_status, run_holds, migrate_holds, none_holds, grid_status, grid_refused, grid_is_sound}
 use Rattle.gm_tool.proofs.LoadCounts.{counts_of, no_counts, dual_counts_of, no_dual_counts}
 use Rattle.gm_tool.proofs.Duals.{twice_at_most}
+use Rattle.gm_tool.proofs.OwnFiles.{none_of, first_of}
 use Rattle.gm_tool.proofs.Putting.{given_is, given_one, given_two, given_three, given_five, given_run, given_done, given_least, unless_seven, six, seven, six_is_no_run, seven_is_no_run, run_put}
 use Rattle.gm_tool.proofs.RunStops.{thrice_at_most}
 use Rattle.gm_tool.proofs.SaveCounts.{six_saves_none, seven_saves_none, six_is_unsaved, seven_is_unsaved}
@@ -40,12 +42,14 @@ module _ (words : List (List ℕ)) (command : answer.Command) (name : List ℕ) 
 
   pub file_ends : (before after : Seen) (reply : Result Reply NoText) → IfOk reply (λ r. IsReplyStatus r.status) → IfOk reply (λ r. r.status ≡ 1 → command ≡ answer.Check)
       → IsSoundReply reply (λ _. FailsAt before.load_faults after.load_faults before.loads after.loads 1 ⊎ Lacks before.holds name) (Rises before.save_faults after.save_faults)
-      → after.holds ≡ before.holds → after.saves ≡ before.saves → after.save_faults ≡ before.save_faults → after.loads ≡ counted before.loads → EndsAs words before after (status_given reply)
-  file_ends before after reply statuses check sound held no_save no_fault once = record {
+      → after.holds ≡ before.holds → after.saves ≡ before.saves → after.save_faults ≡ before.save_faults → after.loads ≡ counted before.loads → after.loaded ≡ before.loaded ++ name ∷ []
+      → EndsAs words before after (status_given reply)
+  file_ends before after reply statuses check sound held no_save no_fault once own = record {
     statuses = given_is reply statuses;
     usage = λ two. absurd (sound_no_usage reply _ _ sound (given_two reply statuses two));
     no_command = λ none. absurd (none (inl (command, name, asks)));
     refused = given_one _ reply (file_refused words command name _ asks reply check);
+    own_files = (name ∷ [], OfFile command name asks refl, first_of name [] before.loaded after.loaded own);
     loads = inr (inl once);
     no_load = λ none. absurd (reads_some words (inl (command, name, asks)) none);
     one_load = λ _. once;
@@ -87,6 +91,7 @@ module _ (words : List (List ℕ)) (m : ℕ) (asks : AsksGrid words m) where
     usage = λ two. absurd (sound_no_usage reply (λ _. ⊥) ⊥ (grid_is_sound m _ _ reply is) (given_two reply (grid_status m reply is) two));
     no_command = λ none. absurd (none (inr (inr (inr (m, asks)))));
     refused = given_one _ reply (grid_refused m _ reply is);
+    own_files = ([], NoFile (inr (m, asks)) refl, none_of before.loaded);
     loads = inl refl;
     no_load = λ _. refl;
     one_load = λ one. absurd (grid_reads_no_one words m asks one);
@@ -125,6 +130,7 @@ module _ (words : List (List ℕ)) (none : IsCommand words → ⊥) where
     usage = λ _. none;
     no_command = λ _. inl refl;
     refused = λ e. absurd (eqb-false 2 1 refl e);
+    own_files = ([], NoFile (inl none) refl, none_of before.loaded);
     loads = inl refl;
     no_load = λ _. refl;
     one_load = λ one. absurd (elim one [ inl file ↦ none (inl file) | inr migrate ↦ none (inr (inl (inr migrate))) ]);
@@ -159,15 +165,16 @@ module _ (words : List (List ℕ)) (none : IsCommand words → ⊥) where
 module _ (words : List (List ℕ)) (named : RunNames) (asks : AsksRun words named) where
   pub run_ends : (before after : Seen) (reply : Result Reply NoText) → IfOk reply (λ r. IsReplyStatus r.status)
       → IsSoundReply reply (IsUnloaded before.holds named (FailsAt before.load_faults after.load_faults before.loads after.loads)) (Rises before.save_faults after.save_faults)
-      → LoadsInOrder before.holds named before.loads after.loads
+      → LoadsInOrder before.holds named before.loads after.loads → LoadsFirst (run_files named) before.loaded after.loaded
       → IfSome before.holds (λ files. UnlessNoMemory reply (StopsInTime files named (Rises before.load_faults after.load_faults) before.loads after.loads))
       → CountsSaves (status_given reply) before.saves after.saves → IfOk reply (λ _. after.save_faults ≡ before.save_faults) → IfOk reply (λ r. IsRunStatus r.status → HoldsMap after.holds named.out)
       → EndsAs words before after (status_given reply)
-  run_ends before after reply statuses sound in_order stops saves no_fault holds = record {
+  run_ends before after reply statuses sound in_order own stops saves no_fault holds = record {
     statuses = given_is reply statuses;
     usage = λ two. absurd (sound_no_usage reply _ _ sound (given_two reply statuses two));
     no_command = λ none. absurd (none (inr (inl (inl (named, asks)))));
     refused = λ _. inr (named, asks);
+    own_files = (run_files named, OfRun named asks refl, own);
     loads = thrice_at_most before.holds named before.loads after.loads in_order;
     no_load = λ none. absurd (reads_some words (inr (inl (inl (named, asks)))) none);
     one_load = λ one. absurd (run_reads_no_one words named asks one);
@@ -203,13 +210,14 @@ module _ (words : List (List ℕ)) (named : RunNames) (asks : AsksRun words name
 module _ (words : List (List ℕ)) (named : MigrateNames) (asks : AsksMigrate words named) where
   pub migrate_ends : (before after : Seen) (reply : Result Reply NoText) → IfOk reply (λ r. IsPlainStatus r.status)
       → IsSoundReply reply (λ _. FailsAt before.load_faults after.load_faults before.loads after.loads 1 ⊎ Lacks before.holds named.map) (Rises before.save_faults after.save_faults)
-      → after.loads ≡ counted before.loads
+      → after.loads ≡ counted before.loads → after.loaded ≡ before.loaded ++ named.map ∷ []
       → CountsSaves (status_given reply) before.saves after.saves → IfOk reply (λ _. after.save_faults ≡ before.save_faults) → IfOk reply (λ r. IsRunStatus r.status → HoldsMap after.holds named.out)
       → EndsAs words before after (status_given reply)
-  migrate_ends before after reply statuses sound once saves no_fault holds = record {
+  migrate_ends before after reply statuses sound once own saves no_fault holds = record {
     statuses = given_is reply (plain_status reply statuses);
     usage = λ two. absurd (sound_no_usage reply _ _ sound (given_two reply (plain_status reply statuses) two));
     no_command = λ none. absurd (none (inr (inl (inr (named, asks)))));
+    own_files = (named.map ∷ [], OfMigrate named asks refl, first_of named.map [] before.loaded after.loaded own);
     refused = given_one _ reply (plain_refused _ reply statuses);
     loads = inr (inl once);
     no_load = λ none. absurd (reads_some words (inr (inl (inr (named, asks)))) none);
@@ -250,12 +258,14 @@ module _ (words : List (List ℕ)) (named : DualNames) (asks : AsksDual words na
   pub dual_ends : (before after : Seen) (reply : Result Reply NoText) → IfOk reply (λ r. IsPlainStatus r.status)
       → IsSoundReply reply (IsDualUnloaded before.holds named (FailsAt before.load_faults after.load_faults before.loads after.loads)) (Rises before.save_faults after.save_faults)
       → after.holds ≡ before.holds → after.saves ≡ before.saves → after.save_faults ≡ before.save_faults → DualLoadsInOrder before.holds named before.loads after.loads
+      → LoadsFirst (dual_files named) before.loaded after.loaded
       → IfSome before.holds (λ files. UnlessNoMemory reply (DualStopsInTime files named (Rises before.load_faults after.load_faults) before.loads after.loads))
       → EndsAs words before after (status_given reply)
-  dual_ends before after reply statuses sound held no_save no_fault in_order stops = record {
+  dual_ends before after reply statuses sound held no_save no_fault in_order own stops = record {
     statuses = given_is reply (plain_status reply statuses);
     usage = λ two. absurd (sound_no_usage reply _ _ sound (given_two reply (plain_status reply statuses) two));
     no_command = λ none. absurd (none (inr (inr (inl (named, asks)))));
+    own_files = (dual_files named, OfDual named asks refl, own);
     refused = given_one _ reply (plain_refused _ reply statuses);
     loads = twice_at_most before.holds named before.loads after.loads in_order;
     no_load = λ none. absurd (reads_some words (inr (inr (named, asks))) none);
@@ -296,6 +306,7 @@ module _ (words : List (List ℕ)) (before after : Seen) (given : ℕ) (ends : E
     usage = λ e. absurd (eqb-false 6 2 refl e);
     no_command = λ _. inr (inl refl);
     refused = λ e. absurd (eqb-false 6 1 refl e);
+    own_files = ends.own_files;
     loads = ends.loads;
     no_load = ends.no_load;
     one_load = ends.one_load;
@@ -321,6 +332,7 @@ module _ (words : List (List ℕ)) (before after : Seen) (given : ℕ) (ends : E
     usage = λ e. absurd (eqb-false 7 2 refl e);
     no_command = λ _. inr (inr refl);
     refused = λ e. absurd (eqb-false 7 1 refl e);
+    own_files = ends.own_files;
     loads = ends.loads;
     no_load = ends.no_load;
     one_load = ends.one_load;

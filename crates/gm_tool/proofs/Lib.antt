@@ -21,6 +21,7 @@ mod Ended
 mod Headlines
 mod OneText
 mod OneVerdict
+mod OwnFiles
 mod OneCells
 mod OneBad
 mod OneFile

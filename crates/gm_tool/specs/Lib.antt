@@ -1,6 +1,7 @@
 pub mod Answer
 pub mod RunAnswer
 pub mod Migrating
+pub mod OwnFiles
 pub mod DualAnswer
 pub mod GridAnswer
 pub mod Program

@@ -9,6 +9,7 @@ use Rattle.gm_tool.specs.Endings.{IsEnding, IsTextOf}
 use Rattle.gm_tool.specs.Loads.{FailsAt, CountsLoads, LoadsInOrder, IsUnloaded, OneAtMost, CountsSaves}
 use Rattle.gm_tool.specs.MadeRuns.{IsRunLoadFailure, IsRunStatus, IsMapBytes, HoldsSuch, LoadsAtMostThrice}
 use Rattle.gm_tool.specs.Migrating.{MigrateNames, AsksMigrate, IsMigrateLoadFailure}
+use Rattle.gm_tool.specs.OwnFiles.{LoadsOwnFiles}
 use Rattle.gm_tool.specs.Program.{IsAnswer, IsCommand, IsRunCommand, IsSavingCommand, ReadsOneFile, ReadsNoFile}
 use Rattle.gm_tool.specs.RunAnswer.{RunNames, AsksRun}
 use Rattle.gm_tool.specs.Seen.{Seen}
@@ -105,7 +106,8 @@ pub record EndsAs (words : List (List ℕ)) (before after : Seen) (status : ℕ)
   pub usage : status ≡ 2 → IsCommand words → ⊥
   pub no_command : (IsCommand words → ⊥) → IsUsageStatus status
   pub refused : status ≡ 1 → IsCheck words ⊎ IsRunCommand words
-  -- each file is loaded once at most, and those of a run or of `dual` in their order
+  -- the files that the words name are loaded once at most, in their order, and no others are, whatever the status
+  pub own_files : LoadsOwnFiles words before.loaded after.loaded
   pub loads : LoadsAtMostThrice before.loads after.loads
   pub no_load : ReadsNoFile words → after.loads ≡ before.loads
   pub one_load : ReadsOneFile words → after.loads ≡ counted before.loads

@@ -11,6 +11,7 @@ ghost use Rattle.gm_model.specs.Rules.{rule_of};
 ghost use Rattle.gm_tool.specs.DualAnswer.{dual_names_of, dual_inputs_of, IsDualMade, IsDualMapText, IsDualReply, IsDualText, IsDualUnloaded, DualLoadsInOrder, DualStopsInTime};
 ghost use Rattle.gm_tool.specs.Loads.{FailsAt, UnlessNoMemory, UnlessNoMemoryToMake};
 ghost use Rattle.gm_tool.specs.MadeRuns.{IsSoundReply};
+ghost use Rattle.gm_tool.specs.OwnFiles.{LoadsFirst, dual_files};
 ghost use Rattle.gm_tool.specs.Replies.{IsPlainStatus};
 ghost use Rattle.gm_tool.specs.StepBounds.{FileDualsWithin, turning};
 ghost use Rattle.gm_tool.specs.Stops.{IsReadBook, IsReadMap, IsSoundStop};
@@ -90,6 +91,7 @@ fn texts_of<S: Store, L: Ledger>(
     ensures no_save { S.saves store.new ≡ S.saves store.old }
     ensures no_save_fault { S.save_faults store.new ≡ S.save_faults store.old }
     ensures in_order { DualLoadsInOrder (S.holds store.old) (dual_names_of files.entry) (S.loads store.old) (S.loads store.new) }
+    ensures own_files { LoadsFirst (dual_files (dual_names_of files.entry)) (S.loaded store.old) (S.loaded store.new) }
     ensures counted_loads { IfSome (S.holds store.old) (λ held. UnlessNoMemoryToMake result (DualStopsInTime held (dual_names_of files.entry) (Rises (S.load_faults store.old) (S.load_faults store.new)) (S.loads store.old) (S.loads store.new))) }
     ensures made { IfSome (S.holds store.old) (λ held. IsDualMade held (dual_names_of files.entry) (FailsAt (S.load_faults store.old) (S.load_faults store.new) (S.loads store.old) (S.loads store.new)) result) }
     ensures most { FileDualsWithin (S.holds store.old) files.entry.map.now steps.old steps.new }
@@ -113,6 +115,7 @@ pub fn answer<S: Store, L: Ledger>(
     ensures no_save { S.saves store.new ≡ S.saves store.old }
     ensures no_save_fault { S.save_faults store.new ≡ S.save_faults store.old }
     ensures in_order { DualLoadsInOrder (S.holds store.old) (dual_names_of files.entry) (S.loads store.old) (S.loads store.new) }
+    ensures own_files { LoadsFirst (dual_files (dual_names_of files.entry)) (S.loaded store.old) (S.loaded store.new) }
     ensures counted_loads { IfSome (S.holds store.old) (λ held. UnlessNoMemory result (DualStopsInTime held (dual_names_of files.entry) (Rises (S.load_faults store.old) (S.load_faults store.new)) (S.loads store.old) (S.loads store.new))) }
     ensures text { IfSome (S.holds store.old) (λ held. IsDualReply held (dual_names_of files.entry)
         (FailsAt (S.load_faults store.old) (S.load_faults store.new) (S.loads store.old) (S.loads store.new)) (Rises (S.save_faults store.old) (S.save_faults store.new)) (S.holds store.new) result) }

@@ -1,4 +1,4 @@
-ghost use Rattle.std.specs.Prelude.{◌≡◌, ◌≤◌};
+ghost use Rattle.std.specs.Prelude.{◌≡◌, ◌≤◌, ◌∷◌, ◌++◌, []};
 ghost use Rattle.gm_host.specs.Count.{counted, Rises};
 ghost use Rattle.gm_tool.specs.Replies.{IsLoading, no_file_for};
 
@@ -29,6 +29,7 @@ pub fn load_file<S: Store>(
     ensures no_save_fault { S.save_faults store.new ≡ S.save_faults store.old }
     ensures faults_never_fall { S.load_faults store.old ≤ S.load_faults store.new }
     ensures once { S.loads store.new ≡ counted (S.loads store.old) }
+    ensures named { S.loaded store.new ≡ S.loaded store.old ++ name.now ∷ [] }
     ensures loading { IsLoading (S.holds store.old) name.now role (Rises (S.load_faults store.old) (S.load_faults store.new)) result }
 {
     match store.load(alloc, name, MOST_BYTES) {

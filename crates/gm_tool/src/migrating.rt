@@ -1,5 +1,5 @@
 //! The migration of a map to the second version of the format.
-ghost use Rattle.std.specs.Prelude.{◌≡◌, ◌+◌, ◌≤◌, ◌⊎◌, IfOk, IfSome, IsErrOf};
+ghost use Rattle.std.specs.Prelude.{◌≡◌, ◌+◌, ◌≤◌, ◌⊎◌, ◌∷◌, ◌++◌, [], IfOk, IfSome, IsErrOf};
 ghost use Rattle.gm_arena.specs.ArenaAsMap.{as_map};
 ghost use Rattle.gm_arena.specs.Lawful.{IsLawful};
 ghost use Rattle.gm_host.specs.Count.{counted, Rises};
@@ -74,6 +74,7 @@ pub fn answer<S: Store, L: Ledger>(
     steps: &mut Steps<L>,
 ) -> Result<Reply, NoText>
     ensures one_load { S.loads store.new ≡ counted (S.loads store.old) }
+    ensures named { S.loaded store.new ≡ S.loaded store.old ++ files.entry.map.now ∷ [] }
     ensures text { IfSome (S.holds store.old) (λ held. IsMigrateText held (migrate_names_of files.entry)
         (FailsAt (S.load_faults store.old) (S.load_faults store.new) (S.loads store.old) (S.loads store.new)) (Rises (S.save_faults store.old) (S.save_faults store.new)) (S.holds store.new) result) }
     ensures statuses { IfOk result (λ reply. IsPlainStatus reply.status) }

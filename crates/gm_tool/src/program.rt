@@ -1,4 +1,4 @@
-ghost use Rattle.std.specs.Prelude.{◌≡◌, ◌≢◌, ◌⊎◌, IsTrue, IsErrOf, IfSome, IfOk};
+ghost use Rattle.std.specs.Prelude.{◌≡◌, ◌≢◌, ◌⊎◌, ◌∷◌, ◌++◌, [], IsTrue, IsErrOf, IfSome, IfOk};
 ghost use Rattle.gm_host.specs.Count.{counted, Rises};
 ghost use Rattle.gm_tool.specs.Endings.{status_given};
 ghost use Rattle.gm_tool.specs.Headline.{HeadlineHolds};
@@ -61,6 +61,7 @@ fn reply_on<S: Store, L: Ledger>(
     ensures no_save { S.saves store.new ≡ S.saves store.old }
     ensures no_save_fault { S.save_faults store.new ≡ S.save_faults store.old }
     ensures one_load { S.loads store.new ≡ counted (S.loads store.old) }
+    ensures named { S.loaded store.new ≡ S.loaded store.old ++ file.now ∷ [] }
     ensures text { IfSome (S.holds store.old) (λ files. IsFileText files (command_in command) file.now
         (FailsAt (S.load_faults store.old) (S.load_faults store.new) (S.loads store.old) (S.loads store.new)) (Rises (S.save_faults store.old) (S.save_faults store.new)) (S.holds store.new) result) }
     ensures statuses { IfOk result (λ reply. IsReplyStatus reply.status) }
@@ -84,8 +85,8 @@ fn reply_to<S: Store, L: Ledger>(
     ensures text { IfSome (S.holds store.old) (λ files. IsText (words_of words.now) files
         (FailsAt (S.load_faults store.old) (S.load_faults store.new) (S.loads store.old) (S.loads store.new)) (Rises (S.save_faults store.old) (S.save_faults store.new)) (S.holds store.new) result) }
     ensures ends { EndsAs (words_of words.now)
-        (record { holds = S.holds store.old; loads = S.loads store.old; load_faults = S.load_faults store.old; saves = S.saves store.old; save_faults = S.save_faults store.old })
-        (record { holds = S.holds store.new; loads = S.loads store.new; load_faults = S.load_faults store.new; saves = S.saves store.new; save_faults = S.save_faults store.new })
+        (record { holds = S.holds store.old; loads = S.loads store.old; loaded = S.loaded store.old; load_faults = S.load_faults store.old; saves = S.saves store.old; save_faults = S.save_faults store.old })
+        (record { holds = S.holds store.new; loads = S.loads store.new; loaded = S.loaded store.new; load_faults = S.load_faults store.new; saves = S.saves store.new; save_faults = S.save_faults store.new })
         (status_given result) }
     ensures steps { KeepsSteps (words_of words.now) (S.holds store.old) (status_given result) steps.old steps.new }
     ensures statuses { IfOk result (λ reply. IsReplyStatus reply.status) }
@@ -167,8 +168,8 @@ pub fn tool<S: Store, O: Sink, L: Ledger>(
     // What the status says of the words, of the loads and of the save. This and the rest hold whatever
     // store and sink tell.
     ensures ends { EndsAs (words_of words.now)
-        (record { holds = S.holds store.old; loads = S.loads store.old; load_faults = S.load_faults store.old; saves = S.saves store.old; save_faults = S.save_faults store.old })
-        (record { holds = S.holds store.new; loads = S.loads store.new; load_faults = S.load_faults store.new; saves = S.saves store.new; save_faults = S.save_faults store.new })
+        (record { holds = S.holds store.old; loads = S.loads store.old; loaded = S.loaded store.old; load_faults = S.load_faults store.old; saves = S.saves store.old; save_faults = S.save_faults store.old })
+        (record { holds = S.holds store.new; loads = S.loads store.new; loaded = S.loaded store.new; load_faults = S.load_faults store.new; saves = S.saves store.new; save_faults = S.save_faults store.new })
         result }
 
     // There is one put at most, and it says whether it failed.

@@ -1,4 +1,4 @@
-ghost use Rattle.std.specs.Prelude.{◌≡◌, ◌↔◌, ◌+◌, ◌≤◌, ◌⊎◌, ℕ, IfOk, IfErr, IfSome, IsErrOf, IsTrue, List, map};
+ghost use Rattle.std.specs.Prelude.{◌≡◌, ◌↔◌, ◌+◌, ◌≤◌, ◌⊎◌, ◌∷◌, ◌++◌, [], ℕ, IfOk, IfErr, IfSome, IsErrOf, IsTrue, List, map};
 ghost use Rattle.gm_host.specs.Count.{counted, Rises};
 ghost use Rattle.gm_model.specs.Maps.{IsSchema, IsSound};
 ghost use Rattle.gm_model.specs.Rules.{rule_of};
@@ -7,6 +7,7 @@ ghost use Rattle.gm_tool.specs.Begun.{Counts, HasBegun};
 ghost use Rattle.gm_tool.specs.Endings.{status_given};
 ghost use Rattle.gm_tool.specs.Loads.{FailsAt, StopsInTime, LoadsInOrder, IsUnloaded, CountsSaves, UnlessNoMemory, UnlessNoMemoryToMake};
 ghost use Rattle.gm_tool.specs.MadeRuns.{names_of, inputs_of, CanRun, IsFitted, IsPrinted, IsRunOf, IsMapBytes, IsMade, IsRunStatus, HoldsMap, IsRunText, IsSaving, IsSoundReply};
+ghost use Rattle.gm_tool.specs.OwnFiles.{LoadsAtMost, LoadsFirst, run_files};
 ghost use Rattle.gm_tool.specs.Tool.{IsReplyStatus};
 ghost use Rattle.gm_tool.specs.RunAnswer.{IsBadMap, IsBadBookText, IsBadScript, says_refused, run_status};
 ghost use Rattle.gm_tool.specs.declared.refusal.NoText.TheVariants as nothing;
@@ -63,6 +64,7 @@ pub fn load_map<S: Store, L: Ledger>(
     ensures no_save_fault { S.save_faults store.new ≡ S.save_faults store.old }
     ensures faults_never_fall { S.load_faults store.old ≤ S.load_faults store.new }
     ensures once { S.loads store.new ≡ counted (S.loads store.old) }
+    ensures named { S.loaded store.new ≡ S.loaded store.old ++ name.now ∷ [] }
     ensures read { IfOk result (λ loaded. (bytes : List ℕ) × IsLoadedMap bytes loaded) }
     ensures from { IsFrom (S.holds store.old) TheMap name.now IsLoadedMap IsBadMap (Rises (S.load_faults store.old) (S.load_faults store.new)) result }
     ensures most { ReadsWithin (S.holds store.old) name.now steps.old steps.new }
@@ -80,6 +82,7 @@ pub fn load_book<S: Store>(alloc: Global, name: &str, store: &mut S) -> Result<B
     ensures no_save_fault { S.save_faults store.new ≡ S.save_faults store.old }
     ensures faults_never_fall { S.load_faults store.old ≤ S.load_faults store.new }
     ensures once { S.loads store.new ≡ counted (S.loads store.old) }
+    ensures named { S.loaded store.new ≡ S.loaded store.old ++ name.now ∷ [] }
     ensures read { IfOk result (λ book. (bytes : List ℕ) × IsReadBook bytes book) }
     ensures declared { IfOk result (λ book. IsSchema book.schema) }
     ensures from { IsFrom (S.holds store.old) TheBook name.now IsReadBook IsBadBookText (Rises (S.load_faults store.old) (S.load_faults store.new)) result }
@@ -100,6 +103,7 @@ fn load_script<S: Store>(
     ensures no_save_fault { S.save_faults store.new ≡ S.save_faults store.old }
     ensures faults_never_fall { S.load_faults store.old ≤ S.load_faults store.new }
     ensures once { S.loads store.new ≡ counted (S.loads store.old) }
+    ensures named { S.loaded store.new ≡ S.loaded store.old ++ name.now ∷ [] }
     ensures read { IfOk result (λ script. (bytes : List ℕ) × IsReadScript book.now.schema.dim (map rule_of book.now.rules) bytes script) }
     ensures from { IsFrom (S.holds store.old) TheScript name.now (IsReadScript book.now.schema.dim (map rule_of book.now.rules)) (IsBadScript book.now.schema.dim (map rule_of book.now.rules)) (Rises (S.load_faults store.old) (S.load_faults store.new)) result }
 {
@@ -241,6 +245,7 @@ fn prepared<S: Store, L: Ledger>(
     ensures no_save { S.saves store.new ≡ S.saves store.old }
     ensures no_save_fault { S.save_faults store.new ≡ S.save_faults store.old }
     ensures in_order { LoadsInOrder (S.holds store.old) (names_of files.entry) (S.loads store.old) (S.loads store.new) }
+    ensures own_files { LoadsFirst (run_files (names_of files.entry)) (S.loaded store.old) (S.loaded store.new) }
     ensures counted_loads { IfSome (S.holds store.old) (λ held. UnlessNoMemoryToMake result (StopsInTime held (names_of files.entry) (Rises (S.load_faults store.old) (S.load_faults store.new)) (S.loads store.old) (S.loads store.new))) }
     ensures made { IfSome (S.holds store.old) (λ held. IsMade held (names_of files.entry) (FailsAt (S.load_faults store.old) (S.load_faults store.new) (S.loads store.old) (S.loads store.new)) result) }
     ensures map { IfOk result (λ made. IsMapBytes made.map.items) }
@@ -269,6 +274,7 @@ fn prepared_behind<S: Store, L: Ledger>(
     ensures held { S.holds store.new ≡ S.holds store.old }
     ensures no_save { S.saves store.new ≡ S.saves store.old }
     ensures no_save_fault { S.save_faults store.new ≡ S.save_faults store.old }
+    ensures script { LoadsAtMost files.entry.script.now (S.loaded store.old) (S.loaded store.new) }
     ensures in_order { (start : Counts) → HasBegun (S.holds store.old) (names_of files.entry) loaded.map book.now start (S.load_faults store.old) (S.loads store.old) steps.old →
         LoadsInOrder (S.holds store.old) (names_of files.entry) start.loads (S.loads store.new) }
     ensures counted_loads { (start : Counts) → HasBegun (S.holds store.old) (names_of files.entry) loaded.map book.now start (S.load_faults store.old) (S.loads store.old) steps.old →
@@ -296,6 +302,7 @@ fn prepared_behind<S: Store, L: Ledger>(
 pub fn saved<S: Store>(out: &str, made: Made, store: &mut S) -> Result<Reply, NoText>
     ensures one_save { S.saves store.new ≡ counted (S.saves store.old) }
     ensures no_load { S.loads store.new ≡ S.loads store.old }
+    ensures no_name { S.loaded store.new ≡ S.loaded store.old }
     ensures no_load_fault { S.load_faults store.new ≡ S.load_faults store.old }
     ensures no_save_fault { IfOk result (λ _. S.save_faults store.new ≡ S.save_faults store.old) }
     ensures saved { IsSaving (S.holds store.old) out.now made (Rises (S.save_faults store.old) (S.save_faults store.new)) (S.holds store.new) result }
@@ -320,6 +327,7 @@ pub fn answer<S: Store, L: Ledger>(
     steps: &mut Steps<L>,
 ) -> Result<Reply, NoText>
     ensures in_order { LoadsInOrder (S.holds store.old) (names_of files.entry) (S.loads store.old) (S.loads store.new) }
+    ensures own_files { LoadsFirst (run_files (names_of files.entry)) (S.loaded store.old) (S.loaded store.new) }
     ensures text { IfSome (S.holds store.old) (λ held. IsRunText held (names_of files.entry)
         (FailsAt (S.load_faults store.old) (S.load_faults store.new) (S.loads store.old) (S.loads store.new)) (Rises (S.save_faults store.old) (S.save_faults store.new)) (S.holds store.new) result) }
     ensures statuses { IfOk result (λ reply. IsReplyStatus reply.status) }

@@ -2,16 +2,20 @@
 //! terminal.
 #![tactic(auto)]
 
-ghost use Rattle.std.specs.Prelude.{◌≡◌, ◌≢◌, ◌⊎◌, ◌<◌, IfOk, drop};
+ghost use Rattle.std.specs.Prelude.{◌≡◌, ◌≢◌, ◌⊎◌, ◌<◌, IfOk, IfErr, IsOk, drop};
 ghost use Rattle.std.specs.IoError.{error_kind};
 ghost use Rattle.std.specs.Process.{exit_status};
 ghost use Rattle.std.specs.Vec.Iter.{into_iter_items};
+ghost use Rattle.gm_host.specs.Count.{counted, Rises};
+ghost use Rattle.gm_tool.specs.Loads.{OneAtMost};
+ghost use Rattle.gm_tool.specs.Tool.{words_of, EndsAs};
+ghost use Rattle.gmr.specs.Seen.{seen_of};
 
 use gm_arena::Steps;
 use gm_host::{FileStore, StdSink};
 pub use gm_tool::tool;
 use std::alloc::Global;
-use std::env::{self, Args, Env};
+use std::env::{self, Args};
 use std::io::{self, ErrorKind};
 use std::marker::Brand;
 use std::process::ExitCode;
@@ -42,26 +46,49 @@ fn behind_name(mut args: Args, alloc: Global) -> io::Result<Vec<String>>
     Ok(words)
 }
 
-fn words_of(rt: &(impl Env + AllocGlobal)) -> io::Result<Vec<String>> {
-    behind_name(env::args(rt)?, rt.alloc())
+/// The words behind the program's name, or why they can't be had.
+fn words_behind(args: io::Result<Args>, alloc: Global) -> io::Result<Vec<String>>
+    ensures behind { IfOk args (λ all. IfOk result (λ words. words.items ≡ drop 1 (into_iter_items all))) }
+    ensures refused { IfErr args (λ error. IfErr result (λ answer. answer ≡ error)) }
+    ensures never { IfOk result (λ _. IsOk args) }
+{
+    behind_name(args?, alloc)
 }
 
-/// Runs the command that the words ask for over the real files and the terminal, with a counter of
-/// steps that the blank ledger makes.
-fn run_over_files<L: Ledger>(rt: &HostRuntime, words: &[String], blank: Blank) -> ExitCode
+/// Runs the command that the words ask for over this store and this sink, with a counter of steps that
+/// the blank ledger makes, and ends with its status. It is run once: a run saves once, and prints once.
+fn run_over_files<L: Ledger>(
+    rt: &HostRuntime,
+    words: &[String],
+    store: &mut FileStore<'_, HostRuntime>,
+    out: &mut StdSink<'_, HostRuntime>,
+    blank: Blank,
+) -> ExitCode
     requires name { blank.name ≡ L.name }
     requires parts { blank.parts ≡ L.parts }
     requires some { 0 < blank.parts }
+    ensures ends { EndsAs (words_of words.now) (seen_of store.old) (seen_of store.new) (exit_status result) }
+    ensures one_put { OneAtMost out.old.puts out.new.puts }
+    ensures put { exit_status result ≢ 7 → out.new.puts ≡ counted out.old.puts }
+    ensures put_failed { exit_status result ≡ 6 → Rises out.old.faults out.new.faults }
+    ensures no_put_failed { exit_status result ≢ 6 → out.new.faults ≡ out.old.faults }
+    ensures none_put { exit_status result ≡ 7 → out.new.puts ≡ out.old.puts }
 {
     let mut steps: Steps<L> = Steps::start(rt, blank);
-    let mut store = FileStore::new(rt);
-    let mut out = StdSink::new(rt);
-    ExitCode::from(tool(rt.alloc(), words, &mut store, &mut out, &mut steps))
+    ExitCode::from(tool(rt.alloc(), words, store, out, &mut steps))
 }
 
 fn main(rt: HostRuntime) -> ExitCode {
-    match words_of(&rt) {
-        Ok(words) => run_over_files::<Brand>(&rt, words.as_slice(), Blank::new(1)),
+    let mut store = FileStore::new(&rt);
+    let mut out = StdSink::new(&rt);
+    match words_behind(env::args(&rt), rt.alloc()) {
+        Ok(words) => run_over_files::<Brand>(
+            &rt,
+            words.as_slice(),
+            &mut store,
+            &mut out,
+            Blank::new(1),
+        ),
         Err(error) => without_words(&error),
     }
 }

@@ -1,10 +1,11 @@
-use Rattle.std.proofs.Common.{ap, ◌∙◌}
+use Rattle.std.proofs.Common.{[], ◌∷◌, ap, ◌∙◌}
 use Rattle.std.proofs.lemmas.Result.{err_from_is_err_and}
 use Rattle.gm_host.specs.Count.{counted, Rises}
 use Rattle.gm_lines.specs.Refusing.{TheMap, TheBook}
 use Rattle.gm_tool.specs.DualAnswer.{dual_names_of}
 use Rattle.gm_tool.specs.Loads.{FailsAt}
 use Rattle.gm_tool.proofs.Duals.{passes_map, passes_book, unloaded_dual, at_map, at_book, at_texts, behind_map, behind_book, sound_without_memory}
+use Rattle.gm_tool.proofs.OwnFiles.{first_of, second_of}
 use Rattle.gm_tool.proofs.RunStops.{rises_later}
 use Rattle.gm_tool.proofs.StepWords.{read_dual, turned_dual}
 use Rattle.gm_tool.proofs.Stopping.{sound_to}
@@ -41,6 +42,9 @@ returns-in_err-read-clause-sound g c =
     (sound_to _ _ (unloaded_dual (g.S.Store.holds c.args.store.now) (dual_names_of c.args.files) (FailsAt (g.S.Store.load_faults c.args.store.now) (g.S.Store.load_faults c.load_map.new.store) (g.S.Store.loads c.args.store.now) (g.S.Store.loads c.load_map.new.store)) TheMap _ (passes_map (g.S.Store.holds c.args.store.now) (dual_names_of c.args.files)) (λ rises. (rises, c.load_map.ensures.once)))
     c.in_err-read.field-0.0 c.in_err-read.ensures.from.1)
 
+pub returns-in_err-read-clause-own_files : goal.returns-in_err-read-clause-own_files
+returns-in_err-read-clause-own_files g c = first_of c.args.files.map.now (c.args.files.book.now ∷ []) _ _ c.load_map.ensures.named
+
 pub returns-in_err-read-clause-in_order : goal.returns-in_err-read-clause-in_order
 returns-in_err-read-clause-in_order g c = (TheMap, passes_map (g.S.Store.holds c.args.store.now) (dual_names_of c.args.files), c.load_map.ensures.once)
 
@@ -67,6 +71,9 @@ returns-in_err-book-clause-sound g c =
     (sound_to _ _ (unloaded_dual (g.S.Store.holds c.args.store.now) (dual_names_of c.args.files) (FailsAt (g.S.Store.load_faults c.args.store.now) (g.S.Store.load_faults c.load_book.new.store) (g.S.Store.loads c.args.store.now) (g.S.Store.loads c.load_book.new.store)) TheBook _ (passes_book (g.S.Store.holds c.args.store.now) (dual_names_of c.args.files) c.in_ok-read.field-0.map (Unit {0}) c.in_ok-read.ensures.from) (λ rises. (rises_later _ _ _ c.load_map.ensures.faults_never_fall rises, c.load_book.ensures.once ∙ ap counted c.load_map.ensures.once)))
     c.in_err-book.field-0.0 (rw c.load_map.ensures.held at c.in_err-book.ensures.from.1))
 
+pub returns-in_err-book-clause-own_files : goal.returns-in_err-book-clause-own_files
+returns-in_err-book-clause-own_files g c = second_of c.args.files.map.now c.args.files.book.now [] _ _ _ c.load_map.ensures.named c.load_book.ensures.named
+
 pub returns-in_err-book-clause-in_order : goal.returns-in_err-book-clause-in_order
 returns-in_err-book-clause-in_order g c = (TheBook, passes_book (g.S.Store.holds c.args.store.now) (dual_names_of c.args.files) c.in_ok-read.field-0.map (Unit {0}) c.in_ok-read.ensures.from, c.load_book.ensures.once ∙ ap counted c.load_map.ensures.once)
 
@@ -82,6 +89,9 @@ returns-clause-counted_loads g c =
 
 pub returns-clause-most : goal.returns-clause-most
 returns-clause-most g c = turned_dual (g.S.Store.holds c.args.store.now) c.args.files.map.now (Unit {0}) c.in_ok-read.field-0.map _ _ _ c.texts.ensures.lawful c.in_ok-read.ensures.from c.in_ok-read.ensures.most c.texts.ensures.most
+
+pub returns-clause-own_files : goal.returns-clause-own_files
+returns-clause-own_files g c = second_of c.args.files.map.now c.args.files.book.now [] _ _ _ c.load_map.ensures.named c.load_book.ensures.named
 
 pub returns-clause-in_order : goal.returns-clause-in_order
 returns-clause-in_order g c = (TheBook, passes_book (g.S.Store.holds c.args.store.now) (dual_names_of c.args.files) c.in_ok-read.field-0.map (Unit {0}) c.in_ok-read.ensures.from, c.load_book.ensures.once ∙ ap counted c.load_map.ensures.once)

@@ -17,7 +17,7 @@ returns-in-Some-clause-text g c =
 pub returns-in-Some-clause-ends : goal.returns-in-Some-clause-ends
 returns-in-Some-clause-ends g c =
     file_ends (words_of c.args.words.now) (command_in c.in-Some.command) c.in-Some.file.now c.in-Some.ensures _ _ c.reply_on.result c.reply_on.ensures.statuses c.reply_on.ensures.rule_refused c.reply_on.ensures.sound
-    c.reply_on.ensures.held c.reply_on.ensures.no_save c.reply_on.ensures.no_save_fault c.reply_on.ensures.one_load
+    c.reply_on.ensures.held c.reply_on.ensures.no_save c.reply_on.ensures.no_save_fault c.reply_on.ensures.one_load c.reply_on.ensures.named
 
 pub returns-in-Some-clause-steps : goal.returns-in-Some-clause-steps
 returns-in-Some-clause-steps g c =
@@ -50,7 +50,7 @@ returns-in-Some-migrate_of-clause-text g c =
 pub returns-in-Some-migrate_of-clause-ends : goal.returns-in-Some-migrate_of-clause-ends
 returns-in-Some-migrate_of-clause-ends g c =
     migrate_ends (words_of c.args.words.now) (migrate_names_of c.in-Some-migrate_of.files) c.in-Some-migrate_of.ensures _ _ c.answer-in-Some-migrate_of.result c.answer-in-Some-migrate_of.ensures.statuses c.answer-in-Some-migrate_of.ensures.sound
-    c.answer-in-Some-migrate_of.ensures.one_load c.answer-in-Some-migrate_of.ensures.saves c.answer-in-Some-migrate_of.ensures.no_save_fault c.answer-in-Some-migrate_of.ensures.map
+    c.answer-in-Some-migrate_of.ensures.one_load c.answer-in-Some-migrate_of.ensures.named c.answer-in-Some-migrate_of.ensures.saves c.answer-in-Some-migrate_of.ensures.no_save_fault c.answer-in-Some-migrate_of.ensures.map
 
 pub returns-in-Some-migrate_of-clause-steps : goal.returns-in-Some-migrate_of-clause-steps
 returns-in-Some-migrate_of-clause-steps g c =
@@ -68,7 +68,7 @@ returns-in-Some-dual_of-clause-text g c =
 pub returns-in-Some-dual_of-clause-ends : goal.returns-in-Some-dual_of-clause-ends
 returns-in-Some-dual_of-clause-ends g c =
     dual_ends (words_of c.args.words.now) (dual_names_of c.in-Some-dual_of.files) c.in-Some-dual_of.ensures _ _ c.answer-in-Some-dual_of.result c.answer-in-Some-dual_of.ensures.statuses c.answer-in-Some-dual_of.ensures.sound
-    c.answer-in-Some-dual_of.ensures.held c.answer-in-Some-dual_of.ensures.no_save c.answer-in-Some-dual_of.ensures.no_save_fault c.answer-in-Some-dual_of.ensures.in_order c.answer-in-Some-dual_of.ensures.counted_loads
+    c.answer-in-Some-dual_of.ensures.held c.answer-in-Some-dual_of.ensures.no_save c.answer-in-Some-dual_of.ensures.no_save_fault c.answer-in-Some-dual_of.ensures.in_order c.answer-in-Some-dual_of.ensures.own_files c.answer-in-Some-dual_of.ensures.counted_loads
 
 pub returns-in-Some-dual_of-clause-steps : goal.returns-in-Some-dual_of-clause-steps
 returns-in-Some-dual_of-clause-steps g c =
@@ -99,7 +99,7 @@ returns-clause-text g c =
 
 pub returns-clause-ends : goal.returns-clause-ends
 returns-clause-ends g c =
-    run_ends (words_of c.args.words.now) (names_of c.in-Some-run_of.files) c.in-Some-run_of.ensures _ _ c.answer-2.result c.answer-2.ensures.statuses c.answer-2.ensures.sound c.answer-2.ensures.in_order c.answer-2.ensures.counted_loads
+    run_ends (words_of c.args.words.now) (names_of c.in-Some-run_of.files) c.in-Some-run_of.ensures _ _ c.answer-2.result c.answer-2.ensures.statuses c.answer-2.ensures.sound c.answer-2.ensures.in_order c.answer-2.ensures.own_files c.answer-2.ensures.counted_loads
     c.answer-2.ensures.saves c.answer-2.ensures.no_save_fault c.answer-2.ensures.map
 
 pub returns-clause-steps : goal.returns-clause-steps

@@ -32,6 +32,9 @@ pub returns-in-Ok-clause-counted_loads : goal.returns-in-Ok-clause-counted_loads
 returns-in-Ok-clause-counted_loads g c =
     rw (c.saved.ensures.no_load_fault, c.saved.ensures.no_load) (counts_saved (names_of c.args.files) (Rises (g.S.Store.load_faults c.args.store.now) (g.S.Store.load_faults c.prepared.new.store)) (g.S.Store.loads c.args.store.now) (g.S.Store.loads c.prepared.new.store) (g.S.Store.holds c.args.store.now) c.in-Ok.made c.saved.result c.in-Ok.ensures.counted_loads)
 
+pub returns-in-Ok-clause-own_files : goal.returns-in-Ok-clause-own_files
+returns-in-Ok-clause-own_files g c = rw c.saved.ensures.no_name c.prepared.ensures.own_files
+
 pub returns-in-Ok-clause-in_order : goal.returns-in-Ok-clause-in_order
 returns-in-Ok-clause-in_order g c = rw c.saved.ensures.no_load c.prepared.ensures.in_order
 

@@ -1,4 +1,4 @@
-use Rattle.std.proofs.Common.{refl, ap, ◌∙◌}
+use Rattle.std.proofs.Common.{[], ◌∷◌, refl, ap, ◌∙◌}
 use Rattle.std.proofs.lemmas.Result.{err_from_is_err_and}
 use Rattle.gm_host.specs.Count.{counted, Rises}
 use Rattle.gm_lines.specs.Refusing.{TheMap, TheBook}
@@ -6,6 +6,7 @@ use Rattle.gm_tool.specs.Loads.{FailsAt}
 use Rattle.gm_tool.specs.MadeRuns.{names_of}
 use Rattle.gm_tool.specs.Stops.{IsReadBook}
 use Rattle.gm_tool.proofs.LoadCounts.{behind_map, behind_book}
+use Rattle.gm_tool.proofs.OwnFiles.{first_of, second_of, third_of}
 use Rattle.gm_tool.proofs.RunStops.{rises_later, passes_map, passes_book, unloaded, at_map, at_book, has_begun}
 use Rattle.gm_tool.proofs.StepBounds.{stopped_within}
 use Rattle.gm_tool.proofs.Stopping.{sound_to, unread_book}
@@ -36,6 +37,9 @@ returns-in_err-loaded-clause-sound g c =
 pub returns-in_err-loaded-clause-in_order : goal.returns-in_err-loaded-clause-in_order
 returns-in_err-loaded-clause-in_order g c = (TheMap, passes_map (g.S.Store.holds c.args.store.now) (names_of c.args.files), c.load_map.ensures.once)
 
+pub returns-in_err-loaded-clause-own_files : goal.returns-in_err-loaded-clause-own_files
+returns-in_err-loaded-clause-own_files g c = first_of c.args.files.map.now (c.args.files.book.now ∷ c.args.files.script.now ∷ []) _ _ c.load_map.ensures.named
+
 -- ---- the book fails
 
 pub returns-in_err-book-clause-made : goal.returns-in_err-book-clause-made
@@ -65,7 +69,13 @@ returns-in_err-book-clause-sound g c =
 pub returns-in_err-book-clause-in_order : goal.returns-in_err-book-clause-in_order
 returns-in_err-book-clause-in_order g c = (TheBook, passes_book (g.S.Store.holds c.args.store.now) (names_of c.args.files) c.in_ok-loaded.loaded.map (Unit {0}) c.in_ok-loaded.ensures.from, c.load_book.ensures.once ∙ ap counted c.load_map.ensures.once)
 
+pub returns-in_err-book-clause-own_files : goal.returns-in_err-book-clause-own_files
+returns-in_err-book-clause-own_files g c = second_of c.args.files.map.now c.args.files.book.now (c.args.files.script.now ∷ []) _ _ _ c.load_map.ensures.named c.load_book.ensures.named
+
 -- ---- both are read
+
+pub returns-clause-own_files : goal.returns-clause-own_files
+returns-clause-own_files g c = third_of c.args.files.map.now c.args.files.book.now c.args.files.script.now _ _ _ _ c.load_map.ensures.named c.load_book.ensures.named c.prepared_behind.ensures.script
 
 pub returns-clause-made : goal.returns-clause-made
 returns-clause-made g c =

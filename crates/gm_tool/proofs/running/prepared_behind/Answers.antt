@@ -1,4 +1,4 @@
-use Rattle.std.proofs.Common.{Err, rules, refl, map, ap, ◌∙◌}
+use Rattle.std.proofs.Common.{Err, inl, inr, rules, refl, map, ap, ◌∙◌}
 use Rattle.std.proofs.lemmas.Result.{err_from_is_err_and}
 use Rattle.gm_host.specs.Count.{counted, Rises}
 use Rattle.gm_model.specs.Rules.{rule_of}
@@ -38,6 +38,7 @@ returns-in_err-plans g c =
       held = search rules;
       no_save = search rules;
       no_save_fault = search rules;
+      script = inl refl;
       in_order = λ start begun. (TheBook, passes_book (g.S.Store.holds c.args.store.now) (names_of c.args.files) c.args.loaded.map (Unit {0}) begun.the_map, begun.twice);
       counted_loads = λ start begun. rw (p.1, p.2) (behind_rules (names_of c.args.files) (Rises start.faults (g.S.Store.load_faults c.args.store.now)) start.loads (g.S.Store.loads c.args.store.now) (g.S.Store.holds c.args.store.now) c.args.loaded.map c.args.book.now (Unit {0}) (Unit {0}) c.in_err-plans.field-0.0 begun.twice begun.the_map begun.the_book c.in_err-plans.ensures.stop);
       made = λ start begun. rw (p.1, p.2) (at_rules (names_of c.args.files) (FailsAt start.faults (g.S.Store.load_faults c.args.store.now) start.loads (g.S.Store.loads c.args.store.now)) (g.S.Store.holds c.args.store.now) c.args.loaded.map c.args.book.now (Unit {0}) (Unit {0}) c.in_err-plans.field-0.0 begun.the_map begun.the_book c.in_err-plans.ensures.stop);
@@ -57,6 +58,7 @@ returns-in_err-script g c =
       held = search rules;
       no_save = search rules;
       no_save_fault = search rules;
+      script = inr c.load_script.ensures.named;
       in_order = λ start begun. (TheScript, passes_script (g.S.Store.holds c.args.store.now) (names_of c.args.files) c.args.loaded.map c.args.book.now (Unit {0}) (Unit {0}) begun.the_map begun.the_book c.in_ok-plans.ensures.accepted, c.load_script.ensures.once ∙ ap counted begun.twice);
       counted_loads = λ start begun. rw (p.1, p.2)
           (behind_script (names_of c.args.files) (Rises start.faults (g.S.Store.load_faults c.load_script.new.store)) start.loads (g.S.Store.loads c.load_script.new.store) (g.S.Store.holds c.args.store.now) c.args.loaded.map c.args.book.now (Unit {0}) (Unit {0}) (Err c.in_err-script.field-0.0) (c.load_script.ensures.once ∙ ap counted begun.twice) begun.the_map begun.the_book c.in_ok-plans.ensures.accepted);
@@ -80,6 +82,7 @@ returns-then-not-agree g c =
       held = search rules;
       no_save = search rules;
       no_save_fault = search rules;
+      script = inr c.load_script.ensures.named;
       in_order = λ start begun. (TheScript, passes_script (g.S.Store.holds c.args.store.now) (names_of c.args.files) c.args.loaded.map c.args.book.now (Unit {0}) (Unit {0}) begun.the_map begun.the_book c.in_ok-plans.ensures.accepted, c.load_script.ensures.once ∙ ap counted begun.twice);
       counted_loads = λ start begun. behind_script (names_of c.args.files) (Rises start.faults (g.S.Store.load_faults c.load_script.new.store)) start.loads (g.S.Store.loads c.load_script.new.store) (g.S.Store.holds c.args.store.now) c.args.loaded.map c.args.book.now (Unit {0}) (Unit {0}) (Err (stops.NoText (nothing.Refused refusals.Agree))) (c.load_script.ensures.once ∙ ap counted begun.twice) begun.the_map begun.the_book c.in_ok-plans.ensures.accepted;
       made = λ start begun. at_agreement (names_of c.args.files) (FailsAt start.faults (g.S.Store.load_faults c.load_script.new.store) start.loads (g.S.Store.loads c.load_script.new.store)) (g.S.Store.holds c.args.store.now) c.args.loaded.map c.args.book.now c.in_ok-script.script (Unit {0}) (Unit {0}) (Unit {0}) begun.the_map begun.the_book c.in_ok-plans.ensures.accepted c.in_ok-script.ensures.from
@@ -99,6 +102,7 @@ returns g c =
       held = search rules;
       no_save = search rules;
       no_save_fault = search rules;
+      script = inr c.load_script.ensures.named;
       in_order = λ start begun. (TheScript, passes_script (g.S.Store.holds c.args.store.now) (names_of c.args.files) c.args.loaded.map c.args.book.now (Unit {0}) (Unit {0}) begun.the_map begun.the_book c.in_ok-plans.ensures.accepted, c.load_script.ensures.once ∙ ap counted begun.twice);
       counted_loads = λ start begun. behind_script (names_of c.args.files) (Rises start.faults (g.S.Store.load_faults c.load_script.new.store)) start.loads (g.S.Store.loads c.load_script.new.store) (g.S.Store.holds c.args.store.now) c.args.loaded.map c.args.book.now (Unit {0}) (Unit {0}) c.applied.result (c.load_script.ensures.once ∙ ap counted begun.twice) begun.the_map begun.the_book c.in_ok-plans.ensures.accepted;
       made = λ start begun. at_end (names_of c.args.files) (FailsAt start.faults (g.S.Store.load_faults c.load_script.new.store) start.loads (g.S.Store.loads c.load_script.new.store)) (g.S.Store.holds c.args.store.now) c.args.loaded.map c.args.book.now c.in_ok-script.script (Unit {0}) (Unit {0}) (Unit {0}) begun.the_map begun.the_book c.in_ok-plans.ensures.accepted c.in_ok-script.ensures.from

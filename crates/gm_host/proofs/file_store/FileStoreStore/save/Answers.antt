@@ -15,6 +15,7 @@ returns-then-is_err g c =
     record {
       each_save_counts = c.saturating_add-self-inside.ensures ∙ ap (λ (state : Counts). counted state.saves) c.self.view_is;
       no_load = ap (λ (state : Counts). state.loads) c.self.view_is;
+      no_name = ap (λ (state : Counts). state.loaded) c.self.view_is;
       no_load_fault = ap (λ (state : Counts). state.load_faults) c.self.view_is;
       faults_never_fall = search rules;
       ok = on_ok c.write_file-answer.result refl;
@@ -33,6 +34,7 @@ returns-else-is_err g c =
     record {
       each_save_counts = c.saturating_add-self-inside.ensures ∙ ap (λ (state : Counts). counted state.saves) c.self.view_is;
       no_load = ap (λ (state : Counts). state.loads) c.self.view_is;
+      no_name = ap (λ (state : Counts). state.loaded) c.self.view_is;
       no_load_fault = ap (λ (state : Counts). state.load_faults) c.self.view_is;
       faults_never_fall = omega (arith, ap (λ (state : Counts). state.save_faults) c.self.view_is);
       ok = on_ok c.write_file-answer.result refl;

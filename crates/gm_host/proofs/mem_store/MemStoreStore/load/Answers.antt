@@ -1,4 +1,4 @@
-use Rattle.std.proofs.Common.{ap, subst, ◌∙◌, arith, rules}
+use Rattle.std.proofs.Common.{◌∷◌, ◌++◌, [], ap, subst, ◌∙◌, arith, rules}
 use Rattle.std.specs.Prelude.{IfOk}
 use Rattle.gm_host.specs.Count.{counted}
 use Rattle.gm_host.specs.Files.{Files, told}
@@ -19,6 +19,7 @@ returns-then-contains c =
     record {
       held = ap (λ (state : StoreState). told state.files) c.self.view_is;
       each_load_counts = c.saturating_add-self-inside.ensures ∙ ap (λ (state : StoreState). counted state.loads) c.self.view_is;
+      each_name_kept = c.and-self-inside.ensures ∙ ap (λ (state : StoreState). state.loaded ++ c.args.name.now ∷ []) c.self.view_is;
       no_save = ap (λ (state : StoreState). state.saves) c.self.view_is;
       faults_never_fall = search rules;
       no_save_fault = ap (λ (state : StoreState). state.save_faults) c.self.view_is;
@@ -31,6 +32,7 @@ returns-then-contains c =
       seen_held = tt;
       longer = λ _. tt;
       ok_no_fault = tt;
+      no_fault = λ other. absurd (other tt);
       fails_exactly = search rules;
       after = search rules;
     }
@@ -41,6 +43,7 @@ returns c =
     record {
       held = ap (λ (state : StoreState). told state.files) c.self.view_is;
       each_load_counts = c.saturating_add-self-inside.ensures ∙ ap (λ (state : StoreState). counted state.loads) c.self.view_is;
+      each_name_kept = c.and-self-inside.ensures ∙ ap (λ (state : StoreState). state.loaded ++ c.args.name.now ∷ []) c.self.view_is;
       no_save = ap (λ (state : StoreState). state.saves) c.self.view_is;
       faults_never_fall = omega (arith, ap (λ (state : StoreState). state.load_faults) c.self.view_is);
       no_save_fault = ap (λ (state : StoreState). state.save_faults) c.self.view_is;
@@ -53,6 +56,7 @@ returns c =
       seen_held = subst (λ (held : Files). IfTooLong c.load.result (IsCutFromHeld (told held) c.args.name.now c.args.limit)) files c.load.ensures.seen_held;
       longer = subst (λ (held : Files). HoldsLongerFile (told held) c.args.name.now c.args.limit → IsTooLongUnlessFailing c.load.result) files c.load.ensures.longer;
       ok_no_fault = on_ok c.load.result (ap (λ (state : StoreState). state.load_faults) c.self.view_is);
+      no_fault = λ _. ap (λ (state : StoreState). state.load_faults) c.self.view_is;
       fails_exactly = (λ f. absurd (c.load.ensures.failed f), λ t. absurd (grind arith));
       after = search rules;
     }

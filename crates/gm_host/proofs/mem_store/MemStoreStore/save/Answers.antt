@@ -18,6 +18,7 @@ returns-in_err-hold-in-None c =
     (record {
       each_save_counts = c.saturating_add-self-inside.ensures ∙ ap (λ (state : StoreState). counted state.saves) c.self.view_is;
       no_load = ap (λ (state : StoreState). state.loads) c.self.view_is;
+      no_name = ap (λ (state : StoreState). state.loaded) c.self.view_is;
       no_load_fault = ap (λ (state : StoreState). state.load_faults) c.self.view_is;
       faults_never_fall = omega (arith, faults);
       ok = tt;
@@ -38,6 +39,7 @@ returns-in_err-hold_part-in-Some c =
     (record {
       each_save_counts = c.saturating_add-self-inside.ensures ∙ ap (λ (state : StoreState). counted state.saves) c.self.view_is;
       no_load = ap (λ (state : StoreState). state.loads) c.self.view_is;
+      no_name = ap (λ (state : StoreState). state.loaded) c.self.view_is;
       no_load_fault = ap (λ (state : StoreState). state.load_faults) c.self.view_is;
       faults_never_fall = omega (arith, faults);
       ok = tt;
@@ -60,6 +62,7 @@ returns-in_ok-hold_part-in-Some c =
     record {
       each_save_counts = search rules;
       no_load = search rules;
+      no_name = search rules;
       no_load_fault = search rules;
       faults_never_fall = search rules;
       ok = search rules;
@@ -83,6 +86,7 @@ returns-in_ok-hold-in-None c =
     record {
       each_save_counts = search rules;
       no_load = search rules;
+      no_name = search rules;
       no_load_fault = search rules;
       faults_never_fall = search rules;
       ok = subst (λ (state : StoreState). IsSaved (told state.files) name bytes (told c.hold.new.self)) c.self.view_is held;

@@ -12,6 +12,7 @@ returns c =
     record {
       held = search rules;
       each_load_counts = search rules;
+      each_name_kept = search rules;
       no_save = search rules;
       faults_never_fall = search rules;
       no_save_fault = search rules;
@@ -24,6 +25,7 @@ returns c =
       seen_held = subst (λ (held : Files). IfTooLong c.load.result (IsCutFromHeld (told held) c.args.name.now c.args.limit)) files c.load.ensures.seen_held;
       longer = subst (λ (held : Files). HoldsLongerFile (told held) c.args.name.now c.args.limit → IsTooLongUnlessFailing c.load.result) files c.load.ensures.longer;
       ok_no_fault = on_ok c.load.result refl;
+      no_fault = λ _. refl;
       never_fails = search rules;
       after = search rules;
     }

@@ -13,6 +13,7 @@ returns-in_err-hold c =
     (record {
       each_save_counts = c.saturating_add-self-inside.ensures ∙ ap (λ (state : StoreState). counted state.saves) c.self.view_is;
       no_load = ap (λ (state : StoreState). state.loads) c.self.view_is;
+      no_name = ap (λ (state : StoreState). state.loaded) c.self.view_is;
       no_load_fault = refl;
       faults_never_fall = omega arith;
       ok = tt;
@@ -23,9 +24,9 @@ returns-in_err-hold c =
       ok_no_fault = tt;
       never_fails = λ failed. failed;
       after = tt;
-      unmade = ap (λ files. record { files = files; loads = c.self.inside.loads; saves = c.saturating_add-self-inside.result }) c.in_err-hold.ensures.err
-          ∙ ap (λ saves. record { files = c.self.inside.files; loads = c.self.inside.loads; saves = saves }) c.saturating_add-self-inside.ensures
-          ∙ ap (λ (state : StoreState). record { files = state.files; loads = state.loads; saves = counted state.saves }) c.self.view_is;
+      unmade = ap (λ files. record { files = files; loads = c.self.inside.loads; loaded = c.self.inside.loaded.items; saves = c.saturating_add-self-inside.result }) c.in_err-hold.ensures.err
+          ∙ ap (λ saves. record { files = c.self.inside.files; loads = c.self.inside.loads; loaded = c.self.inside.loaded.items; saves = saves }) c.saturating_add-self-inside.ensures
+          ∙ ap (λ (state : StoreState). record { files = state.files; loads = state.loads; loaded = state.loaded; saves = counted state.saves }) c.self.view_is;
     })
 
 pub returns : goal.returns
@@ -33,6 +34,7 @@ returns c =
     record {
       each_save_counts = search rules;
       no_load = search rules;
+      no_name = search rules;
       no_load_fault = search rules;
       faults_never_fall = search rules;
       ok = rw (c.in_ok-hold.ensures.ok, ← c.self.view_is) (saved-insert c.self.inside.files c.args.name.now c.args.bytes.now);

@@ -1,6 +1,6 @@
 use Rattle.std.proofs.Common.{◌∙◌, ap, ◌++◌, ◌∷◌, decimal}
 use Rattle.std.proofs.lemmas.Fmt.{contents_after_writes}
-use Rattle.gm_host.proofs.replacing.name_beside.Goals as goal
+use Rattle.gm_host.proofs.beside.name_beside.Goals as goal
 
 pub returns : goal.returns
 returns c =
