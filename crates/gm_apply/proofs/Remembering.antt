@@ -1,10 +1,8 @@
 -- What is kept between the readings of an embedding: all that earlier readings of the same node read and its orbit shares.
-use Rattle.std.proofs.Common.{◌≡◌, ◌≢◌, ℕ, zero, suc, ◌+◌, ◌-◌, ◌*◌, ◌<◌, ◌≤◌, ◌⊎◌, inl, inr, Bool, true, false, IsTrue, List, [], ◌∷◌, length, map, take, sum, Option, Some, None, slice_get, get_or, refl, sym, ap, subst, ◌∙◌, arith}
+use Rattle.std.proofs.Common.{◌≡◌, ◌≢◌, ℕ, zero, suc, ◌+◌, ◌-◌, ◌*◌, ◌<◌, ◌≤◌, ◌⊎◌, inl, inr, Bool, true, false, IsTrue, List, [], ◌∷◌, length, map, Option, Some, None, slice_get, get_or, refl, sym, ap, subst, ◌∙◌, arith}
 use Rattle.std.specs.Prelude.{IsSome, MatchOption}
 use Rattle.std.specs.List.{Contains}
-use Rattle.std.proofs.Math.Nat.{mul-le-mul_left}
 use Rattle.std.proofs.lemmas.Bool.{cases_eq, cases_lt, false≢true}
-use Rattle.std.proofs.lemmas.List.Sums.{sum_by_more}
 use Rattle.std.proofs.lemmas.Option.{slice_get-get_or, slice_get_within}
 use Rattle.gm_model.specs.declared.value.Value.{Value}
 use Rattle.gm_model.specs.Orbits.{IsPairBefore}
@@ -26,7 +24,6 @@ use Rattle.gm_apply.specs.Reads.{HasRead}
 use Rattle.gm_apply.specs.Readings.{IsExpression, WasRead, places_of, read_at}
 use Rattle.gm_apply.proofs.Giving.{entry_at}
 use Rattle.gm_apply.proofs.ReadValues.{some_embed}
-use Rattle.gm_apply.proofs.Sublists.{sum_cons}
 
 -- ---- the places of deciding instances
 
