@@ -118,6 +118,11 @@ class Values(dict[int, Value]):
         return self[dart]
 
 
+def whole_of(amap: Map) -> Map:
+    """The map with all its rows, whether it is lazy or not."""
+    return amap.whole() if isinstance(amap, LazyMap) else amap
+
+
 class LazyMap(Map):
     """A map of which rows are read when they are asked for by name. What goes over all darts reads all of them."""
 

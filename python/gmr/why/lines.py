@@ -7,6 +7,7 @@ from gmr.maps import MOST_DARTS, MOST_NAME, Map, Value
 from gmr.matches import Candidate, Step, find_candidate, is_match, labels_of, step_of, way_to
 from gmr.unfolding import deciding_positions
 from gmr.why.edits import link_text, word_text
+from gmr.why.lazy import whole_of
 
 MOST_INSTANCES = 5_000      # that are gone over to find darts at which a rule lies
 MOST_WHOLE = 2_000          # darts of a map of which all are tried
@@ -255,6 +256,7 @@ def tell_fault(fault: NoValue, tree: Tree, scene: Scene) -> list[str]:
 
 def tell_no_value(line: Line) -> list[str]:
     """An assignment has no value."""
+    line = line._replace(map=whole_of(line.map))
     node, embed = line.node(2), next(embed for embed in line.book.embeds if embed.name == line.cause[1])
     found, tree = line.candidate(), tree_of(node.sets[embed.name])
     for position in deciding_positions(found, node, embed):
