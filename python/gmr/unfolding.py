@@ -3,7 +3,6 @@
 It is the definition of MODEL ('Unfoldings', 'Values') taken to the letter: a difference and a union of arcs. Of an
 accepted rule the result is a map; of a refused one it may be less, and this module finds where."""
 from collections.abc import Iterator
-from dataclasses import replace
 from itertools import combinations
 from typing import NamedTuple
 
@@ -83,7 +82,7 @@ def unfold(found: Candidate) -> Unfolding:
 
 def map_of(result: Unfolding, amap: Map) -> Map:
     """The result as a map without values, where it is one."""
-    return replace(amap, darts=sorted(result.live), alpha=result.alpha, values={}, next=result.next)
+    return Map(amap.version, amap.dimension, amap.embeds, result.next, sorted(result.live), result.alpha, {})
 
 
 # ---------------------------------------------------------------------- laws of neighbours

@@ -4,10 +4,13 @@ from typing import NamedTuple
 from gmr.books import Book, Node, Rule, tokens_of
 from gmr.expressions import NoValue, Reader, Scene, Tree, leaves_of, show, value_of
 from gmr.maps import MOST_DARTS, MOST_NAME, Map, Value
-from gmr.matches import Candidate, Step, find_candidate, labels_of, step_of, way_to
+from gmr.matches import Candidate, Step, find_candidate, is_match, labels_of, step_of, way_to
 from gmr.unfolding import deciding_positions
 from gmr.why.edits import link_text, word_text
+from gmr.why.lazy import whole_of
 
+MOST_INSTANCES = 5_000      # that are gone over to find darts at which a rule lies
+MOST_WHOLE = 2_000          # darts of a map of which all are tried
 MOST_PARTS = 12     # parts of an expression that are told
 CONSTANTS = ("number", "truth")
 
@@ -38,8 +41,9 @@ class Line(NamedTuple):
 
 def tell_line(line: Line) -> list[str]:
     """Why a line is refused."""
-    kind = " ".join(line.cause[:2]) if line.cause[0] == "no-match" else line.cause[0]
-    return CAUSES[kind](line)
+    if line.cause[0] == "no-match":
+        return CAUSES[" ".join(line.cause[:2])](line) + tell_where_it_lies(line)
+    return CAUSES[line.cause[0]](line)
 
 
 def tell_no_dart(line: Line) -> list[str]:
@@ -132,15 +136,62 @@ def tell_same(line: Line) -> list[str]:
     found, one, other = line.candidate(), line.node(2), line.node(4)
     here, there = int(line.cause[3]), int(line.cause[5])
     dart = found.darts[one.name][here]
-    said = [f"{one.name} at position {here} and {other.name} at position {there} both lie on dart {dart}, and a rule "
-            "takes no dart twice."]
+    both = f"{one.name} at position {here} and {other.name} at position {there} both lie on dart {dart}"
     if here == there == 0 and one.hook and other.hook:
-        return said + [f"The line gives dart {dart} for both hooks."]
+        return [f"{both}, and a rule takes no dart twice.", f"The line gives dart {dart} for both hooks."]
     lines = where(found, one, here) + where(found, other, there)
+    free = free_on_the_way(found, one, here) or free_on_the_way(found, other, there)
+    if free:
+        return [f"Dart {free[0]} is free along {free[1]}, where the rule needs a neighbour.", f"So {both}.",
+                *dict.fromkeys(lines)]
+    said = [f"{both}, and a rule takes no dart twice."]
     if one is other:
         return said + lines + [f"The two positions of {one.name} are two darts of the hook {found.hooks[0].name}, "
                                f"and in step with them {one.name} comes to one dart twice."]
     return said + list(dict.fromkeys(lines))
+
+
+def free_on_the_way(found: Candidate, node: Node, position: int) -> tuple[int, int] | None:
+    """A dart that is free along a label by which links lead on to a node at a position, with that label."""
+    route = found.routes.get(node.name)
+    dart = found.darts[route.hook][position] if route else 0
+    for label in route.labels if route else ():
+        near = found.map.alpha[label][dart]
+        if near == dart:
+            return dart, label
+        dart = near
+    return None
+
+
+def tell_where_it_lies(line: Line) -> list[str]:
+    """At which darts of the map the left side lies, for the hook from which the cause's node is reached."""
+    found, node = line.candidate(), line.node(2)
+    if line.cause[1] == "same":
+        node = max(node, line.node(4), key=lambda one: one.name in found.routes)
+    hook = found.routes[node.name].hook if node.name in found.routes else node.name
+    at = next((at for at, one in enumerate(found.hooks) if one.name == hook), 0)
+    darts, is_whole = darts_where_it_lies(line, at)
+    whose = f" for the hook {found.hooks[at].name}" if len(found.hooks) > 1 else ""
+    if darts:
+        some = [str(dart) for dart in darts[:3]]
+        return [f"Its left side lies at dart {' or '.join([', '.join(some[:-1]), some[-1]] if some[1:] else some)}{whose}"
+                + (f", and at {len(darts) - 3} more." if is_whole and len(darts) > 3 else ".")]
+    return [f"Its left side lies at no dart of this map{whose}."] if is_whole else []
+
+
+def darts_where_it_lies(line: Line, at: int) -> tuple[list[int], bool]:
+    """The darts for a hook at which the left side lies, the other hooks being as they are; and whether all darts were
+    tried, where so many instances were gone over at most."""
+    found: list[int] = []
+    left = MOST_INSTANCES
+    for dart in line.map.darts:
+        candidate = find_candidate(line.rule, line.map, [*line.hooks[:at], dart, *line.hooks[at + 1:]])
+        left -= sum(map(len, candidate.darts.values()))
+        if is_match(candidate):
+            found.append(dart)
+        if left < 0 or len(found) == 3 and len(line.map.darts) > MOST_WHOLE:
+            return found, False
+    return found, True
 
 
 def tree_of(text: str) -> Tree:
@@ -205,6 +256,7 @@ def tell_fault(fault: NoValue, tree: Tree, scene: Scene) -> list[str]:
 
 def tell_no_value(line: Line) -> list[str]:
     """An assignment has no value."""
+    line = line._replace(map=whole_of(line.map))
     node, embed = line.node(2), next(embed for embed in line.book.embeds if embed.name == line.cause[1])
     found, tree = line.candidate(), tree_of(node.sets[embed.name])
     for position in deciding_positions(found, node, embed):

@@ -113,6 +113,12 @@ def embed_text(embed: Embed) -> str:
     return f"embed {embed.name} <{' '.join(map(str, sorted(embed.labels)))}> {embed.kind}"
 
 
+IMPORTED = {
+    "paint": "`tools/mesh import MODEL MAP --paint R G B` makes a map with one colour in `paint`.",
+    "col": "`tools/mesh import MODEL MAP --colours` makes a map with the file's colours in `col`.",
+}
+
+
 def tell_agree(amap: Map, book: Book) -> list[str]:
     """In what the heads of a map and a book differ."""
     lines = []
@@ -121,6 +127,8 @@ def tell_agree(amap: Map, book: Book) -> list[str]:
     in_map, in_book = [embed_text(embed) for embed in amap.embeds], [embed_text(embed) for embed in book.embeds]
     for whose, has, lacks in (("map", in_map, in_book), ("book", in_book, in_map)):
         lines += [f"Only the {whose} has `{line}`." for line in has if line not in lacks]
+    lines += [IMPORTED[name] for name in IMPORTED for line in in_book
+              if line not in in_map and line.startswith(f"embed {name} ")]
     if not lines:
         lines.append("The embeddings stand in another order: in the map "
                      f"{', '.join(embed.name for embed in amap.embeds)}, in the book "

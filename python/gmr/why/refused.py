@@ -2,6 +2,7 @@
 from pathlib import Path
 
 from gmr.books import Book, Rule, read_book
+from gmr.files import write_whole
 from gmr.places import marked, read_bytes, tokens_up_to
 from gmr.program import answer
 from gmr.why.counterexample import Found, search
@@ -9,6 +10,9 @@ from gmr.why.example import script_text, text_after
 from gmr.why.picture import draw
 from gmr.why.rules import tell_rule
 from gmr.why.verdict import has_map, tell_search
+from gmr.why.ways import find_ways, tell_way
+
+MOST_WAYS = 4     # that are offered
 
 
 def tell_rules(path: str, folder: Path | None = None) -> list[str]:
@@ -23,8 +27,16 @@ def tell_rules(path: str, folder: Path | None = None) -> list[str]:
         _, name, state, *fault = said.split()
         if state == "refused":
             lines += [said, *marked(text, *heads[name]), *tell_rule(rules[name], book.dimension, " ".join(fault)),
+                      *tell_ways(book, rules[name], " ".join(fault)),
                       *tell_example(book, rules[name], " ".join(fault), folder), ""]
     return lines[:-1]
+
+
+def tell_ways(book: Book, rule: Rule, fault: str) -> list[str]:
+    """The ways out that the program accepts, by how few letters they change."""
+    ways = find_ways(book, rule, fault)[:MOST_WAYS]
+    head = "Ways out, each tried and accepted, by how few letters it changes:"
+    return [head, *(f"  {at + 1}. {tell_way(rule, way)}" for at, way in enumerate(ways))] if ways else []
 
 
 def tell_example(book: Book, rule: Rule, fault: str, folder: Path | None) -> list[str]:
@@ -47,6 +59,4 @@ def write_example(found: Found, folder: Path) -> None:
     texts = {f"{name}.gmap": found.candidate.map.text(), f"{name}.gscript": script_text(found),
              f"{name}_after.gmap": text_after(found), f"{name}.svg": draw(found)}
     for file, text in texts.items():
-        beside = folder / f"{file}.new"
-        beside.write_text(text, encoding="utf-8")
-        beside.replace(folder / file)
+        write_whole(folder / file, text)

@@ -4,10 +4,11 @@ from pathlib import Path
 
 from gmr.books import Book, Rule
 from gmr.expressions import show
-from gmr.maps import WIDTHS, Map, Value, read_map
+from gmr.maps import WIDTHS, Map, Value
 from gmr.places import tell_place
 from gmr.program import answer
 from gmr.scripts import Statement, read_script, text_before
+from gmr.why.lazy import LazyMap
 
 
 def tell_script(path: str, text: str, book: Book, kind: str, place: int) -> list[str]:
@@ -63,26 +64,29 @@ class Prefixes:
     def __init__(self, amap: str, book: str, text: str, folder: Path) -> None:
         self.book, self.text, self.folder = book, text, folder
         self.statements = read_script(text)
+        self.kept: tuple[int, LazyMap] | None = None
         self.start = folder / "start.gmap"
         answer("migrate", amap, self.start)     # the second version keeps the next name
 
-    def run(self, text: str) -> tuple[list[str], Map]:
-        """The report of a script's text, and the map that it leaves."""
+    def run(self, text: str) -> tuple[list[str], LazyMap]:
+        """The report of a script's text, and the map that it leaves, of which rows are read when they are asked for."""
         script, out = self.folder / "before.gscript", self.folder / "before.gmap"
         script.write_bytes(text.encode("latin-1"))
         _, said = answer("run", self.start, self.book, script, out)
-        return said.splitlines(), read_map(out.read_text(encoding="ascii"))
+        return said.splitlines(), LazyMap(out.read_text(encoding="ascii"))
 
-    def before(self, at: int) -> Map:
-        """The map that a statement meets."""
-        return self.run(text_before(self.text, self.statements, at))[1]
+    def before(self, at: int) -> LazyMap:
+        """The map that a statement meets. The lines before it are run once, as long as no other is asked for."""
+        if self.kept is None or self.kept[0] != at:
+            self.kept = at, self.run(text_before(self.text, self.statements, at))[1]
+        return self.kept[1]
 
     def apart(self, at: int, most: int) -> tuple[int, list[tuple[int, list[str], Map]]]:
         """How many applications of an `each` are refused, and of the first of them the dart, the words of the cause,
         and the map that it met."""
         each, before = self.statements[at], text_before(self.text, self.statements, at)
         values = f" with {' '.join(map(show, each.values))}" if each.values else ""
-        leads = [orbit[0] for orbit in self.before(at).orbits(each.labels)]
+        leads = [orbit[0] for orbit in self.before(at).whole().orbits(each.labels)]
         lines = [f"\napply {each.rule} {lead}{values}" for lead in leads]
         said = [line.split() for line in self.run(before + "".join(lines))[0][-1 - len(leads):-1]]
         refused = [place for place, words in enumerate(said) if words[2] == "refused" and words[3] != "no-dart"]

@@ -2,9 +2,10 @@
 import tempfile
 from pathlib import Path
 
-from gmr.books import RESERVED
+from gmr.books import RESERVED, end_of_blank
 from gmr.places import tell_place, token_at, tokens_up_to
 from gmr.program import answer
+from gmr.scripts import STATEMENTS
 
 LIMITS = {
     "dimension": "a dimension is 1 to 7",
@@ -31,6 +32,7 @@ WORDS = {
     "BOOK": ["book", "dim", "embed", *KINDS, "bool", *sorted(RESERVED)],
     "SCRIPT": ["apply", "each", "undo", "redo", "group", "end", "with", "true", "false"],
 }
+NAMES = {"MAP": "a map", "BOOK": "a book", "SCRIPT": "a script"}
 MOST_BYTES = 1_000_000     # a longer text isn't asked what could stand at its place: each try reads it again
 
 
@@ -58,6 +60,13 @@ def what_may_stand(role: str, text: str, place: int) -> list[str]:
     return [{"n": "a name", "1": "a number"}.get(word, f"`{word}`") for word in allowed]
 
 
+def role_of(text: str) -> str | None:
+    """What a text is by its first word: a map, a book, a script, or none of them."""
+    first = token_at(text, end_of_blank(text, 0))
+    word = first.word if first else ""
+    return {"gmap": "MAP", "book": "BOOK"}.get(word) or ("SCRIPT" if word in STATEMENTS else None)
+
+
 def what_stands(text: str, place: int) -> str:
     """What stands at a place where no text goes on."""
     token = token_at(text, place)
@@ -74,6 +83,12 @@ def tell_text(role: str, path: str, text: str, place: int) -> list[str]:
     """Why no text of the role goes on with what stands at the place, and what could stand there."""
     token = token_at(text, place)
     lines = tell_place(path, text, place, token.end if token else place + 1)
+    other = role_of(text)
+    if other not in (None, role) and place <= end_of_blank(text, 0):
+        return lines + [f"{path} is {NAMES[other]}, and {NAMES[role]} is needed here: the files go MAP BOOK SCRIPT."]
+    if text[place:place + 1] == "." and text[place - 1:place].isdigit():
+        return lines + ["A decimal point stands here, and numbers are whole. `tools/mesh import --scale` multiplies "
+                        "coordinates by a number; in a rule write a division, as `x * 3 / 2`."]
     said = what_stands(text, place)
     may = what_may_stand(role, text, place) if place <= MOST_BYTES else []
     if may:
