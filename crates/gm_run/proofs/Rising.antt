@@ -1,14 +1,12 @@
 -- The next name falls in a run by an undo or a dropped group alone, since the maps that are remembered lie in order.
-use Rattle.std.proofs.Common.{◌≡◌, ◌≢◌, ℕ, zero, suc, ◌≤◌, Bool, true, false, List, [], ◌∷◌, Option, Some, None, refl, sym, ap, subst, ◌∙◌, arith, if◌then◌else◌}
+use Rattle.std.proofs.Common.{◌≡◌, ◌≢◌, ℕ, zero, suc, ◌≤◌, Bool, true, false, List, [], ◌∷◌, Option, Some, None, refl, sym, ap, subst, arith, if◌then◌else◌}
 use Rattle.std.specs.List.{count_by}
-use Rattle.std.specs.Option.{option_map}
 use Rattle.gm_model.specs.declared.value.Value.{Value}
 use Rattle.gm_model.specs.Statements.{Line, Stat}
-use Rattle.gm_model.specs.Histories.{Group, History, IsRedone, IsUndone, changed, past_behind}
+use Rattle.gm_model.specs.Histories.{Group, History}
 use Rattle.gm_model.specs.Maps.{Map}
 use Rattle.gm_model.specs.Rules.{Rule}
 use Rattle.gm_model.specs.Runs.{Outcome, Done, Refused, Skipped, Undone, Redone, NothingToUndo, NothingToRedo, Begun, Kept, Dropped, Each, Turn, Taken, Passed, State, AreTurns, IsLineOutcome, IsStep, IsDoneHere, IsRefusedHere, IsSkipped, GoesBack, HasNoPast, GoesForth, HasNoFuture, Begins, Ends, IsTakenBack, GoesOver, IsRun, behind_done, behind_each, is_done_turn, start_of}
-use Rattle.gm_theory.proofs.Lists.{none_some, some_same}
 
 -- ---- applications
 

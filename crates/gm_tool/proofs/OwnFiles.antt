@@ -1,5 +1,5 @@
 -- Files that are loaded one after another.
-use Rattle.std.proofs.Common.{◌≡◌, ◌⊎◌, ℕ, List, [], ◌∷◌, ◌++◌, inl, inr, refl, sym, ap, ◌∙◌, append-nil, append_assoc}
+use Rattle.std.proofs.Common.{◌≡◌, ℕ, List, [], ◌∷◌, ◌++◌, inl, inr, refl, sym, ap, ◌∙◌, append-nil, append_assoc}
 use Rattle.gm_tool.specs.OwnFiles.{LoadsFirst, LoadsAtMost}
 
 pub none_of : (before : List (List ℕ)) → LoadsFirst [] before before

@@ -1,5 +1,5 @@
 -- What contracts see of a history: the changes that applications made, one after another, by the rows of the darts that each changed.
-use Rattle.std.specs.Prelude.{ℕ, Bool, List, [], Option, None, refl}
+use Rattle.std.specs.Prelude.{ℕ, Bool, List, Option, refl}
 use Rattle.std.specs.Coded.{Coded, code_by, coded×, coded_ℕ, coded_bool, coded_list, coded_option}
 use Rattle.gm_arena.specs.ArenaMap.{Dart, dart_code}
 
