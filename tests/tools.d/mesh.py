@@ -11,16 +11,20 @@ from fractions import Fraction
 from pathlib import Path
 
 from gmr import maps, program
-from gmr.mesh.convert import Wish, make_map, make_mesh
-from gmr.mesh.formats import VOLUME_FORMATS, list_written, read_mesh, write_mesh, writes_volumes
-from gmr.mesh.model import Surface, Unfit, Volume, make_cell, make_polyhedron
-from gmr.mesh.scale import choose_scale, read_scale
+from gmr.arrays import read_arrays
+from gmr.mesh.convert import map_mesh, take_mesh
+from gmr.mesh.embeds import Colours, embed_plainly
+from gmr.mesh.formats import TRIANGLES, VOLUME_FORMATS, list_written, read_mesh, write_mesh, writes_volumes
+from gmr.mesh.model import Surface, Unfit, Volume, make_cell, make_polyhedron, place_points
+from gmr.mesh.scale import Frame, choose_scale, read_frame, scale_points
+from gmr.mesh.surface import Wish
+from gmr.mesh.weld import apply_weld, weld_alike
 
 ROOT = Path(__file__).resolve().parents[2]
 TOOL = ROOT / "tools" / "mesh"
 OPERATIONS = ROOT / "examples" / "operations"
 ONE = Fraction(1)
-FILE_COLOURS = Wish(colours=True)
+FILE_COLOURS = Colours(is_taken=True)
 
 # A house without a floor: four walls, two slopes of a roof and two gables, with a border of four edges below.
 # fmt: off
@@ -46,14 +50,14 @@ CELLS = [
 ]
 
 
-def house(**more: object) -> Surface:
+def house(faces: list[tuple[int, ...]] = HOUSE_FACES, **more: object) -> Surface:
     """The house."""
-    return Surface(points=[tuple(map(float, point)) for point in HOUSE_POINTS], faces=list(HOUSE_FACES), **more)
+    return Surface.of(points=HOUSE_POINTS, faces=faces, **more)
 
 
 def block() -> Volume:
     """The four cells."""
-    return Volume(points=[tuple(map(float, point)) for point in CELL_POINTS], cells=list(CELLS))
+    return Volume.of(points=[tuple(map(float, point)) for point in CELL_POINTS], cells=list(CELLS))
 
 
 def name_polygon(places: list[tuple]) -> tuple:
@@ -81,9 +85,21 @@ def assert_same(found: Surface | Volume, wanted: Surface | Volume) -> None:
     assert name_elements(found) == name_elements(wanted), "elements differ"
 
 
+def make_map(mesh: Surface | Volume, scale: Fraction, colours: Colours = Colours(), wish: Wish = Wish()) -> maps.Map:
+    """The map of a mesh at a scale."""
+    made, left, _ = map_mesh(mesh, scale_points(mesh, Frame(scale)).points, wish)
+    embed_plainly(made, left, colours, ())
+    return made.map()
+
+
+def make_mesh(given: maps.Map, scale: Fraction, has_cells: bool) -> Surface | Volume:
+    """The mesh of a map."""
+    return take_mesh(read_arrays(given.text().encode()), Frame(scale), has_cells).mesh
+
+
 def turn(mesh: Surface | Volume, has_cells: bool = True) -> Surface | Volume:
     """The mesh of the map of a mesh."""
-    scale = choose_scale(mesh.points)
+    scale = choose_scale(mesh.places)
     return make_mesh(maps.read_map(make_map(mesh, scale, FILE_COLOURS).text()), scale, has_cells)
 
 
@@ -120,19 +136,19 @@ def there_and_back(suffix: str, mesh: Surface | Volume) -> Surface | Volume:
 
 def test_surfaces_there_and_back():
     for suffix in list_written():
-        assert_same(there_and_back(suffix, house()), house())
+        if suffix not in TRIANGLES:
+            assert_same(there_and_back(suffix, house()), house())
 
 
 def test_polygons_there_and_back():
-    walls = house()
-    walls.faces = [(0, 1, 5, 8, 4), (2, 3, 7, 9, 6), (0, 1, 2, 3), (5, 6, 9, 8)]
+    walls = house([(0, 1, 5, 8, 4), (2, 3, 7, 9, 6), (0, 1, 2, 3), (5, 6, 9, 8)])
     for suffix in (".obj", ".off", ".ply", ".vtk", ".vtu"):
         assert_same(there_and_back(suffix, walls), walls)
 
 
 def test_volumes_there_and_back():
     for suffix in VOLUME_FORMATS:
-        without = Volume(points=block().points[:-2], cells=CELLS[:2])
+        without = Volume.of(points=block().points[:-2], cells=CELLS[:2])
         assert_same(there_and_back(suffix, without), without)
         if suffix != ".inp":
             assert_same(there_and_back(suffix, block()), block())
@@ -146,7 +162,7 @@ def test_cells_keep_their_corners_in_order():
 
 
 def test_cells_inside_out_are_turned():
-    mirrored = Volume(points=[(x, y, -z) for x, y, z in block().points], cells=CELLS)
+    mirrored = Volume.of(points=[(x, y, -z) for x, y, z in block().points], cells=CELLS)
     for cell, wanted in zip(turn(mirrored).cells, CELLS):
         assert cell.kind == wanted.kind
     assert_same(turn(mirrored), mirrored)
@@ -154,10 +170,10 @@ def test_cells_inside_out_are_turned():
 
 def test_polyhedra_there_and_back():
     roofed = make_polyhedron([*HOUSE_FACES, (0, 1, 2, 3)])
-    both = Volume(points=house().points, cells=[roofed])
+    both = Volume.of(points=house().points, cells=[roofed])
     assert_same(there_and_back(".vtu", both), both)
     assert name_elements(there_and_back(".vtk", both)) == name_elements(
-        Surface(points=both.points, faces=list(roofed.faces))
+        Surface.of(points=both.points, faces=list(roofed.faces))
     )
 
 
@@ -175,22 +191,21 @@ def test_faces_keep_their_order_and_direction():
 
 
 def test_faces_are_turned_one_way():
-    crooked = house()
-    crooked.faces[2] = crooked.faces[2][::-1]
+    crooked = house([*HOUSE_FACES[:2], HOUSE_FACES[2][::-1], *HOUSE_FACES[3:]])
     found = turn(crooked)
     sides = Counter(side for face in found.faces for side in zip(face, face[1:] + face[:1]))
     assert max(sides.values()) == 1, "two faces go along one side in the same direction"
 
 
 def test_a_band_that_is_turned_once():
-    band = Surface(
+    band = Surface.of(
         points=[(0.0, 0.0, 0.0), (1.0, 0.0, 0.0), (0.0, 1.0, 0.0), (1.0, 1.0, 1.0), (5.0, 5.0, 5.0)],
         faces=[(0, 1, 2), (1, 2, 3), (2, 3, 4), (3, 4, 0), (4, 0, 1)],
     )
     assert_same(turn(band), band)
 
 
-def test_stl_by_assimp():
+def test_stl():
     corners = [HOUSE_POINTS[at] for at in (0, 1, 4, 8)]
     facets = [(0, 1, 2), (0, 1, 3), (1, 2, 3), (2, 0, 3)]
     text = "solid s\n" + "".join(
@@ -200,13 +215,14 @@ def test_stl_by_assimp():
         for facet in facets
     )
     found = read_written("solid.stl", text + "endsolid s\n")
-    assert len(found.points) == 4, "corners at one place are one point"
-    assert_same(found, Surface(points=[tuple(map(float, corner)) for corner in corners], faces=facets))
+    found = apply_weld(found, weld_alike(found))
+    assert len(set(found.corners.tolist())) == 4, "corners at one place are one point"
+    assert name_elements(found) == name_elements(Surface.of(points=corners, faces=facets))
     assert all(dart != across for dart, across in make_map(found, Fraction(100)).alpha[2].items()), "it is closed"
 
 
 def test_two_fans_are_two_vertices():
-    fans = Surface(
+    fans = Surface.of(
         points=[(0.0, 0.0, 0.0), (1.0, 0.0, 0.0), (0.0, 1.0, 0.0), (-1.0, 0.0, 0.0), (0.0, -1.0, 0.0)],
         faces=[(0, 1, 2), (0, 3, 4)],
     )
@@ -252,7 +268,7 @@ def place(given: maps.Map) -> maps.Map:
 
 
 def test_points_in_the_plane_are_written_with_0():
-    made = make_map(Surface(points=house().points, faces=[(0, 1, 2)]), ONE)
+    made = make_map(Surface.of(points=house().points, faces=[(0, 1, 2)]), ONE)
     flat = maps.Map(
         2,
         2,
@@ -279,7 +295,7 @@ def test_scales_are_chosen():
         ((0, 0, 0), 1),
         ((1e12, 0, 0), 1),
     ):
-        assert choose_scale([tuple(map(float, values))]) == scale, values
+        assert choose_scale(place_points([values])) == scale, values
 
 
 def test_scales_are_told_kept_and_taken():
@@ -288,21 +304,22 @@ def test_scales_are_told_kept_and_taken():
         write_mesh(model, house(face_colours=HOUSE_COLOURS))
         said = run_tool("import", model, made, "--colours")
         assert (
-            said.stdout == "imported points 10 faces 8 darts 60 scale 100 colours faces\n" and said.returncode == 0
+            said.stdout == "imported points 10 faces 8 darts 60 scale 100 rounding 0 shared 0 unused 0 colours faces\n" and said.returncode == 0
         ), said
-        assert made.read_text().startswith("# scale 100\ngmap 2\n") and read_scale(made) == 100
+        assert made.read_text().startswith("# scale 100\ngmap 2\n") and read_frame(made).scale == 100
         assert program.put_or_refuse("show", made) == made.read_text().partition("\n")[2], "the comment is passed over"
-        assert run_tool("export", made, out).stdout == "exported points 10 faces 8\n"
+        assert run_tool("export", made, out).stdout == "exported points 10 faces 8 scale 100\n"
         assert_same(read_mesh(out), house())
         run_tool("export", made, out, "--scale", "50")
         assert read_mesh(out).points[1] == (8, 0, 0), "a scale that is given goes first"
         said = run_tool("import", model, made, "--scale", "1/2", "--no-check")
-        assert said.stdout == "imported points 10 faces 8 darts 60 scale 1/2\n" and read_scale(made) == Fraction(1, 2)
+        told = "imported points 10 faces 8 darts 60 scale 1/2 rounding 1 shared 0 unused 0\n"
+        assert said.stdout == told and read_frame(made).scale == Fraction(1, 2)
 
 
 def test_whole_numbers_of_any_size_are_written():
     most = 2**63 - 1
-    made = make_map(Surface(points=[(0.0, 0.0, 0.0), (1.0, 0.0, 0.0), (0.0, 1.0, 0.0)], faces=[(0, 1, 2)]), ONE)
+    made = make_map(Surface.of(points=[(0.0, 0.0, 0.0), (1.0, 0.0, 0.0), (0.0, 1.0, 0.0)], faces=[(0, 1, 2)]), ONE)
     made.values["pos"] = {dart: (most, *value[1:]) for dart, value in made.values["pos"].items()}
     with scratch() as folder:
         write_mesh(folder / "far.obj", make_mesh(made, ONE, False))
@@ -334,7 +351,7 @@ def test_fifty_thousand_triangles_take_five_seconds():
         corners = [row * (columns + 1) + column for row in range(rows) for column in range(columns)]
         behind = columns + 1
         halves = [((at, at + 1, at + behind), (at + 1, at + behind + 1, at + behind)) for at in corners]
-        write_mesh(model, Surface(points=points, faces=[half for both in halves for half in both]))
+        write_mesh(model, Surface.of(points=points, faces=[half for both in halves for half in both]))
         more = {"env": {**os.environ, "GMR": str(stand_in)}}
         took = seconds_of("import", model, made, **more), seconds_of("export", made, folder / "sheet.ply", **more)
         assert len(read_mesh(folder / "sheet.ply").faces) == 50_000 and max(took) < 5, took

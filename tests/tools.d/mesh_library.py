@@ -4,10 +4,9 @@ from functools import cache
 
 from gmr import maps, program
 from gmr.maps import Map
-from gmr.mesh.convert import make_map, make_mesh
 from gmr.mesh.formats import read_mesh, write_mesh
 from gmr.mesh.model import Unfit
-from mesh import ONE, OPERATIONS, place, scratch
+from mesh import ONE, OPERATIONS, make_map, make_mesh, place, scratch
 
 # How many operations of each book are run at least; the others' maps are empty or open, or have faces of two corners.
 FEWEST_RUN = {"dimension2": 44, "dimension3": 26, "values2": 33, "values3": 16}

@@ -3,7 +3,7 @@ import struct
 from fractions import Fraction
 
 from gmr import maps
-from gmr.mesh.convert import Wish, make_map
+from gmr.mesh.embeds import Colours
 from gmr.mesh.formats import read_mesh
 from gmr.mesh.model import Volume
 from mesh import (
@@ -13,6 +13,7 @@ from mesh import (
     OPERATIONS,
     block,
     house,
+    make_map,
     read_written,
     scratch,
     there_and_back,
@@ -38,9 +39,8 @@ def test_off_forms():
     coloured = read_written(
         "c.off", "COFF\n3 1 3\n0 0 0 255 0 0 255\n1 0 0 0 255 0 255\n0 1 0 0 0 255 255\n3 0 1 2 0.5 0 1\n"
     )
-    assert coloured.point_colours == [(255, 0, 0), (0, 255, 0), (0, 0, 255)] and coloured.face_colours == [
-        (128, 0, 255)
-    ]
+    assert coloured.point_colours.tolist() == [[255, 0, 0], [0, 255, 0], [0, 0, 255]]
+    assert coloured.face_colours.tolist() == [[128, 0, 255]]
 
 
 def test_ply_binary():
@@ -56,7 +56,7 @@ def test_ply_binary():
         assert (
             found.points == [(0, 0, 0), (0.1, 0, 0), (0, 16777215, 0)]
             and found.faces == [(0, 1, 2)]
-            and found.face_colours == [(9, 8, 7)]
+            and found.face_colours.tolist() == [[9, 8, 7]]
         )
 
 
@@ -73,27 +73,24 @@ def test_polygons_of_a_volume_are_passed_over():
 
 def test_colours_there_and_back():
     for suffix in (".ply", ".off"):
-        assert there_and_back(suffix, house(face_colours=HOUSE_COLOURS)).face_colours == HOUSE_COLOURS
+        found = there_and_back(suffix, house(face_colours=HOUSE_COLOURS))
+        assert list(map(tuple, found.face_colours.tolist())) == HOUSE_COLOURS
     by_point = [(9, place, 255) for place in range(len(HOUSE_POINTS))]
     found = there_and_back(".ply", house(point_colours=by_point))
     assert (
-        dict(zip(found.points, found.point_colours)) == dict(zip(house().points, by_point))
+        dict(zip(found.points, map(tuple, found.point_colours.tolist()))) == dict(zip(house().points, by_point))
         and found.face_colours is None
     )
 
 
 def test_colours_of_obj():
     text = "v 0 0 0 1 0 0\nv 1 0 0 0 1 0\nv 0 1 0 0 0 0.5\nv 1 1 0 0 0 1\n"
-    assert read_written("a.obj", text + "f 1 2 3\n").point_colours == [
-        (255, 0, 0),
-        (0, 255, 0),
-        (0, 0, 128),
-        (0, 0, 255),
-    ]
+    found = read_written("a.obj", text + "f 1 2 3\n").point_colours
+    assert found.tolist() == [[255, 0, 0], [0, 255, 0], [0, 0, 128], [0, 0, 255]]
     with scratch() as folder:
         (folder / "m.mtl").write_text("newmtl red one\nKa 0 0 0\nKd 1 0 0\nnewmtl blue\nKd 0 0 1\n")
         (folder / "b.obj").write_text("mtllib m.mtl\n" + text + "usemtl red one\nf 1 2 3\nusemtl blue\nf 2 3 4\n")
-        assert read_mesh(folder / "b.obj").face_colours == [(255, 0, 0), (0, 0, 255)]
+        assert read_mesh(folder / "b.obj").face_colours.tolist() == [[255, 0, 0], [0, 0, 255]]
 
 
 def test_colours_of_a_map():
@@ -104,8 +101,8 @@ def test_colours_of_a_map():
 
 def test_paint_as_the_library_has_it():
     for name, mesh in (("values2", house()), ("values3", block())):
-        made = make_map(mesh, Fraction(100), Wish(paint=(1, 2, 3)))
+        made = make_map(mesh, Fraction(100), Colours(paint=(1, 2, 3)))
         wanted = maps.read_map((OPERATIONS / name / f"move_vertex_{made.dimension}d" / "before.gmap").read_text())
         assert made.embeds == wanted.embeds and set(made.values["paint"].values()) == {(1, 2, 3)}
-    made = make_map(house(face_colours=HOUSE_COLOURS), Fraction(100), Wish(paint=(1, 2, 3)))
+    made = make_map(house(face_colours=HOUSE_COLOURS), Fraction(100), Colours(paint=(1, 2, 3)))
     assert made.values["paint"][8] == HOUSE_COLOURS[1], "the file's colours go first"

@@ -5,40 +5,53 @@ import tempfile
 from dataclasses import replace
 from pathlib import Path
 
-from gmr.errors import Missing
-from gmr.mesh.model import Point, Surface, Unfit
-from gmr.mesh.ply import read_ply, shorten
+from gmr import program
+from gmr.mesh.model import Surface, Unfit
+from gmr.mesh.ply import read_ply
+
+LINE_ENDS = 2  # corners of what is no face, but a line or a point
+
+
+def find_assimp() -> str:
+    """The program; where it is missing, one line says what to install."""
+    found = shutil.which("assimp")
+    if found is None:
+        program.fail("the program assimp is missing: apt-get install assimp-utils")
+    return found
 
 
 def read_by_assimp(path: Path) -> Surface:
-    """The surface of a file. Its points are those places where corners lie: corners at one place are one point."""
-    found = shutil.which("assimp")
-    if found is None:
-        raise Missing("the program assimp is missing: apt-get install assimp-utils")
+    """The surface of a file, whose points have no numbers. Lines and points are passed over and counted."""
+    found = find_assimp()
     with tempfile.TemporaryDirectory() as scratch:
         turned = Path(scratch) / "turned.ply"
-        done = subprocess.run([found, "export", path, turned, "-fply"], capture_output=True, check=False)
+        words = [found, "export", path.absolute(), turned, "-fplyb"]
+        done = subprocess.run(words, capture_output=True, check=False, stdin=subprocess.DEVNULL)
         if done.returncode != 0 or not turned.exists():
             raise Unfit(f"Assimp can't read it: {last_line(done.stdout + done.stderr, done.returncode)}")
-        return merge_places(read_ply(turned))
+        try:
+            return pass_over_lines(replace(read_ply(turned), has_numbers=False))
+        except Unfit as unfit:
+            raise Unfit(f"what Assimp makes of it is no surface: {unfit}") from None
+
+
+def pass_over_lines(surface: Surface) -> Surface:
+    """The surface without what has one corner or two, which is a line or a point for Assimp."""
+    is_face = surface.sizes > LINE_ENDS
+    if is_face.all():
+        return surface
+    passed = {"points": int((surface.sizes == 1).sum()), "lines": int((surface.sizes == LINE_ENDS).sum())}
+    return replace(
+        surface,
+        corners=surface.corners[is_face.repeat(surface.sizes)],
+        sizes=surface.sizes[is_face],
+        face_colours=None if surface.face_colours is None else surface.face_colours[is_face],
+        names=is_face.nonzero()[0],
+        passed={name: count for name, count in passed.items() if count},
+    )
 
 
 def last_line(said: bytes, status: int) -> str:
     """What the program said last, or its status."""
     lines = said.decode("utf-8", "replace").split("\n")
     return next((line.strip() for line in reversed(lines) if line.strip()), f"it ended with status {status}")
-
-
-def merge_places(surface: Surface) -> Surface:
-    """The surface whose points are the places of the other's, each once."""
-    numbers: dict[Point, int] = {}
-    merged = []
-    for x, y, z in surface.points:
-        place = (shorten(x) + 0.0, shorten(y) + 0.0, shorten(z) + 0.0)  # no minus before 0
-        merged.append(numbers.setdefault(place, len(numbers)))
-    faces = [tuple([merged[corner] for corner in face]) for face in surface.faces]
-    colours = None
-    if surface.point_colours:
-        by_point = dict(zip(reversed(merged), reversed(surface.point_colours)))
-        colours = [by_point[index] for index in range(len(numbers))]
-    return replace(surface, points=list(numbers), has_numbers=False, faces=faces, point_colours=colours)

@@ -1,208 +1,244 @@
 """Meshes in the Stanford format, PLY, as text or binary: read with their colours, and written as text."""
-import struct
-from collections.abc import Iterator
+from itertools import chain
 from pathlib import Path
 from typing import NamedTuple
 
-from gmr.mesh.model import Colour, Point, Surface, Unfit, mix_colour, tell_point_line
+import numpy as np
+
+from gmr.mesh.decimals import Decimals, Whole, parse_words, shorten, stack
+from gmr.mesh.model import Surface, Unfit, mix_colours
+from gmr.mesh.ply_rows import Column, Element, Property, read_binary_table
+from gmr.mesh.printed import print_faces, print_points
+from gmr.mesh.texts import number_words, parse_whole, show_words, split_lines
 
 TYPES = {
-    "char": "b", "int8": "b", "uchar": "B", "uint8": "B", "short": "h", "int16": "h", "ushort": "H", "uint16": "H",
-    "int": "i", "int32": "i", "uint": "I", "uint32": "I", "float": "f", "float32": "f", "double": "d", "float64": "d",
-}  # fmt: skip
+    "char": "i1", "int8": "i1", "uchar": "u1", "uint8": "u1", "short": "i2", "int16": "i2", "ushort": "u2",
+    "uint16": "u2", "int": "i4", "int32": "i4", "uint": "u4", "uint32": "u4", "float": "f4", "float32": "f4",
+    "double": "f8", "float64": "f8",
+}
 ORDERS = {"ascii": "", "binary_little_endian": "<", "binary_big_endian": ">"}
 CORNERS = ("vertex_indices", "vertex_index")
 CHANNELS = ("red", "green", "blue")
+Table = dict[str, Column]
 
 
-class Property(NamedTuple):
-    """A property of an element: its name, its type, and that of its length where it is a list."""
+class Head(NamedTuple):
+    """What a file tells before its rows: the order of bytes, empty for text, its elements, and how many lines it has."""
 
-    name: str
-    code: str
-    length: str | None
-
-
-class Element(NamedTuple):
-    """An element of the head: its name, how many there are, and their properties."""
-
-    name: str
-    count: int
-    properties: list[Property]
+    order: str
+    elements: list[Element]
+    lines: int
 
 
 def read_ply(path: Path) -> Surface:
     """The surface of a file. Points and faces are counted from 0, and all but points, faces and colours passed over."""
-    head, mark, body = path.read_bytes().partition(b"end_header")
-    if not mark:
+    data = path.read_bytes()
+    text, mark, body = data.partition(b"end_header")
+    if not data.startswith(b"ply") or not mark:
+        raise Unfit("this is no PLY: it doesn't begin with ply, or its head has no end")
+    end, body = take_line(body)
+    head = read_head(text.decode("ascii", "replace"))
+    check_head(head.elements)
+    tables, lines = read_binary(body, head) if head.order else read_text(body, head)
+    surface = make_surface(tables)
+    if lines:
+        surface.lines, surface.point_lines = lines.get("face"), lines.get("vertex")
+    edges = next((element.count for element in head.elements if element.name == "edge"), 0)
+    surface.passed = {"lines": edges} if edges else {}
+    return surface
+
+
+def take_line(body: bytes) -> tuple[bytes, bytes]:
+    """The rest of a line that ends with one of the three ends of lines, and what stands after it."""
+    for end in (b"\r\n", b"\n", b"\r"):
+        if body.startswith(end):
+            return end, body[len(end):]
+    line, end, rest = body.partition(b"\n")
+    if line.strip() or not end:
         raise Unfit("this is no PLY: its head has no end")
-    order, elements = read_head(head.decode("ascii", "replace"))
-    body = body[body.index(b"\n") + 1 :] if b"\n" in body else b""
-    try:
-        tables = dict(read_text_tables(body, elements) if not order else read_binary_tables(body, elements, order))
-    except (struct.error, ValueError, IndexError, StopIteration, RuntimeError):
-        raise Unfit("PLY ends early, or has something other than a number where its head tells of one") from None
-    return make_surface(elements, tables)
+    return end, rest
 
 
-def read_head(text: str) -> tuple[str, list[Element]]:
-    """The order of bytes, empty for text, and the elements that the head tells of."""
+def read_head(text: str) -> Head:
+    """What the head of a file tells."""
     order: str | None = None
     elements: list[Element] = []
-    for words in filter(None, map(str.split, text.split("\n")[1:])):
+    lines = text.replace("\r\n", "\n").replace("\r", "\n").split("\n")
+    for words in filter(None, map(str.split, lines[1:])):
         try:
             if words[0] == "format":
                 order = ORDERS[words[1]]
             elif words[0] == "element":
-                elements.append(Element(words[1], int(words[2]), []))
+                elements.append(Element(words[1], int(words[2]) if words[2].isascii() else int("?"), []))
             elif words[:2] == ["property", "list"]:
                 elements[-1].properties.append(Property(words[4], TYPES[words[3]], TYPES[words[2]]))
             elif words[0] == "property":
                 elements[-1].properties.append(Property(words[2], TYPES[words[1]], None))
+            elif words[0] not in ("comment", "obj_info"):
+                raise KeyError
+            if words[0] == "element" and (elements[-1].count < 0 or "_" in words[2]):
+                raise KeyError
         except (IndexError, KeyError, ValueError):
             raise Unfit(f"PLY has a line in its head that isn't understood: {' '.join(words)}") from None
-    if order is None or not text.startswith("ply"):
+    if order is None:
         raise Unfit("this is no PLY: its head doesn't tell its format")
-    return order, elements
+    return Head(order, elements, len(lines))
 
 
-def read_text_tables(body: bytes, elements: list[Element]) -> Iterator[tuple[str, list[tuple]]]:
-    """The rows of each element of a text, a value for each property, which is a tuple for a list."""
-    lines = iter([words for words in map(bytes.split, body.split(b"\n")) if words])
-    for element in elements:
-        rows = []
-        casts = [float if item.code in "fd" else int for item in element.properties]
-        if any(item.length for item in element.properties):
-            for _ in range(element.count):
-                rows.append(tuple(read_text_row(next(lines), element.properties, casts)))
-        else:
-            for _ in range(element.count):
-                rows.append(tuple(cast(word) for cast, word in zip(casts, next(lines), strict=True)))
-        yield element.name, rows
-
-
-def read_text_row(words: list[bytes], properties: list[Property], casts: list[type]) -> Iterator[object]:
-    """The values of a row that has lists."""
-    place = 0
-    for item, cast in zip(properties, casts):
-        length = int(words[place]) if item.length else 1
-        place += 1 if item.length else 0
-        if place + length > len(words):
-            raise ValueError("the row ends early")
-        values = tuple(map(cast, words[place : place + length]))
-        place += length
-        yield values if item.length else values[0]
-
-
-def read_binary_tables(body: bytes, elements: list[Element], order: str) -> Iterator[tuple[str, list[tuple]]]:
-    """The same of a binary file."""
-    place = 0
-    for element in elements:
-        if any(item.length for item in element.properties):
-            rows = []
-            for _ in range(element.count):
-                row, place = read_binary_row(body, place, element.properties, order)
-                rows.append(row)
-        else:
-            form = struct.Struct(order + "".join(item.code for item in element.properties))
-            behind = place + form.size * element.count
-            if behind > len(body):
-                raise ValueError("the file ends early")
-            rows = list(form.iter_unpack(body[place:behind])) if form.size else []
-            place = behind
-            rows = shorten_columns(rows, element.properties)
-        yield element.name, rows
-
-
-def read_binary_row(body: bytes, place: int, properties: list[Property], order: str) -> tuple[tuple, int]:
-    """The values of a row that has lists, and the place behind it."""
-    values: list[object] = []
-    for item in properties:
-        if item.length is None:
-            form = order + item.code
-            values.append(struct.unpack_from(form, body, place)[0])
-        else:
-            (length,) = struct.unpack_from(order + item.length, body, place)
-            place += struct.calcsize(order + item.length)
-            form = f"{order}{length}{item.code}"
-            values.append(struct.unpack_from(form, body, place))
-        place += struct.calcsize(form)
-    return tuple(values), place
-
-
-def shorten_columns(rows: list[tuple], properties: list[Property]) -> list[tuple]:
-    """The rows with each number of 32 bits as the shortest decimal fraction that stands for it."""
-    columns = list(zip(*rows))
-    for place, item in enumerate(properties):
-        if item.code == "f" and columns:
-            columns[place] = tuple(map(shorten, columns[place]))
-    return list(zip(*columns))
-
-
-def shorten(value: float) -> float:
-    """The shortest decimal fraction that stands for the same number of 32 bits."""
-    try:
-        packed = struct.pack("f", value)
-    except OverflowError:
-        return value
-    for digits in (6, 7, 8):
-        short = float(f"{value:.{digits}g}")
-        if struct.pack("f", short) == packed:
-            return short
-    return float(f"{value:.9g}")
-
-
-def make_surface(elements: list[Element], tables: dict[str, list[tuple]]) -> Surface:
-    """The surface of the rows of points and faces."""
+def check_head(elements: list[Element]) -> None:
+    """Unfit where the head doesn't tell of points and faces."""
     names = {element.name: [item.name for item in element.properties] for element in elements}
+    lists = {item.name for element in elements if element.name == "face" for item in element.properties if item.length}
     if not {"x", "y", "z"} <= set(names.get("vertex", [])):
         raise Unfit("PLY has no points with x, y and z")
-    corners = next((names["face"].index(name) for name in CORNERS if name in names.get("face", [])), None)
-    if corners is None:
+    if not lists & set(CORNERS):
         raise Unfit("PLY has no faces with the points at their corners")
-    codes = {element.name: {item.name: item.code for item in element.properties} for element in elements}
-    places = [names["vertex"].index(name) for name in "xyz"]
-    points: list[Point] = [
-        (float(row[places[0]]), float(row[places[1]]), float(row[places[2]])) for row in tables["vertex"]
-    ]
+
+
+def read_text(body: bytes, head: Head) -> tuple[dict[str, Table], dict[str, list[int]]]:
+    """The columns of each element of a text, and the lines on which its rows stand."""
+    rows, numbers = number_words(split_lines(body, b""))
+    tables: dict[str, Table] = {}
+    lines: dict[str, list[int]] = {}
+    place = 0
+    for element in head.elements:
+        behind = place + (element.count if element.properties else 0)
+        if behind > len(rows):
+            raise Unfit(f"PLY tells of {element.count} elements {element.name} and has {len(rows) - place}: "
+                        "it is cut off")
+        lines[element.name] = [number + head.lines for number in numbers[place:behind]]
+        tables[element.name] = read_text_table(rows[place:behind], element, lines[element.name])
+        place = behind
+    if place < len(rows):
+        raise Unfit(f"PLY has more after the last element that its head tells of, on line {numbers[place] + head.lines}: "
+                    f"{show_words(rows[place][:8])}")
+    return tables, lines
+
+
+def read_text_table(rows: list[list[bytes]], element: Element, lines: list[int]) -> Table:
+    """The columns of an element: of numbers, or of lists of them."""
+    table: Table = {}
+    at = [0] * len(rows)
+    has_lists = False
+    try:
+        for item in element.properties:
+            if item.length is None:
+                words = [row[place] for row, place in zip(rows, at)] if has_lists else [row[at[0]] for row in rows]
+                table[item.name] = Column(cast_words(words, item), None)
+                at = [place + 1 for place in at] if has_lists or not rows else [at[0] + 1] * len(rows)
+            else:
+                has_lists = True
+                sizes, wrong = parse_whole([row[place] for row, place in zip(rows, at)])
+                if wrong is not None or (sizes < 0).any():
+                    raise ValueError(wrong or 0)
+                ends = [place + 1 + size for place, size in zip(at, sizes.tolist())]
+                parts = [row[place + 1: end] for row, place, end in zip(rows, at, ends)]
+                table[item.name] = Column(cast_words(list(chain.from_iterable(parts)), item), sizes)
+                at = ends
+        short = next((index for index, (row, end) in enumerate(zip(rows, at)) if len(row) != end), None)
+        if short is not None:
+            raise ValueError(short)
+    except (IndexError, ValueError):
+        raise Unfit(tell_wrong_row(rows, element, lines)) from None
+    return table
+
+
+def tell_wrong_row(rows: list[list[bytes]], element: Element, lines: list[int]) -> str:
+    """The line for the first row that isn't as the head tells."""
+    for index, row in enumerate(rows):
+        place = 0
+        for item in element.properties:
+            count = 1
+            if item.length:
+                size, wrong = parse_whole(row[place: place + 1])
+                count = int(size[0]) if wrong is None and len(size) else -1
+                place += 1
+            _, is_wrong = parse_words(row[place: place + max(count, 0)])
+            if count < 0 or place + count > len(row) or is_wrong.any():
+                return f"{element.name} {index} (line {lines[index]}) isn't as the head tells: {show_words(row[:8])}"
+            place += count
+        if place != len(row):
+            return f"{element.name} {index} (line {lines[index]}) has {len(row)} numbers, and not {place}"
+    return f"{element.name} has a number that isn't as the head tells"
+
+
+def cast_words(words: list[bytes], item: Property) -> Decimals | Whole:
+    """The numbers of words: decimals where the property has fractions, and whole ones else."""
+    if item.code.startswith("f"):
+        numbers, is_wrong = parse_words(words)
+        if is_wrong.any():
+            raise ValueError
+        return numbers
+    whole, wrong = parse_whole(words)
+    if wrong is not None:
+        raise ValueError
+    return whole
+
+
+def read_binary(body: bytes, head: Head) -> tuple[dict[str, Table], None]:
+    """The columns of each element of a binary file."""
+    tables: dict[str, Table] = {}
+    place = 0
+    for element in head.elements:
+        tables[element.name], place = read_binary_table(body, place, element, head.order)
+    if body[place:].strip():
+        raise Unfit(f"PLY has {len(body) - place} bytes after the last element that its head tells of")
+    return tables, None
+
+
+def make_surface(tables: dict[str, Table]) -> Surface:
+    """The surface of the columns of points and faces."""
+    vertex, face = tables["vertex"], tables["face"]
+    axes = [as_decimals(vertex[axis].numbers) for axis in "xyz"]
+    places = stack(axes)
+    corners = next(face[name] for name in CORNERS if name in face)
+    whole = corners.numbers if isinstance(corners.numbers, np.ndarray) else corners.numbers.floats().astype(np.int64)
+    assert corners.sizes is not None
     return Surface(
-        points=points,
-        faces=[row[corners] for row in tables["face"]],
-        face_colours=read_colours(names["face"], codes["face"], tables["face"]),
-        point_colours=read_colours(names["vertex"], codes["vertex"], tables["vertex"]),
+        places=places,
+        corners=whole.astype(np.int64),
+        sizes=corners.sizes,
+        face_colours=read_colours(face),
+        point_colours=read_colours(vertex),
     )
 
 
-def read_colours(names: list[str], codes: dict[str, str], rows: list[tuple]) -> list[Colour] | None:
-    """The colours of the rows, or None where they have none."""
+def as_decimals(numbers: Decimals | Whole) -> Decimals:
+    """A column as decimals."""
+    return numbers if isinstance(numbers, Decimals) else shorten(numbers.astype(np.float64))
+
+
+def read_colours(table: Table) -> Whole | None:
+    """The colours of an element, or None where it has none."""
     for channels in (CHANNELS, tuple(f"diffuse_{channel}" for channel in CHANNELS)):
-        if set(channels) <= set(names):
-            red, green, blue = map(names.index, channels)
-            parts = [(row[red], row[green], row[blue]) for row in rows]
-            return list(map(mix_colour, parts)) if codes[channels[0]] in "fd" else parts
+        if set(channels) <= set(table):
+            parts = [table[channel].numbers for channel in channels]
+            if isinstance(parts[0], np.ndarray):
+                return np.clip(np.stack([np.asarray(part) for part in parts], 1), 0, 255).astype(np.int64)
+            return mix_colours(np.stack([as_decimals(part).floats() for part in parts], 1))
     return None
 
 
 def write_ply(path: Path, surface: Surface) -> None:
     """Writes the surface as text, with the colours that it has."""
     channels = "".join(f"property uchar {channel}\n" for channel in CHANNELS)
-    most = max(map(len, surface.faces), default=0)
-    path.write_text(
-        f"ply\nformat ascii 1.0\nelement vertex {len(surface.points)}\n"
+    most = int(surface.sizes.max(initial=0))
+    head = (
+        f"ply\nformat ascii 1.0\nelement vertex {len(surface.places)}\n"
         + "".join(f"property double {axis}\n" for axis in "xyz")
-        + (channels if surface.point_colours else "")
-        + f"element face {len(surface.faces)}\nproperty list {'uchar' if most < 256 else 'int'} int vertex_indices\n"
-        + (channels if surface.face_colours else "")
+        + (channels if surface.point_colours is not None else "")
+        + f"element face {len(surface.sizes)}\nproperty list {'uchar' if most < 256 else 'int'} int vertex_indices\n"
+        + (channels if surface.face_colours is not None else "")
         + "end_header\n"
-        + "".join(tell_rows(map(tell_point_line, surface.points), surface.point_colours))
-        + "".join(
-            tell_rows((f"{len(face)} {' '.join(map(str, face))}" for face in surface.faces), surface.face_colours)
-        )
+    )
+    heads = [b"%d " % size for size in surface.sizes.tolist()]
+    path.write_bytes(
+        head.encode()
+        + print_points(surface.places, tails=tell_colours(surface.point_colours))
+        + print_faces(surface.corners, surface.sizes, heads, tell_colours(surface.face_colours))
     )
 
 
-def tell_rows(rows: Iterator[str], colours: list[Colour] | None) -> Iterator[str]:
-    """The lines of the rows, each with its colour behind."""
-    if colours is None:
-        return (f"{row}\n" for row in rows)
-    return (f"{row} {red} {green} {blue}\n" for row, (red, green, blue) in zip(rows, colours))
+def tell_colours(colours: Whole | None) -> list[bytes] | None:
+    """Colours as they stand after a point or a face."""
+    return None if colours is None else [b" %d %d %d" % tuple(colour) for colour in colours.tolist()]

@@ -1,16 +1,39 @@
-"""Surfaces of polygons as maps of dimension 2, and the faces of maps as polygons."""
-from collections.abc import Iterable, Iterator, Sequence
-from fractions import Fraction
+"""Surfaces of polygons as maps of dimension 2."""
+from __future__ import annotations
 
-from gmr.maps import MOST_DARTS, Embed, Map, walk
-from gmr.mesh.model import Colour, Mesh, Paint, Polygon, Surface, Unfit
-from gmr.mesh.scale import Whole, unscale_points
+from dataclasses import dataclass, field, replace
+
+import numpy as np
+
+from gmr.maps import MOST_DARTS
+from gmr.mesh.decimals import Whole
+from gmr.mesh.mapped import Mapped
+from gmr.mesh.model import Bools, Mesh, Surface, Unfit, next_corners, tell_more
 
 FEWEST_CORNERS = 3
 MOST_TOLD = 10  # elements that a line of a refusal names
+DROP, CUT, WELD = "--drop leaves it out", "--cut leaves it open", "--weld 0 --drop mends it"
+TAKE = "--drop leaves it out, and --cut takes it as it is"
 
 
-def make_surface_map(surface: Surface, points: list[Whole], paint: Paint | None) -> Map:
+@dataclass
+class Wish:
+    """What is forgiven of a mesh: whether degenerate elements are left out and crowded edges or faces left open."""
+
+    drop: bool = False
+    cut: bool = False
+
+
+@dataclass
+class Done:
+    """What was done to a mesh so that it has a map: the elements that are kept, by their numbers in the file, and how
+    many corners, edges and faces were touched."""
+
+    kept: Whole
+    told: dict[str, int] = field(default_factory=dict)
+
+
+def make_surface_map(surface: Surface, points: Whole) -> Mapped:
     """The map of a surface, its points scaled: two darts for each side of a face, in the order of the file.
 
     The k-th side of a face leads from its k-th corner to the next. Its first dart lies at the one, the second at the
@@ -18,130 +41,143 @@ def make_surface_map(surface: Surface, points: list[Whole], paint: Paint | None)
     has no map: a face with fewer than three corners, with a point twice, or with a side of no length, and an edge of
     more than two faces.
     """
-    check_faces(surface)
-    check_lengths(surface, points)
-    sides = Sides(surface.faces)
-    across = list(range(sides.count))
-    join_edges(surface, sides, across)
-    embeds = [Embed("pos", (1, 2), "vec3")]
-    columns: list[Sequence] = [[points[end] for end in sides.ends]]
-    if paint:
-        embeds.append(paint.embed())
-        sizes = [2 * len(face) for face in surface.faces]
-        columns.append(
-            spread(paint.colours, sizes) if 0 in paint.labels else [paint.colours[end] for end in sides.ends]
-        )
-    return number_map(2, embeds, [sides.along(), sides.around(), across], columns)
+    return map_surface(surface, points, Wish())[0]
 
 
-def spread(colours: list[Colour], sizes: Iterable[int]) -> list[Colour]:
-    """Each colour as many times as its element has darts."""
-    return [colour for colour, size in zip(colours, sizes) for _ in range(size)]
+def map_surface(surface: Surface, points: Whole, wish: Wish) -> tuple[Mapped, Surface, Done]:
+    """The map, the surface that it is of, and what was done to the one that was given."""
+    check_corners(surface)
+    surface, done = drop_faces(surface, points, wish) if wish.drop else (surface, Done(np.arange(len(surface.sizes))))
+    if not len(surface.sizes):
+        raise Unfit("it has no faces" + (" that aren't degenerate" if len(done.told) else ""))
+    check_size(2 * len(surface.corners))
+    check_faces(surface, points, wish)
+    across, crowded = join_sides(surface)
+    if len(crowded):
+        if not wish.cut:
+            raise Unfit(tell_crowded_edge(surface, crowded))
+        done.told["cut"] = len(np.unique(edge_keys(surface)[crowded]))
+    following = next_corners(surface.sizes)
+    count = 2 * len(surface.corners)
+    around = np.empty(count, np.int64)
+    around[1::2] = 2 * following
+    around[2 * following] = np.arange(1, count, 2)
+    ends = np.empty(count, np.int64)
+    ends[0::2], ends[1::2] = surface.corners, surface.corners[following]
+    faces = np.repeat(np.arange(len(surface.sizes)), 2 * surface.sizes)
+    return Mapped(2, np.stack([np.arange(count) ^ 1, around, across]), ends, points, faces), surface, done
 
 
-def number_map(dimension: int, embeds: list[Embed], alpha: list[list[int]], columns: list[Sequence]) -> Map:
-    """The map whose darts are numbered from 0, with these neighbours and values by their numbers."""
-    count = len(alpha[0])
-    values = {embed.name: dict(enumerate(column)) for embed, column in zip(embeds, columns)}
-    return Map(2, dimension, embeds, count, list(range(count)), [dict(enumerate(step)) for step in alpha], values)
+def check_size(count: int) -> None:
+    """Unfit where a map can't have so many darts."""
+    # With so few darts, neither the names nor the bytes of a map's file come near their own limits.
+    if count > MOST_DARTS:
+        raise Unfit(f"it needs {count} darts, and a map has at most {MOST_DARTS}")
 
 
-class Sides:
-    """The darts of polygons, side by side: those of the k-th side of a face whose first dart is d are d + 2k, at its
-    k-th corner, and d + 2k + 1, at the next."""
-
-    def __init__(self, faces: Iterable[Polygon]) -> None:
-        self.faces = list(faces)
-        self.count = 2 * sum(map(len, self.faces))
-        # With so few darts, neither the names nor the bytes of a map's file come near their own limits.
-        if self.count > MOST_DARTS:
-            raise Unfit(f"it needs {self.count} darts, and a map has at most {MOST_DARTS}")
-        self.ends: list[int] = []  # by dart, the point at which it lies
-        for face in self.faces:
-            self.ends += [end for side in zip(face, face[1:] + face[:1]) for end in side]
-
-    def along(self) -> list[int]:
-        """The neighbours along 0: the other dart of the side."""
-        return [dart ^ 1 for dart in range(self.count)]
-
-    def around(self) -> list[int]:
-        """The neighbours along 1: the dart of the next side at the same corner."""
-        found, begin = list(range(self.count)), 0
-        for face in self.faces:
-            behind = begin + 2 * len(face)
-            found[begin + 1 : behind : 2] = [*range(begin + 2, behind, 2), begin]
-            found[begin:behind:2] = [behind - 1, *range(begin + 1, behind - 1, 2)]
-            begin = behind
-        return found
-
-    def begins(self) -> Iterator[int]:
-        """The first dart of each face."""
-        begin = 0
-        for face in self.faces:
-            yield begin
-            begin += 2 * len(face)
+def face_of_corner(surface: Surface, place: int) -> int:
+    """The face to which a corner belongs."""
+    return int(np.searchsorted(np.cumsum(surface.sizes), place, side="right"))
 
 
-def check_faces(surface: Surface) -> None:
-    """Unfit where there are no faces, or one has too few corners, a point twice, or one that isn't there."""
-    if not surface.faces:
+def check_corners(surface: Surface) -> None:
+    """Unfit where there are no faces, or one has a corner that isn't there."""
+    if not len(surface.sizes):
         raise Unfit("it has no faces")
-    count = len(surface.points)
-    for index, face in enumerate(surface.faces):
-        if len(face) < FEWEST_CORNERS:
-            raise Unfit(f"face {surface.tell_element(index)} has {len(face)} corners, and a polygon has three or more")
-        if min(face) < 0 or max(face) >= count:
-            worst = next(corner for corner in face if not 0 <= corner < count)
-            raise Unfit(
-                f"face {surface.tell_element(index)} has the corner {worst + surface.first}, and there is no such point"
-            )
-        if len(set(face)) < len(face):
-            twice = next(corner for corner in face if face.count(corner) > 1)
-            raise Unfit(f"face {surface.tell_element(index)} has the point {surface.tell_point(twice)} twice")
+    count = len(surface.places)
+    is_wrong = (surface.corners < 0) | (surface.corners >= count)
+    if is_wrong.any():
+        worst = int(np.argmax(is_wrong))
+        name = surface.tell_element(face_of_corner(surface, worst))
+        line = f"face {name} has the corner {surface.corners[worst] + surface.first}, and there is no such point"
+        raise Unfit(line + tell_more(int(is_wrong.sum())))
 
 
-def check_lengths(surface: Surface, points: list[Whole]) -> None:
-    """Unfit where a side's two corners lie at one place."""
-    for index, face in enumerate(surface.faces):
-        before = face[-1]
-        for corner in face:
-            if points[corner] == points[before]:
-                raise Unfit(tell_one_place(surface, f"face {surface.tell_element(index)}", (before, corner)))
-            before = corner
+def doubled_corners(surface: Surface, points: Whole) -> tuple[Bools, Bools]:
+    """Which corners are the same point as the next one of their face, and which lie at the same place."""
+    following = surface.corners[next_corners(surface.sizes)]
+    is_same = surface.corners == following
+    return is_same, (points[surface.corners] == points[following]).all(axis=1)
 
 
-def tell_one_place(mesh: Mesh, element: str, corners: tuple[int, int]) -> str:
-    """The line for two corners of an element at one place."""
-    return f"{element} has the points {mesh.tell_points(corners)} at one place: if they differ, give a greater --scale"
+def repeated_faces(surface: Surface) -> Bools:
+    """Which faces come to a point twice."""
+    faces = np.repeat(np.arange(len(surface.sizes)), surface.sizes)
+    keys = np.sort(faces * max(1, len(surface.places)) + surface.corners)
+    found = np.zeros(len(surface.sizes), bool)
+    found[keys[1:][keys[1:] == keys[:-1]] // max(1, len(surface.places))] = True
+    return found
 
 
-def join_edges(surface: Surface, sides: Sides, across: list[int]) -> None:
-    """Joins the darts of faces that share an edge; Unfit at one of more than two faces."""
-    count, waits, dart = len(surface.points), {}, 0
-    for face in surface.faces:
-        for begin, end in zip(face, face[1:] + face[:1]):
-            lower, edge = (dart, begin * count + end) if begin < end else (dart + 1, end * count + begin)
-            other = waits.get(edge)
-            if other is None:
-                waits[edge] = lower
-            elif other < 0:
-                raise Unfit(tell_crowded_edge(surface, min(begin, end), max(begin, end)))
-            else:
-                across[lower], across[other] = other, lower
-                across[lower ^ 1], across[other ^ 1] = other ^ 1, lower ^ 1
-                waits[edge] = -1
-            dart += 2
+def check_faces(surface: Surface, points: Whole, wish: Wish) -> None:
+    """Unfit where a face has too few corners, a point twice, or a side whose corners lie at one place."""
+    small = surface.sizes < FEWEST_CORNERS
+    if small.any():
+        first = int(np.argmax(small))
+        line = f"face {surface.tell_element(first)} has {surface.sizes[first]} corners, and a polygon has three or more"
+        raise Unfit(f"{line}{tell_more(int(small.sum()))}: {DROP}")
+    twice = repeated_faces(surface)
+    if twice.any() and not wish.cut:
+        first = int(np.argmax(twice))
+        face = surface.face(first)
+        point = next(corner for corner in face if face.count(corner) > 1)
+        line = f"face {surface.tell_element(first)} has the point {surface.tell_point(point)} twice"
+        raise Unfit(f"{line}{tell_more(int(twice.sum()))}: {TAKE}")
+    is_same, is_one = doubled_corners(surface, points)
+    if is_one.any():
+        first = int(np.argmax(is_one))
+        face_number = face_of_corner(surface, first)
+        both = int(surface.corners[first]), int(surface.corners[next_corners(surface.sizes)[first]])
+        raise Unfit(tell_one_place(surface, f"face {surface.tell_element(face_number)}", both, int(is_one.sum())))
 
 
-def tell_crowded_edge(surface: Surface, begin: int, end: int) -> str:
-    """The line for an edge of more than two faces."""
-    edge = {begin, end}
-    at = [
-        surface.tell_element(i)
-        for i, face in enumerate(surface.faces)
-        if edge in map(set, zip(face, face[1:] + face[:1]))
-    ]
-    return f"the edge of the points {surface.tell_points((begin, end))} has {len(at)} faces: {tell_some(at)}"
+def tell_one_place(mesh: Mesh, element: str, corners: tuple[int, int], count: int) -> str:
+    """The line for two corners of an element at one place: in the file, or once they are scaled."""
+    one, two = corners
+    is_same = (mesh.places.digits[one] == mesh.places.digits[two]).all()
+    is_same &= (mesh.places.powers[one] == mesh.places.powers[two]).all()
+    names = mesh.tell_points(corners if mesh.has_numbers or not is_same else corners[:1])
+    if is_same:
+        what = f"has two corners at {names}" if not mesh.has_numbers else f"has the points {names} at one place"
+        return f"{element} {what}{tell_more(count)}: {WELD}"
+    line = f"{element} has the points {names} at one place when they are scaled"
+    return f"{line}{tell_more(count)}: give a greater --scale, or {WELD}"
+
+
+def edge_keys(surface: Surface) -> Whole:
+    """A number for the edge of each side, the same for both directions."""
+    ends = surface.corners[next_corners(surface.sizes)]
+    return np.minimum(surface.corners, ends) * len(surface.places) + np.maximum(surface.corners, ends)
+
+
+def join_sides(surface: Surface) -> tuple[Whole, Whole]:
+    """The neighbours along 2 where an edge has two sides, and the sides of edges that have more, in groups."""
+    keys = edge_keys(surface)
+    order = np.argsort(keys, kind="stable")
+    ordered = keys[order]
+    starts = np.nonzero(np.concatenate([[True], ordered[1:] != ordered[:-1]]))[0]
+    sizes = np.diff(np.append(starts, len(keys)))
+    one, two = order[starts[sizes == 2]], order[starts[sizes == 2] + 1]
+    ends = surface.corners[next_corners(surface.sizes)]
+    flip_one, flip_two = (surface.corners[side] > ends[side] for side in (one, two))
+    # The lower dart of a side lies at the lesser of its points: the first one, or where the side goes down the second.
+    across = np.arange(2 * len(keys))
+    lower_one, lower_two = 2 * one + flip_one, 2 * two + flip_two
+    for here, there in ((lower_one, lower_two), (lower_one ^ 1, lower_two ^ 1)):
+        across[here], across[there] = there, here
+    return across, order[np.repeat(sizes > 2, sizes)]
+
+
+def tell_crowded_edge(surface: Surface, crowded: Whole) -> str:
+    """The line for an edge of more than two faces, the one whose third face comes first in the file."""
+    keys = edge_keys(surface)[crowded]
+    starts = np.nonzero(np.concatenate([[True], keys[1:] != keys[:-1]]))[0]
+    first = int(starts[np.argmin(crowded[starts + 2])])
+    sides = crowded[keys == keys[first]]
+    ends = sorted(divmod(int(keys[first]), len(surface.places)))
+    faces = [surface.tell_element(face_of_corner(surface, int(side))) for side in sides]
+    line = f"the edge of the points {surface.tell_points(ends)} has {len(sides)} faces: {tell_some(faces)}"
+    return f"{line}{tell_more(len(starts))}: {CUT}"
 
 
 def tell_some(words: list[str]) -> str:
@@ -149,101 +185,64 @@ def tell_some(words: list[str]) -> str:
     return " ".join(words[:MOST_TOLD]) + (" .." if len(words) > MOST_TOLD else "")
 
 
-def list_vertices(given: Map) -> tuple[dict[int, int], list[int]]:
-    """The number of the vertex at which each dart lies, and the least dart of each."""
-    steps = given.alpha[1:]
-    numbers: dict[int, int] = {}
-    leads = []
-    for dart in given.darts:
-        if dart not in numbers:
-            numbers.update(dict.fromkeys(walk(dart, steps), len(leads)))
-            leads.append(dart)
-    return numbers, leads
+def drop_faces(surface: Surface, points: Whole, wish: Wish) -> tuple[Surface, Done]:
+    """The surface without doubled corners, spikes, and faces that are degenerate then."""
+    is_same, is_one = doubled_corners(surface, points)
+    faces = np.repeat(np.arange(len(surface.sizes)), surface.sizes)
+    suspect = np.zeros(len(surface.sizes), bool)
+    suspect[faces[is_same | is_one]] = True
+    suspect |= repeated_faces(surface) | (surface.sizes < FEWEST_CORNERS)
+    numbers = np.nonzero(suspect)[0].tolist()
+    if not numbers:
+        return surface, Done(np.arange(len(surface.sizes)))
+    begins = surface.begins.tolist()
+    mended = {number: mend_face(corners_of(surface, begins, number), points) for number in numbers}
+    gone = [number for number, face in mended.items() if len(face) < FEWEST_CORNERS or
+            (not wish.cut and len(set(face)) < len(face))]
+    less = sum(len(face) < surface.sizes[number] for number, face in mended.items() if number not in set(gone))
+    is_kept = np.ones(len(surface.sizes), bool)
+    is_kept[gone] = False
+    told = {name: count for name, count in (("dropped", len(gone)), ("mended", int(less))) if count}
+    left = replace_faces(surface, {number: face for number, face in mended.items() if is_kept[number]}, is_kept)
+    return left, Done(np.nonzero(is_kept)[0], told)
 
 
-def list_leading_darts(given: Map, labels: Iterable[int]) -> set[int]:
-    """The darts of each component that have the colour of its least one, or all where there are no two colours."""
-    steps = [given.alpha[label] for label in labels]
-    colours: dict[int, bool] = {}
-    leading: set[int] = set()
-    for dart in given.darts:
-        if dart in colours:
-            continue
-        colours[dart] = is_oriented = True
-        component = [dart]
-        for reached in component:
-            colour = colours[reached]
-            for step in steps:
-                near = step[reached]
-                if near not in colours:
-                    colours[near] = not colour
-                    component.append(near)
-                elif near != reached and colours[near] == colour:
-                    is_oriented = False
-        leading.update(dart for dart in component if colours[dart] or not is_oriented)
-    return leading
+def corners_of(surface: Surface, begins: list[int], number: int) -> tuple[int, ...]:
+    """The corners of a face."""
+    return tuple(surface.corners[begins[number]: begins[number] + int(surface.sizes[number])].tolist())
 
 
-def trace_polygon(given: Map, dart: int) -> list[int]:
-    """The darts at the corners of the dart's face in their order, from it on; Unfit where the face isn't closed."""
-    along, around = given.alpha[0], given.alpha[1]
-    corners, at = [], dart
-    while True:
-        corners.append(at)
-        end = along[at]
-        follower = around[end]
-        if end == at or follower == end:
-            raise Unfit(f"the face of dart {dart} isn't closed: dart {end} is free along {0 if end == at else 1}")
-        at = follower
-        if at == dart:
-            return corners
+def mend_face(face: tuple[int, ...], points: Whole) -> tuple[int, ...]:
+    """A face without corners that are where the next one is, and without spikes, whose ends are one point."""
+    corners = list(face)
+    place = 0
+    while len(corners) > 1 and place < len(corners):
+        here, after, last = corners[place], corners[(place + 1) % len(corners)], corners[place - 1]
+        if here == after or (points[here] == points[after]).all() or (after == last and len(corners) > 2):
+            del corners[place]
+            place = max(0, place - 2)
+        else:
+            place += 1
+    return tuple(corners)
 
 
-def list_polygons(given: Map, leading: set[int]) -> list[list[int]]:
-    """The darts at the corners of each face, by its least leading dart. Over dimension 2 a face has one side."""
-    steps = [given.alpha[label] for label in (0, 1, *range(3, given.dimension + 1))]
-    seen: set[int] = set()
-    found = []
-    for dart in given.darts:
-        if dart not in seen and dart in leading:
-            seen.update(walk(dart, steps))
-            corners = trace_polygon(given, dart)
-            if len(corners) < FEWEST_CORNERS:
-                raise Unfit(f"the face of dart {dart} has {len(corners)} corners, and a polygon has three or more")
-            found.append(corners)
-    return found
-
-
-def pick_colours(given: Map, labels: set[int], darts: Iterable[int]) -> list[Colour] | None:
-    """The darts' colours in the first embedding of kind rgb over at least the labels; None where there is none."""
-    for embed in given.embeds:
-        if embed.kind == "rgb" and labels <= set(embed.labels):
-            values = given.values[embed.name]
-            return [values[dart] for dart in darts]
-    return None
-
-
-def pick_points(given: Map, leads: list[int]) -> list[tuple[int, ...]]:
-    """The points of the vertices, of the first embedding of kind vec3 or vec2 over them; Unfit where there is none."""
-    labels = range(1, given.dimension + 1)
-    embed = given.embed_over(labels, ("vec3", "vec2"))
-    if embed is None:
-        raise Unfit(f"the map has no points: no embedding <{' '.join(map(str, labels))}> of kind vec3 or vec2")
-    values = given.values[embed.name]
-    return [values[lead] for lead in leads]
-
-
-def read_surface_map(given: Map, scale: Fraction) -> Surface:
-    """The faces of a map as polygons, over the points of its vertices in the order of their least darts.
-
-    Faces turn one way where the surface can be oriented, that of the least dart; each begins at its least such dart.
-    """
-    numbers, leads = list_vertices(given)
-    points = list(unscale_points(pick_points(given, leads), scale))
-    polygons = list_polygons(given, list_leading_darts(given, range(given.dimension + 1)))
-    return Surface(
-        points=points,
-        faces=[tuple([numbers[dart] for dart in corners]) for corners in polygons],
-        face_colours=pick_colours(given, {0, 1}, [corners[0] for corners in polygons]),
-        point_colours=pick_colours(given, set(range(1, given.dimension + 1)), leads),
+def replace_faces(surface: Surface, mended: dict[int, tuple[int, ...]], is_kept: Bools) -> Surface:
+    """The surface with some faces in the place of others, and without those that aren't kept."""
+    sizes, begins = surface.sizes.copy(), surface.begins.tolist()
+    is_left = np.repeat(is_kept, sizes)
+    corners = surface.corners.copy()
+    for number, face in mended.items():
+        begin, size = begins[number], int(surface.sizes[number])
+        corners[begin: begin + len(face)] = face
+        is_left[begin + len(face): begin + size] = False
+        sizes[number] = len(face)
+    kept = np.nonzero(is_kept)[0]
+    names = kept + surface.first if surface.names is None else np.asarray(surface.names)[kept]
+    return replace(
+        surface,
+        corners=corners[is_left],
+        sizes=sizes[is_kept],
+        names=names,
+        lines=None if surface.lines is None else np.asarray(surface.lines)[kept],
+        face_colours=None if surface.face_colours is None else surface.face_colours[kept],
     )
