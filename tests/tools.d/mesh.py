@@ -304,7 +304,8 @@ def test_scales_are_told_kept_and_taken():
         write_mesh(model, house(face_colours=HOUSE_COLOURS))
         said = run_tool("import", model, made, "--colours")
         assert (
-            said.stdout == "imported points 10 faces 8 darts 60 scale 100 rounding 0 shared 0 unused 0 colours faces\n" and said.returncode == 0
+            said.stdout == "imported points 10 faces 8 darts 60 scale 100 rounding 0 shared 0 unused 0 colours faces\n"
+            and said.returncode == 0
         ), said
         assert made.read_text().startswith("# scale 100\ngmap 2\n") and read_frame(made).scale == 100
         assert program.put_or_refuse("show", made) == made.read_text().partition("\n")[2], "the comment is passed over"

@@ -1,5 +1,6 @@
 """Tests of tools/mesh: a mesh for each refusal, and a map for each."""
 import os
+import re
 import subprocess
 from collections.abc import Callable
 from fractions import Fraction
@@ -10,7 +11,8 @@ from gmr.mesh.formats import read_mesh, write_mesh
 from gmr.mesh.model import CELL_FACES, Surface, Unfit, Volume, make_cell, make_polyhedron
 from gmr.mesh.scale import Frame, choose_scale, scale_points
 from mesh import (
-    CELL_POINTS, HOUSE_FACES, HOUSE_POINTS, ONE, TOOL, block, house, make_map, make_mesh, place, read_written, run_tool, scratch,
+    CELL_POINTS, HOUSE_FACES, HOUSE_POINTS, ONE, TOOL, block, house, make_map, make_mesh, place, read_written, run_tool,
+    scratch,
 )
 
 SYSTEM_PYTHON = "/usr/bin/python3"      # which sees the packages of the distribution
@@ -107,7 +109,8 @@ def test_sizes_past_the_limits_are_refused():
     assert refusal(lambda: read_written("a.ply", head + face)) == line
     assert refusal(lambda: read_written("a.off", "OFF\n3 174763 0\n")) == line
     assert refusal(lambda: read_written("a.obj", "v 0 0 0\n" + "f 1 2 3\n" * 174_763)) == line
-    assert refusal(lambda: read_written("a.stl", b" " * 80 + (174_763).to_bytes(4, "little") + bytes(50 * 174_763))) == line
+    data = b" " * 80 + (174_763).to_bytes(4, "little") + bytes(50 * 174_763)
+    assert refusal(lambda: read_written("a.stl", data)) == line
 
 
 def test_coordinates_out_of_range_are_refused():
@@ -127,7 +130,9 @@ def test_files_that_stand_for_nothing_are_refused():
         "b.obj": ("v 0 0 0\nf 0 1 1\n", "line 2: face 1 has the corner 0, and there is no such point"),
         "c.obj": ("v 0 0 0\nf a b c\n", "line 2: face 1 has a corner 'a', which is no number of a point"),
         "d.off": ("OFF\n", "this is no OFF: its first numbers aren't those of points, faces and edges"),
-        "e.off": ("OFF\n3 1 0\n0 0 0\n", "OFF tells of 3 points and 1 faces, and has 1 lines for them: it is cut off"),
+        "e.off": (
+            "OFF\n3 1 0\n0 0 0\n", "OFF tells of 3 points and 1 faces, and has 1 lines for them: it is cut off",
+        ),
         "f.off": ("4OFF\n", "4OFF has points of another dimension than 3"),
         "g.off": ("OFF BINARY\n", "the binary form of OFF isn't read"),
         "h.off": ("OFF\n1 1 0\n0 0 0\n3 0 0\n", "face 0 (line 4) tells of 3 corners and has 2"),
@@ -141,7 +146,7 @@ def test_files_that_stand_for_nothing_are_refused():
             "PLY has a line in its head that isn't understood: format odd 1.0",
         ),
         "l.stl": ("solid", "STL ends within a solid, after 0 facets: it is cut off"),
-        "m.vtk": ("no", "meshio can't read it as vtk"),
+        "m.vtk": ("no", "meshio can't read it as vtk: Illegal VTK header"),
         "n.msh": ("no", "this is no MSH: it doesn't begin with $MeshFormat"),
         "o.obj": ("ply\n", "this is no OBJ: no line of it begins as one of OBJ does"),
         "p.obj": ("", "it is empty"),
@@ -165,7 +170,8 @@ def test_numbers_of_other_scripts_are_refused():
         line = f"line 1: a point is three numbers, and not '{word} 0 0'"
         assert refusal(lambda: read_written("a.obj", f"v {word} 0 0\n")) == line
         text = f"OFF\n1 0 0\n0 {word} 0\n"
-        assert refusal(lambda: read_written("a.off", text)) == f"point 0 (line 3) is three numbers, and not '0 {word} 0'"
+        line = f"point 0 (line 3) is three numbers, and not '0 {word} 0'"
+        assert refusal(lambda: read_written("a.off", text)) == line
         head = "ply\nformat ascii 1.0\nelement vertex 1\nproperty float x\nproperty float y\nproperty float z\n"
         head += "element face 0\nproperty list uchar int vertex_indices\nend_header\n"
         line = f"vertex 0 (line 10) isn't as the head tells: '0 0 {word}'"
@@ -262,7 +268,7 @@ def test_the_program_is_looked_for_before_the_work():
         (folder / "large.obj").write_text("this is no mesh\n")
         words = [SYSTEM_PYTHON, TOOL, "import", folder / "large.obj", folder / "a.gmap"]
         said = subprocess.run(words, capture_output=True, text=True, check=False, env={"GMR": str(folder / "none")})
-        assert said.returncode == 1 and said.stderr.endswith(f": {folder}/none can't be run: $GMR names no program\n"), said.stderr
+        assert said.returncode == 1 and said.stderr.endswith(f": {folder}/none can't be run: $GMR names no program\n")
 
 
 # What is missing.
@@ -276,13 +282,10 @@ def run_by(python: str, *words: object, **more: object) -> subprocess.CompletedP
 def test_what_is_missing_is_told():
     with scratch() as folder:
         (folder / "a.3ds").write_text("none")
-        words = [program.SYSTEM_PYTHON, TOOL, "import", folder / "a.3ds", "a.gmap"]
+        words = [SYSTEM_PYTHON, TOOL, "import", folder / "a.3ds", "a.gmap"]
         env = {"PATH": "/nowhere", "GMR": program.find_program()}
         said = subprocess.run(words, capture_output=True, text=True, check=False, env=env)
-        line = "mesh: the program assimp is missing: apt-get install assimp-utils\n"
-        assert said.returncode == 1 and said.stderr == line, said.stderr
-        said = run_by(program.SYSTEM_PYTHON, "import", folder / "a.msh", "a.gmap")
-        line = "mesh: the Python module numpy is missing: apt-get install python3-numpy\n"
+        line = f"mesh: {folder}/a.3ds: the program assimp is missing: apt-get install assimp-utils\n"
         assert said.returncode == 1 and said.stderr == line, said.stderr
         said = run_by(SYSTEM_PYTHON, "import", folder / "a.msh", "a.gmap")
         line = r"mesh: .*the Python module \w+ is missing: apt-get install python3-\w+.*\n"

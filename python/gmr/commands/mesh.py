@@ -1,12 +1,27 @@
 """Meshes in, meshes out: files of surfaces and volumes become maps, and maps such files."""
 import argparse
-import sys
+from collections.abc import Sequence
 from fractions import Fraction
 from pathlib import Path
 
-from gmr import program
+from gmr.commands.frame import new_parser, run_command
+from gmr.errors import told_with
+from gmr.mesh.convert import Options, export_map, import_mesh
+from gmr.mesh.cycle import keep_scale, run_mesh, watch
+from gmr.mesh.embeds import Colours, parse_embed
+from gmr.mesh.formats import list_written
+from gmr.mesh.model import Unfit
+from gmr.mesh.scale import Frame, parse_origin, parse_scale, read_frame
+from gmr.mesh.surface import Wish
+from gmr.progress import tell
 
 NOTES = """\
+examples
+  tools/mesh import model.obj model.gmap
+  tools/mesh import torn.3ds torn.gmap --weld 0 --drop --cut
+  tools/mesh export out.gmap out.ply --scale-of model.gmap
+  tools/mesh run model.obj book.gbook script.gscript out.glb --watch
+
 what is told
   An import tells in one line the scale, the greatest rounding in the file's units, how many points came to share a
   place by it, how many are in no face, and what was welded, mended, left out, opened or passed over.
@@ -30,37 +45,33 @@ def add_conversion(parser: argparse.ArgumentParser) -> None:
     """The options of what becomes of a mesh."""
     scale = parser.add_argument_group("scale")
     scale.add_argument("--scale", metavar="S", help="what coordinates are multiplied by")
-    scale.add_argument("--origin", nargs=3, metavar=("X", "Y", "Z"), help="a point that is taken from all others before")
+    scale.add_argument("--origin", nargs=3, metavar=("X", "Y", "Z"), help="a point that is taken from all others")
     scale.add_argument("--exact", action="store_true", help="nothing is rounded, or nothing is written")
     mending = parser.add_argument_group("what is forgiven")
     weld = mending.add_mutually_exclusive_group()
     weld.add_argument("--weld", metavar="DISTANCE", help="points that are so near become one; 0: those at one place")
-    weld.add_argument("--no-weld", action="store_true", help="corners at one place stay apart where they have no numbers")
-    mending.add_argument("--drop", action="store_true", help="doubled corners and degenerate faces or cells are left out")
+    weld.add_argument("--no-weld", action="store_true", help="corners without numbers stay apart")
+    mending.add_argument("--drop", action="store_true", help="doubled corners and degenerate faces are left out")
     mending.add_argument("--cut", action="store_true", help="edges of three or more faces, and the like, are left open")
     values = parser.add_argument_group("embeddings")
     colours = values.add_mutually_exclusive_group()
     colours.add_argument("--colours", action="store_true", help="the file's colours become an embedding 'col'")
-    colours.add_argument("--paint", nargs=3, metavar=("R", "G", "B"), help="an embedding 'paint', of this colour else")
+    colours.add_argument("--paint", nargs=3, metavar=("R", "G", "B"), help="an embedding 'paint', else of this colour")
     values.add_argument("--embed", action="append", default=[], metavar="EMBEDDING",
                         help="another embedding, as 'near <> vec3' or 'pick <0 1> int = 0'")
-    values.add_argument("--for", dest="book", type=Path, metavar="BOOK", help="the embeddings of a book")
+    parser.add_argument("--no-check", action="store_true", help="the program isn't asked to read what was written")
     parser.add_argument("--no-compare", action="store_true", help="what was written isn't compared with what was read")
 
 
-def read_words() -> argparse.Namespace:
+def read_words(given: Sequence[str]) -> argparse.Namespace:
     """The command line."""
-    from gmr.mesh.formats import list_written
-
-    parser = argparse.ArgumentParser(
-        prog="mesh", description=__doc__, epilog=NOTES, formatter_class=argparse.RawDescriptionHelpFormatter
-    )
+    parser = new_parser("mesh", __doc__, NOTES)
     commands = parser.add_subparsers(dest="command", required=True, metavar="COMMAND")
 
     reading = commands.add_parser("import", help="a mesh's file becomes a map")
     reading.add_argument("model", type=Path, metavar="MODEL", help="the mesh; its suffix tells its format")
     reading.add_argument("out", type=Path, metavar="OUT.gmap", help="the map's file that is written")
-    reading.add_argument("--no-check", action="store_true", help="the program isn't asked to read what was written")
+    reading.add_argument("--for", dest="book", type=Path, metavar="BOOK", help="the map has the embeddings of a book")
     add_conversion(reading)
 
     writing = commands.add_parser("export", help="a map becomes a mesh's file")
@@ -71,7 +82,19 @@ def read_words() -> argparse.Namespace:
     writing.add_argument("--scale-of", type=Path, metavar="MAP", help="the map whose scale and origin are taken")
     writing.add_argument("--no-compare", action="store_true", help="what was written isn't compared with the map")
 
-    words = parser.parse_args()
+    running = commands.add_parser("run", help="a script runs on a mesh, and what it leaves is a mesh again")
+    running.add_argument("model", type=Path, metavar="MODEL", help="the mesh, or a map that ends in .gmap")
+    running.add_argument("book", type=Path, metavar="BOOK", help="the rules, whose embeddings the map has")
+    running.add_argument("script", type=Path, metavar="SCRIPT", help="the script")
+    running.add_argument("out", type=Path, metavar="OUT", help="the mesh that is written, or a map that ends in .gmap")
+    running.add_argument("--watch", action="store_true", help="again when a file changes, until it is interrupted")
+    add_conversion(running)
+
+    keeping = commands.add_parser("scale", help="tells the scale of a map, or keeps another map's beside it")
+    keeping.add_argument("map", type=Path, metavar="MAP", help="the map")
+    keeping.add_argument("--of", type=Path, metavar="OTHER", help="the map whose scale is kept in MAP.scale")
+
+    words = parser.parse_args(given)
     try:
         parse_values(words)
     except ValueError as error:
@@ -81,9 +104,8 @@ def read_words() -> argparse.Namespace:
 
 def parse_values(words: argparse.Namespace) -> None:
     """Takes the words of options for what they stand for; ValueError where one stands for nothing."""
-    from gmr.mesh.embeds import parse_embed
-    from gmr.mesh.scale import parse_origin, parse_scale
-
+    if words.command == "scale":
+        return
     words.scale = None if words.scale is None else parse_scale(words.scale)
     words.origin = None if words.origin is None else parse_origin(words.origin)
     if words.command != "export":
@@ -101,40 +123,32 @@ def parse_channel(word: str) -> int:
 
 def parse_distance(word: str) -> Fraction:
     """A distance of 0 or more; ValueError at any other word."""
-    from gmr.mesh.scale import parse_scale
-
     try:
-        return Fraction(0) if word.strip("0.") == "" and "0" in word else parse_scale(word)
+        return Fraction(0) if not word.strip("0.") and "0" in word else parse_scale(word)
     except ValueError:
         raise ValueError(f"{word} is no distance, which is a number of 0 or more") from None
 
 
-def main(words: Sequence[str]) -> None:
-    """Does what the command line asks for, and tells of it in one line."""
-    from gmr.mesh.model import Unfit
-
-    words = read_words()
-    source = words.map if words.command == "export" else words.model
-    try:
-        print(do(words))
-    except (Unfit, program.Refused) as refusal:
-        program.fail(f"{source}: {refusal}")
-    except ValueError as refusal:
-        program.fail(str(refusal))
-    except OSError as error:
-        program.fail(f"{error.filename or source}: {error.strerror}")
-    except MemoryError:
-        program.fail(f"{source}: memory ran out")
+def main(given: Sequence[str]) -> int:
+    """Does what the command line asks for, and tells of it: the status, 1 where lines of a script were refused."""
+    words = read_words(given)
+    source = words.map if words.command in ("export", "scale") else words.model
+    with told_with(source):
+        if words.command == "run":
+            return run_script(words)
+        tell({"import": f"importing {source}", "export": f"exporting {source}"}.get(words.command, f"reading {source}"))
+        told = do(words)
+    if not words.quiet or words.command == "scale":
+        print(told)
+    return 0
 
 
 def do(words: argparse.Namespace) -> str:
     """Does what the command line asks for; what is told."""
-    from gmr.mesh.convert import export_map, import_mesh
-    from gmr.mesh.model import Unfit
-    from gmr.mesh.scale import Frame, read_frame
-
     if words.command == "import":
         return import_mesh(words.model, words.out, options_of(words))
+    if words.command == "scale":
+        return keep_scale(words.map, words.of)
     frame = None
     if words.scale_of:
         frame = read_frame(words.scale_of)
@@ -145,12 +159,20 @@ def do(words: argparse.Namespace) -> str:
     return export_map(words.map, words.out, frame, not words.no_compare)
 
 
-def options_of(words: argparse.Namespace) -> "object":
-    """The options of an import."""
-    from gmr.mesh.convert import Options
-    from gmr.mesh.embeds import Colours
-    from gmr.mesh.surface import Wish
+def run_script(words: argparse.Namespace) -> int:
+    """Runs a script on a mesh, once or whenever a file changes; the status of the program."""
+    inputs = [words.model, words.book, words.script]
+    if words.watch:
+        watch(inputs, lambda: run_mesh(inputs, words.out, options_of(words))[1], lambda line: print(line, flush=True))
+    tell(f"running {words.script}")
+    status, told = run_mesh(inputs, words.out, options_of(words))
+    if not words.quiet:
+        print(told)
+    return status
 
+
+def options_of(words: argparse.Namespace) -> Options:
+    """The options of an import."""
     return Options(
         scale=words.scale,
         origin=words.origin,
@@ -161,17 +183,11 @@ def options_of(words: argparse.Namespace) -> "object":
         colours=Colours(words.colours, words.paint),
         embeds=words.embed,
         book=words.book,
-        is_checked=not getattr(words, "no_check", False),
+        is_checked=not words.no_check,
         is_compared=not words.no_compare,
     )
 
 
 def run() -> int:
     """Does what the command line asks for; the status."""
-    program.needs("numpy", "python3-numpy")
-    main()
-    return 0
-
-
-if __name__ == "__main__":
-    sys.exit(run())
+    return run_command("mesh", main)

@@ -5,7 +5,7 @@ import tempfile
 from dataclasses import replace
 from pathlib import Path
 
-from gmr import program
+from gmr.errors import Missing
 from gmr.mesh.model import Surface, Unfit
 from gmr.mesh.ply import read_ply
 
@@ -16,7 +16,7 @@ def find_assimp() -> str:
     """The program; where it is missing, one line says what to install."""
     found = shutil.which("assimp")
     if found is None:
-        program.fail("the program assimp is missing: apt-get install assimp-utils")
+        raise Missing("the program assimp is missing: apt-get install assimp-utils")
     return found
 
 

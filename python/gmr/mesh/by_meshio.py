@@ -169,5 +169,3 @@ def block_polygons(faces: Sequence[Polygon], form: str) -> list[tuple[str, list[
             raise Unfit(f"{form} has no polygon of {size} corners: write .vtk, .vtu or .ply")
         blocks.append(({3: "triangle", 4: "quad"}.get(size, "polygon"), list(run)))
     return blocks
-
-

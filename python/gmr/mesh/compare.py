@@ -1,6 +1,7 @@
 """The certificate of an import or export: whether the cells of a map are those of a mesh's file, corner by corner.
 
 It believes nothing that the converter says of what it did, but looks at each of its claims."""
+import struct
 from collections.abc import Sequence
 from fractions import Fraction
 from pathlib import Path
@@ -8,7 +9,8 @@ from typing import NamedTuple
 
 import numpy as np
 
-from gmr.mesh.reread import Array, Reread, reread_map, reread_mesh
+from gmr.mesh.model import Surface, Volume
+from gmr.mesh.reread import Array, Reread, gather, reread_map, reread_mesh
 
 Frame = tuple[Fraction, Sequence[Fraction]]
 FLOAT_MOST = 2.0**48  # below it, sums of numbers of 64 bits are exact enough to tell half a unit
@@ -31,10 +33,14 @@ class Different(Exception):
 
 
 def compare(model: Path, gmap: Path, scale: Fraction, origin: Sequence[Fraction] | None = None,
-            claims: Claims = Claims()) -> str | None:
-    """Why the map isn't that of the file at this scale and origin, in one line; None where it is."""
+            claims: Claims = Claims(), parsed: Surface | Volume | None = None) -> str | None:
+    """Why the map isn't that of the file at this scale and origin, in one line; None where it is.
+
+    `parsed` is what the parser of a file's format has read, where the certificate has no reader of its own for it.
+    """
     try:
-        read, (alpha, places), frame = reread_mesh(model), reread_map(gmap), (scale, origin or (Fraction(0),) * 3)
+        read, (alpha, places) = reread_mesh(model, parsed), reread_map(gmap)
+        frame = scale, origin or (Fraction(0),) * 3
         floats = np.array([[float(word) for word in row] for row in read.points]).reshape(-1, 3)
         floats = (floats - [float(one) for one in frame[1]]) * float(scale)
         leaders = np.arange(len(floats)) if claims.leaders is None else claims.leaders
@@ -48,10 +54,12 @@ def compare(model: Path, gmap: Path, scale: Fraction, origin: Sequence[Fraction]
             check_places(read, floats, leaders[point], places, frame)
         if claims.starts is None:
             check_joins(left._replace(corners=leaders[left.corners]), leaders[point], alpha, claims.cut)
-        elif (alpha[1:].shape[0] and (point[alpha[1:]] != point).any()) or len(np.unique(least(alpha[1:]))) != len(floats):
+        elif (point[alpha[1:]] != point).any() or len(np.unique(least(alpha[1:]))) != len(floats):
             raise Different("the points of the file aren't the vertices of the map")
     except Different as found:
         return str(found)
+    except (ArithmeticError, LookupError, TypeError, ValueError, struct.error):
+        return "it can't be read again"
     return None
 
 
@@ -80,7 +88,7 @@ def leave_out(read: Reread, claims: Claims, leaders: Array, places: Array) -> Re
                 raise Different(f"face {number} isn't degenerate, and was left out")
         faces = reduced
     kept = [face for face, is_in in zip(faces, is_kept) if is_in]
-    corners, sizes = np.array([one for face in kept for one in face], np.int64), np.array([*map(len, kept)], np.int64)
+    corners, sizes = gather(kept)
     return Reread(read.points, read.blur, corners, sizes, None if read.cells is None else element[is_kept])
 
 
@@ -101,7 +109,7 @@ def reduce(face: list[int], leaders: Array, places: Array) -> list[int]:
 
 
 def lay(read: Reread, alpha: Array, starts: Array, is_written: bool) -> Array:
-    """The point of the file at which each dart lies, when the file's faces are laid on the map's, each from a dart on."""
+    """The point of the file at which each dart lies, when its faces are laid on the map's, each from a dart on."""
     if len(starts) != len(read.sizes):
         raise Different(f"the map has {len(starts)} faces, and the file {len(read.sizes)}")
     begins = np.cumsum(read.sizes) - read.sizes

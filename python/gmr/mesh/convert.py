@@ -1,6 +1,7 @@
 """Files of meshes become files of maps, and back: what `tools/mesh` does."""
 from __future__ import annotations
 
+import tempfile
 from collections.abc import Sequence
 from dataclasses import dataclass, field
 from fractions import Fraction
@@ -11,13 +12,14 @@ import numpy as np
 
 from gmr import program
 from gmr.arrays import Arrays, read_arrays
+from gmr.files import check_apart, write_beside
 from gmr.mesh.compare import Claims, compare
 from gmr.mesh.decimals import Whole
 from gmr.mesh.embeds import Colours, Wanted, embed_for_book, embed_plainly
+from gmr.mesh.fans import compare_fans
 from gmr.mesh.formats import TRIANGLES, check_read, check_written, list_written, read_mesh, write_mesh, writes_volumes
 from gmr.mesh.mapped import Mapped
 from gmr.mesh.model import Surface, Unfit, Volume
-from gmr.mesh.outputs import check_apart, write_beside
 from gmr.mesh.scale import (
     Frame, Origin, Scaled, choose_scale, move_points, read_frame, scale_points, tell_frame,
 )
@@ -28,6 +30,7 @@ from gmr.mesh.weld import apply_weld, weld_alike, weld_near
 
 PROGRAM_FAILED = (5, 6, 7, 9)  # statuses that say nothing of the map
 ONE = Frame(Fraction(1))
+UNLIKE = "a fault of this tool: what it made isn't the same"
 
 
 @dataclass
@@ -52,8 +55,9 @@ class Options:
 
 
 class Imported(NamedTuple):
-    """The map of a mesh: its scale and origin, what is told of it, and what its certificate is to look at."""
+    """The map of a mesh: that mesh, the scale and origin, what is told of it, and what its certificate is to look at."""
 
+    mesh: Surface | Volume
     map: Mapped
     frame: Frame
     told: str
@@ -72,6 +76,11 @@ def import_mesh(model: Path, out: Path, options: Options) -> str:
     check_read(model)
     if options.is_checked:
         program.find_program()  # a program that isn't there is told before the work
+    return f"imported {write_import(model, out, options).told}"
+
+
+def write_import(model: Path, out: Path, options: Options) -> Imported:
+    """Writes the map of a mesh's file, checked and compared as it is wished."""
     made = convert_mesh(model, options)
     text = made.map.text()
     with write_beside(out) as written:
@@ -79,12 +88,14 @@ def import_mesh(model: Path, out: Path, options: Options) -> str:
         if options.is_checked:
             check_map(out, written, text)
         if options.is_compared:
-            check_same(model, written, made.frame, made.claims)
-    return f"imported {made.told}"
+            fault = compare(model, written, made.frame.scale, made.frame.origin, made.claims, made.mesh)
+            if fault:
+                raise Unfit(f"{UNLIKE}: {fault}")
+    return made
 
 
 def check_map(out: Path, written: Path, text: bytes) -> None:
-    """Refused where the program can't be asked, or doesn't read from what was written the map of this canonical text."""
+    """Refused where the program can't be asked, or reads another map from what was written than this text's."""
     try:
         if program.put_or_refuse("show", written).encode() != text:
             raise program.Refused("another map", 0)
@@ -95,16 +106,13 @@ def check_map(out: Path, written: Path, text: bytes) -> None:
         raise program.Refused(line, refusal.status) from None
 
 
-def check_same(mesh: Path, gmap: Path, frame: Frame, claims: Claims) -> None:
-    """Unfit where the certificate finds that a map isn't that of a mesh's file."""
-    fault = compare(mesh, gmap, frame.scale, frame.origin, claims)
-    if fault:
-        raise Unfit(f"a fault of this tool: what it made isn't the same: {fault}")
-
-
 def convert_mesh(model: Path, options: Options) -> Imported:
     """The map of a mesh's file."""
-    mesh = read_mesh(model, options.wish.drop)
+    return convert_read(read_mesh(model, options.wish.drop), options)
+
+
+def convert_read(mesh: Surface | Volume, options: Options) -> Imported:
+    """The map of a mesh that was read."""
     moved = move_points(mesh.places, Frame(Fraction(1), options.origin))
     frame = Frame(options.scale or choose_scale(moved, options.is_exact), options.origin)
     scaled = scale_points(mesh, frame)
@@ -122,8 +130,8 @@ def convert_mesh(model: Path, options: Options) -> Imported:
         told += f" colours {tell_colours(made)}"
     has_dropped = options.wish.drop
     distance = float(options.weld or 0)
-    return Imported(made, frame, told, Claims(None, done.kept if has_dropped else None, leaders, distance,
-                                              options.wish.cut))
+    claims = Claims(None, done.kept if has_dropped else None, leaders, distance, options.wish.cut)
+    return Imported(mesh, made, frame, told, claims)
 
 
 def map_mesh(mesh: Surface | Volume, points: Whole, wish: Wish) -> tuple[Mapped, Surface | Volume, Done]:
@@ -216,17 +224,20 @@ def write_map(given: Arrays, text: bytes, out: Path, frame: Frame, is_compared: 
 
 def compare_written(written: Path, text: bytes, frame: Frame, taken: Taken) -> None:
     """Unfit where the certificate finds that a written mesh isn't that of the map."""
-    if written.suffix.lower() in TRIANGLES:
-        return
     starts = taken.starts
     if isinstance(taken.mesh, Volume) and count_untyped(taken.mesh.cells):
         if written.suffix.lower() != ".vtu":
             return
         starts = order_polyhedra(taken.mesh, starts)
-    with write_beside(written.with_suffix(".gmap")) as gmap:
+    with tempfile.TemporaryDirectory() as scratch:
+        gmap = Path(scratch) / "map.gmap"
         gmap.write_bytes(text)
-        check_same(written, gmap, frame, Claims(starts))
-    written.with_suffix(".gmap").unlink()
+        if written.suffix.lower() in TRIANGLES:
+            fault = compare_fans(written, gmap, frame.scale, frame.origin, starts)
+        else:
+            fault = compare(written, gmap, frame.scale, frame.origin, Claims(starts))
+    if fault:
+        raise Unfit(f"{UNLIKE}: {fault}")
 
 
 def order_polyhedra(mesh: Volume, starts: Whole) -> Whole:
@@ -238,8 +249,8 @@ def order_polyhedra(mesh: Volume, starts: Whole) -> Whole:
 
 
 def take_mesh(given: Arrays, frame: Frame, has_cells: bool) -> Taken:
-    """The mesh of a map, its points divided by the scale: of its cells in dimension 3, where it may have cells, else of
-    its faces."""
+    """The mesh of a map, its points divided by the scale: of its cells in dimension 3, where it may have cells, else
+    of its faces."""
     if given.dimension not in (2, 3):
         raise Unfit(f"it has dimension {given.dimension}, and a mesh is made of a map of dimension 2 or 3")
     if not len(given.names):

@@ -70,7 +70,8 @@ def embed_plainly(made: Mapped, mesh: Surface | Volume, colours: Colours, wanted
 def check_labels(embed: Embed, dimension: int) -> None:
     """Unfit where an embedding has a label that the map hasn't."""
     if embed.labels and embed.labels[-1] > dimension:
-        raise Unfit(f"the embedding {embed.name} has the label {embed.labels[-1]}, and the map the dimension {dimension}")
+        label = embed.labels[-1]
+        raise Unfit(f"the embedding {embed.name} has the label {label}, and the map the dimension {dimension}")
 
 
 def choose_paint(mesh: Surface | Volume, colours: Colours) -> Paint | None:
@@ -92,7 +93,9 @@ def repeat(colour: Sequence[int], count: int) -> Whole:
     return np.broadcast_to(np.array(colour, np.int64), (count, len(colour)))
 
 
-def embed_for_book(made: Mapped, mesh: Surface | Volume, book: Path, colours: Colours, wanted: Sequence[Wanted]) -> None:
+def embed_for_book(
+    made: Mapped, mesh: Surface | Volume, book: Path, colours: Colours, wanted: Sequence[Wanted]
+) -> None:
     """Gives a map the embeddings of a book, in their order: the points of the mesh, its colours, the values that are
     wanted, and 0 or white where there is none."""
     schema = load_book(book)

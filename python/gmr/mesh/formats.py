@@ -2,11 +2,13 @@
 import stat
 from pathlib import Path
 
+import numpy as np
+
 from gmr.mesh.by_assimp import find_assimp, read_by_assimp
 from gmr.mesh.by_meshio import import_meshio, read_by_meshio, write_by_meshio
 from gmr.mesh.counts import check_counts
 from gmr.mesh.gltf import write_glb, write_gltf
-from gmr.mesh.model import Surface, Unfit, Volume
+from gmr.mesh.model import Surface, Unfit, Volume, tell_more
 from gmr.mesh.obj import read_obj, write_obj
 from gmr.mesh.off import read_off, write_off
 from gmr.mesh.ply import read_ply, write_ply
@@ -17,6 +19,7 @@ WRITERS = {
     ".obj": write_obj, ".off": write_off, ".ply": write_ply, ".stl": write_stl, ".gltf": write_gltf, ".glb": write_glb,
 }
 TRIANGLES = (".stl", ".gltf", ".glb")  # formats that have no other faces, and coordinates of 32 bits
+UNCOUNTED = (".inp",)
 VOLUME_FORMATS = {".vtk": "vtk", ".vtu": "vtu", ".msh": "gmsh", ".mesh": "medit", ".inp": "abaqus"}
 
 
@@ -27,8 +30,23 @@ def read_mesh(path: Path, drops: bool = False) -> Surface | Volume:
     if not drops:
         check_counts(path, suffix)
     if suffix in VOLUME_FORMATS:
-        return read_by_meshio(path, VOLUME_FORMATS[suffix])
+        mesh = read_by_meshio(path, VOLUME_FORMATS[suffix])
+        if suffix in UNCOUNTED and not drops:
+            check_used(mesh)
+        return mesh
     return READERS.get(suffix, read_by_assimp)(path)
+
+
+def check_used(mesh: Surface | Volume) -> None:
+    """Unfit where a point is in no face or cell: of a format that tells no counts, that is how one sees the end gone."""
+    used = np.zeros(len(mesh.places), bool)
+    corners = mesh.corners if isinstance(mesh, Surface) else [one for cell in mesh.cells for one in cell.corners]
+    there = np.asarray(corners, np.int64)
+    used[there[(there >= 0) & (there < len(used))]] = True
+    if not used.all():
+        what = "face" if isinstance(mesh, Surface) else "cell"
+        line = f"point {mesh.tell_point(int(np.argmin(used)))} is in no {what}, as where INP is cut off"
+        raise Unfit(f"{line}{tell_more(int((~used).sum()))}: --drop leaves it out")
 
 
 def check_read(path: Path) -> None:

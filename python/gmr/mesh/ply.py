@@ -23,7 +23,7 @@ Table = dict[str, Column]
 
 
 class Head(NamedTuple):
-    """What a file tells before its rows: the order of bytes, empty for text, its elements, and how many lines it has."""
+    """What a file tells before its rows: the order of bytes, empty for text, its elements, and how many lines it is."""
 
     order: str
     elements: list[Element]
@@ -110,8 +110,8 @@ def read_text(body: bytes, head: Head) -> tuple[dict[str, Table], dict[str, list
         tables[element.name] = read_text_table(rows[place:behind], element, lines[element.name])
         place = behind
     if place < len(rows):
-        raise Unfit(f"PLY has more after the last element that its head tells of, on line {numbers[place] + head.lines}: "
-                    f"{show_words(rows[place][:8])}")
+        line = f"on line {numbers[place] + head.lines}: {show_words(rows[place][:8])}"
+        raise Unfit(f"PLY has more after the last element that its head tells of, {line}")
     return tables, lines
 
 

@@ -8,7 +8,7 @@ from typing import Any, NamedTuple
 import numpy as np
 
 from gmr.mesh.formats import read_mesh
-from gmr.mesh.model import Surface
+from gmr.mesh.model import Surface, Volume
 
 Array = Any  # of numpy
 TYPES = {"char": "b", "uchar": "B", "short": "h", "ushort": "H", "int": "i", "uint": "I", "float": "f", "double": "d",
@@ -30,13 +30,14 @@ class Reread(NamedTuple):
     cells: Array = None
 
 
-def reread_mesh(path: Path) -> Reread:
-    """The points and faces of a file. Of other formats than OBJ, OFF and PLY the file's parser reads it."""
+def reread_mesh(path: Path, parsed: Surface | Volume | None = None) -> Reread:
+    """The points and faces of a file. Of other formats than OBJ, OFF and PLY it is what the file's parser reads, or has
+    read."""
     suffix, data = path.suffix.lower(), path.read_bytes()
     if suffix in (".obj", ".off") and data[:2] not in (b"\xff\xfe", b"\xfe\xff"):
         text = re.sub(rb"#[^\n]*", b"", data.removeprefix(b"\xef\xbb\xbf").replace(b"\r", b"\n"))
         return reread_obj(re.sub(rb"\\\n+", b" ", text)) if suffix == ".obj" else reread_off(text)
-    return reread_ply(data) if suffix == ".ply" else read_by_parser(path)
+    return reread_ply(data) if suffix == ".ply" else take_parsed(parsed or read_mesh(path, drops=True))
 
 
 def reread_obj(text: bytes) -> Reread:
@@ -107,9 +108,8 @@ def reread_row(words: list[bytes], body: bytes, at: int, props: list[list[str]],
     return row, at
 
 
-def read_by_parser(path: Path) -> Reread:
-    """What the file's own parser reads."""
-    mesh = read_mesh(path, drops=True)
+def take_parsed(mesh: Surface | Volume) -> Reread:
+    """What the file's parser has read."""
     points = [[mesh.places.fraction((row, axis)) for axis in range(3)] for row in range(len(mesh.places))]
     if isinstance(mesh, Surface):
         return Reread(points, 0, mesh.corners, mesh.sizes)

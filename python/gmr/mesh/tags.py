@@ -118,8 +118,8 @@ def check_abaqus(data: bytes) -> None:
     for word, line, rows in list_blocks(data):
         kind = CORNERS.search(line)
         count = 3 if word == b"node" else NODES.get(kind[1].upper() if kind else b"", 0)
-        short = next((row for row in rows if count and len(row) not in ((count + 1, 3) if word == b"node" else
-                                                                       (count + 1,))), None)
+        allowed = (count + 1, 3) if word == b"node" else (count + 1,)
+        short = next((row for row in rows if count and len(row) not in allowed), None)
         if short:
             what = "point" if word == b"node" else "element"
             raise Unfit(f"{what} {short[0].decode('utf-8', 'replace')} has {len(short) - 1} numbers, and not {count}: "

@@ -8,7 +8,9 @@ import numpy as np
 
 from gmr.arrays import Arrays
 from gmr.mesh.decimals import Whole
-from gmr.mesh.model import CELL_FACES, POLYHEDRON, Bools, Cell, Polygon, Surface, Unfit, Volume, make_cell, make_polyhedron
+from gmr.mesh.model import (
+    CELL_FACES, POLYHEDRON, Bools, Cell, Polygon, Surface, Unfit, Volume, make_cell, make_polyhedron,
+)
 from gmr.mesh.scale import Frame, unscale_points
 from gmr.mesh.surface import FEWEST_CORNERS
 from gmr.mesh.volume import KINDS, name_faces
@@ -95,7 +97,7 @@ def lead_darts(given: Arrays, labels: Sequence[int], faces: Whole) -> Bools:
 
 
 def list_faces(given: Arrays) -> Whole:
-    """The dart at which each face begins, the least leading one, in their order. Over dimension 2 a face has one side."""
+    """The dart at which each face begins, the least leading one, in order. Over dimension 2 a face has one side."""
     count = len(given.names)
     labels = [label for label in range(given.dimension + 1) if label != 2]
     faces = least_of_orbits([given.alpha[label] for label in labels], count)
