@@ -2,14 +2,13 @@
 import os
 import re
 import shutil
-from fractions import Fraction
 from pathlib import Path
 from typing import NamedTuple
 
 from gmr.books import COMMENT, Book
 from gmr.maps import HEAD
-from gmr.mesh.convert import Wish, export_map, import_mesh
-from gmr.mesh.scale import read_scale
+from gmr.mesh.convert import Options, export_map, import_mesh
+from gmr.mesh.scale import Frame, read_frame
 from gmr.program import put_or_refuse
 
 BEGIN = re.compile(rb"gmap 2\n(.*?)next \d+\n", re.DOTALL)
@@ -17,12 +16,12 @@ BEGIN = re.compile(rb"gmap 2\n(.*?)next \d+\n", re.DOTALL)
 
 class FirstMap(NamedTuple):
     """The file of the map as it was given, that of the same map in version 2, the version that it was given in, and
-    what the points of the mesh that it was made of were multiplied by, or None."""
+    the scale and origin of the mesh that it was made of, or None."""
 
     given: Path
     counted: Path
     version: int
-    scale: Fraction | None
+    frame: Frame | None
 
     def as_saved(self, text: bytes) -> bytes:
         """A map's text of version 2 in the version of the first one, as a run over that one saves it."""
@@ -30,7 +29,7 @@ class FirstMap(NamedTuple):
 
     def export(self, file: Path, out: Path) -> str:
         """Writes the mesh of a map's file with the scale of the first map, and answers the line that tells of it."""
-        return export_map(file, out, self.scale)
+        return export_map(file, out, self.frame)
 
 
 def take_first_map(path: Path, folder: Path) -> FirstMap:
@@ -39,9 +38,9 @@ def take_first_map(path: Path, folder: Path) -> FirstMap:
     if is_map(path):
         shutil.copyfile(path, given)
     else:
-        import_mesh(path, given, None, Wish(), False)
+        import_mesh(path, given, Options(is_checked=False))
     put_or_refuse("migrate", given, counted)
-    return FirstMap(given, counted, version_of(given), read_scale(given))
+    return FirstMap(given, counted, version_of(given), read_frame(path if is_map(path) else given))
 
 
 def is_map(path: Path) -> bool:

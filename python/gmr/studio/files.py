@@ -7,10 +7,11 @@ from typing import Any
 
 from gmr import program
 from gmr.errors import Fault
-from gmr.mesh.convert import Wish, export_map, import_mesh
+from gmr.mesh.convert import Options, export_map, import_mesh
+from gmr.mesh.embeds import Colours
 from gmr.mesh.formats import list_written
 from gmr.mesh.model import Unfit
-from gmr.mesh.scale import parse_scale
+from gmr.mesh.scale import Frame, parse_scale
 from gmr.studio.answers import book_of, told, whole
 from gmr.studio.folder import Folder
 from gmr.studio.requests import Unclear, text_in
@@ -152,7 +153,8 @@ def import_data(name: str, data: bytes, scale: Fraction | None, is_painted: bool
         model, out = Path(folder, f"mesh{Path(name).suffix}"), Path(folder, "mesh.gmap")
         model.write_bytes(data)
         try:
-            line = import_mesh(model, out, scale, Wish(paint=PAINT) if is_painted else Wish(), True)
+            colours = Colours(paint=PAINT) if is_painted else Colours()
+            line = import_mesh(model, out, Options(scale=scale, colours=colours))
         except Unfit as fault:
             raise Fault(fault.line, name) from None
         return out.read_bytes(), line
@@ -169,7 +171,8 @@ def export_file(session: Session, body: Json) -> Json:
         given, out = Path(folder, "map.gmap"), Path(folder, f"mesh{Path(name).suffix}")
         given.write_bytes(session.shown.read_bytes())
         try:
-            line = export_map(given, out, scale_in(body))
+            scale = scale_in(body)
+            line = export_map(given, out, None if scale is None else Frame(scale))
         except Unfit as fault:
             raise Fault(fault.line, name) from None
         session.folder.write(name, out.read_bytes())
