@@ -2,6 +2,7 @@
 import os
 import re
 import warnings
+from collections.abc import Sequence
 from dataclasses import dataclass
 from typing import TYPE_CHECKING
 
@@ -170,3 +171,17 @@ def join_rows(version: int, dimension: int, embeds: list[Embed], stated: bytes |
 def load_arrays(path: str | os.PathLike[str]) -> Arrays:
     """The map of a file, judged by the program first: what it refuses is passed on as program.Refused."""
     return read_arrays(program.put_of_file("show", path).encode())
+
+
+def least_of_orbits(steps: "Sequence[Whole]", count: int) -> "Whole":
+    """For each row the least one of its orbit over the steps, which lead from row to row and back."""
+    numpy = program.needs("numpy", "python3-numpy")
+    least = numpy.arange(count)
+    while True:
+        found = least
+        for step in steps:
+            found = numpy.minimum(found, found[step])
+        found = found[found]
+        if (found == least).all():
+            return least  # type: ignore[no-any-return]
+        least = found

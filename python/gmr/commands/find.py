@@ -7,10 +7,11 @@ import sys
 from collections.abc import Sequence
 from typing import Any
 
-from gmr import maps
+from gmr.arrays import load_arrays
 from gmr.commands.frame import new_parser, run_command, say
 from gmr.distances import place_of
 from gmr.find.finder import CELLS, Finder, Found, Spot
+from gmr.maps import Value
 from gmr.progress import tell
 
 EXAMPLES = """examples:
@@ -83,9 +84,8 @@ def parse(words: Sequence[str]) -> argparse.Namespace:
     return parsed
 
 
-def find(it: maps.Map, asked: argparse.Namespace) -> list[Found]:
+def find(finder: Finder, asked: argparse.Namespace) -> list[Found]:
     """What the command line asks for."""
-    finder = Finder(it, asked.points, asked.free)
     if asked.parts:
         found = finder.parts()
     elif asked.list is not None:
@@ -102,19 +102,19 @@ def find(it: maps.Map, asked: argparse.Namespace) -> list[Found]:
         spots = [Spot(asked.cell if cell is None else cell, place) for cell, place in scaled]
         within = None if asked.within is None else asked.within * asked.scale
         found = finder.nearest(spots[0], within) if len(spots) == 1 else finder.common(spots, within)
-    return [one for one in found if asked.where is None or has_value(it, one, asked.where)]
+    return [one for one in found if asked.where is None or has_value(finder, one, asked.where)]
 
 
-def has_value(it: maps.Map, found: Found, where: str) -> bool:
+def has_value(finder: Finder, found: Found, where: str) -> bool:
     """Whether NAME=VALUE holds somewhere on what was found."""
     name, _, wanted = where.partition("=")
-    if name not in it.values:
+    if name not in finder.map.values:
         raise ValueError(f"the map has no embedding {name}")
     numbers = tuple(map(int, re.findall(r"-?\d+", wanted)))
     return numbers in [value if isinstance(value, tuple) else (value,) for value in found.values[name]]
 
 
-def spell(value: maps.Value) -> str:
+def spell(value: Value) -> str:
     """A value as it stands in a script."""
     return f"({' '.join(map(str, value))})" if isinstance(value, tuple) else str(value)
 
@@ -135,15 +135,17 @@ def for_programs(found: list[Found]) -> str:
     return "[\n" + ",\n".join(json.dumps(one._asdict()) for one in found) + "\n]\n"
 
 
-def for_scripts(it: maps.Map, found: list[Found], form: str) -> str:
+def for_scripts(finder: Finder, found: list[Found], form: str) -> str:
     """A line of a script of this form for each that was found."""
-    known = {"dart", "number", *it.values}
+    known = {"dart", "number", *finder.map.values}
     for _, name, _, _ in string.Formatter().parse(form):
         if name is not None and name not in known:
             raise ValueError(f"the form has {{{name}}}, which is none of {', '.join(sorted(known))}")
+    wanted = [name for _, name, _, _ in string.Formatter().parse(form) if name in finder.map.values]
     lines = []
     for number, one in enumerate(found):
-        row = {name: spell(at[one.dart]) for name, at in it.values.items()}
+        place = finder.row_of(one.dart)
+        row = {name: spell(finder.values_of(name)[place]) for name in wanted}
         lines.append(form.format_map({**row, "dart": str(one.dart), "number": str(number)}) + "\n")
     return "".join(lines)
 
@@ -152,13 +154,13 @@ def main(words: Sequence[str]) -> int:
     """Finds and prints; 1 where nothing is found."""
     asked = parse(words)
     tell(f"reading {asked.map}")
-    it = maps.load_map(asked.map)
+    finder = Finder(load_arrays(asked.map), asked.points, asked.free)
     tell("looking for it")
-    found = find(it, asked)
+    found = find(finder, asked)
     if asked.json:
         text = for_programs(found)
     elif asked.lead or asked.script is not None:
-        text = for_scripts(it, found, "{dart}" if asked.lead else asked.script)
+        text = for_scripts(finder, found, "{dart}" if asked.lead else asked.script)
     else:
         text = for_people(found)
     sys.stdout.write(text)

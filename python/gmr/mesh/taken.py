@@ -6,7 +6,7 @@ from typing import NamedTuple
 
 import numpy as np
 
-from gmr.arrays import Arrays
+from gmr.arrays import Arrays, least_of_orbits
 from gmr.mesh.decimals import Whole
 from gmr.mesh.model import (
     CELL_FACES, POLYHEDRON, Bools, Cell, Polygon, Surface, Unfit, Volume, make_cell, make_polyhedron,
@@ -23,19 +23,6 @@ class Taken(NamedTuple):
     mesh: Surface | Volume
     starts: Whole
     vertices: Whole
-
-
-def least_of_orbits(steps: Sequence[Whole], count: int) -> Whole:
-    """For each row the least one of its orbit over the steps."""
-    least = np.arange(count)
-    while True:
-        found = least
-        for step in steps:
-            found = np.minimum(found, found[step])
-        found = found[found]
-        if (found == least).all():
-            return least
-        least = found
 
 
 def number_vertices(given: Arrays) -> tuple[Whole, Whole]:
