@@ -112,7 +112,7 @@ fn replace<R: Files<File = File>>(
 ) -> Result<(), SaveFault>
     ensures { ¬ IsOutOfMemory result }
 {
-    if !may_be_so_long(bytes.len() as u64) {
+    if !may_be_so_long(rt, bytes.len() as u64) {
         return Err(SaveFault::Failed);
     }
     let Some((beside, mut file)) = make_beside(rt, name, first_access(old)) else {
