@@ -1,8 +1,7 @@
 //! How long a file of this process may become.
-use std::fs;
 use std::fs::Files;
 use std::io::Read;
-use std::str;
+use std::{fs, str};
 
 /// The standard output, by the name that leads to the very file.
 pub(crate) const OUTPUT: &str = "/proc/self/fd/1";

@@ -63,7 +63,7 @@ returns-in-Err-Refused-clause-steps g c =
 pub returns-in-Err-Refused-clause-headline : goal.returns-in-Err-Refused-clause-headline
 returns-in-Err-Refused-clause-headline g c =
     let left = put_refusal (words_of c.args.words.now) _ _ _ _ (g.S.Store.holds c.args.store.now) c.in-Err-Refused.refusal _ _ _
-        (rw c.in-Err-Refused.field-0-is at c.in-Err-Refused.ensures.text) (rw (c.line.ensures, c.status.ensures) at c.put_whole-in-Err-Refused.ensures.put) in
+    (rw c.in-Err-Refused.field-0-is at c.in-Err-Refused.ensures.text) (rw (c.line.ensures, c.status.ensures) at c.put_whole-in-Err-Refused.ensures.put) in
     headline (words_of c.args.words.now) (g.S.Store.holds c.args.store.now) _ _ _ _ _ _ _ _ _ _ left (λ k failed. failed.0)
     (put_steps (words_of c.args.words.now) (g.S.Store.holds c.args.store.now) _ _ _ (rw c.in-Err-Refused.field-0-is at c.in-Err-Refused.ensures.steps) _ _ _ _ _ (rw c.status.ensures at c.put_whole-in-Err-Refused.ensures.put))
 
