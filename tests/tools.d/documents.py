@@ -3,6 +3,7 @@ and what the documents name is there."""
 import os
 import re
 import subprocess
+import sys
 import tempfile
 from collections.abc import Iterator
 from pathlib import Path
@@ -63,7 +64,8 @@ def test_guide() -> None:
 
 def cited(text: str) -> Iterator[tuple[str, str]]:
     """The files that a text cites, each with a name behind it, or with none."""
-    for path, names in re.findall(r"`((?:gm\w*|tools|editors)/[\w/.]*\w|gmr)`(?:: ((?:`\w+`(?:, )?)+))?", text):
+    folders = r"gm\w*|tools|editors|python|bench|tests|docs|\.ci"
+    for path, names in re.findall(rf"`((?:{folders})/[\w/.]*\w|gmr)`(?:: ((?:`\w+`(?:, )?)+))?", text):
         for name in re.findall(r"\w+", names) or [""]:
             yield path, name
 
@@ -74,11 +76,55 @@ def test_where_to_change_what() -> None:
     table = text.split("## To change X, go to Y")[1].split("\n## ")[0]
     missing = []
     for path, name in cited(table):
-        file = ROOT / path if path.startswith(("tools", "editors")) or path == "gmr" else CRATES / path
+        file = CRATES / path if path.startswith("gm") and path != "gmr" else ROOT / path
         if not file.is_file() or not re.search(rf"\b{name}\b", file.read_text(encoding="utf-8")):
             missing.append(f"{path}: {name}")
     assert not missing, missing
-    assert table.count("\n| **") == 12
+    assert table.count("\n| **") == 17
+
+
+def names_of_code(text: str) -> set[str]:
+    """The names in a text that only code has: in backquotes, with a line below or a capital within."""
+    cited = re.findall(r"`(?:\w+(?:::|\.))*(\w+)`", text)
+    return {name for name in cited if re.fullmatch(r"[a-z]\w*_\w+|[A-Z][a-z]+[A-Z]\w*", name)}
+
+
+def test_names_of_code() -> None:
+    """What the documents name of the code, as clauses, laws, definitions and functions, is there."""
+    files = [path for folder in ("crates", "python", "bench", "tests") for path in (ROOT / folder).rglob("*")
+             if path.suffix in (".rt", ".antt", ".py") or path.parent.name == "bench" and path.is_file()]
+    known = set(re.findall(r"\w+", "\n".join(path.read_text(encoding="utf-8") for path in files) + "\n" +
+                           (ROOT / "gmr").read_text(encoding="utf-8")))
+    missing = {}
+    for name in ("MODEL", "PROVED", "DECISIONS", "DEVELOPING", "TESTING", "ARCHITECTURE"):
+        named = names_of_code((ROOT / "docs" / f"{name}.md").read_text(encoding="utf-8"))
+        if strange := sorted(named - known):
+            missing[name] = strange
+    assert not missing, missing
+
+
+def test_lines_to_believe() -> None:
+    """README and PROVED say how many lines the sentence rests on, as docs/definitions.py counts them."""
+    counts = [sys.executable, str(ROOT / "docs" / "definitions.py"), "headline"]
+    done = subprocess.run(counts, capture_output=True, text=True, check=True)
+    [counted] = re.findall(r"(\d+) lines in all", done.stdout)
+    lines = f"{int(counted):,}"
+    for name in ("README.md", "docs/PROVED.md"):
+        told = re.findall(r"([\d,]+) lines", (ROOT / name).read_text(encoding="utf-8"))
+        assert lines in told, f"{name} doesn't say {lines} lines, but {told}"
+
+
+def test_commands_are_told() -> None:
+    """What stands over `tool`, and the table of commands, name each command that there is."""
+    source = (CRATES / "gm_tool" / "src" / "program.rt").read_text(encoding="utf-8")
+    words = (CRATES / "gm_tool" / "specs" / "Answer.antt").read_text(encoding="utf-8")
+    commands = re.findall(r"^command_word \w+ = codes \"(\w+)\"", words, re.MULTILINE)
+    comment = source[:source.index("\npub fn tool")].rsplit("\n\n", 1)[1]
+    formats = (ROOT / "docs" / "FORMATS.md").read_text(encoding="utf-8").split("\n## Commands")[1].split("\n## ")[0]
+    assert commands, "no command is defined"
+    for command in [*commands, "run", "migrate", "dual", "grid"]:
+        assert re.search(rf"`{command}\b", comment), f"the words over `tool` leave out {command}"
+        assert re.search(rf"\b{command}\b", formats), f"FORMATS leaves out {command}"
 
 
 def test_modules_are_there() -> None:
