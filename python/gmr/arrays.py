@@ -86,7 +86,8 @@ def print_numbers(numbers: "Whole") -> "Bytes":
         found[:, place] = numpy.where(is_there, rest % numpy.uint64(10) + numpy.uint64(48), 0)
         rest //= numpy.uint64(10)
     found[:, 0] = numpy.where(numbers < 0, 45, 0)
-    return found if (numbers < 0).any() else found[:, 1:]
+    kept: Bytes = found if (numbers < 0).any() else found[:, 1:]
+    return kept
 
 
 def print_values(table: "Whole") -> "Bytes":
@@ -97,7 +98,8 @@ def print_values(table: "Whole") -> "Bytes":
         return parts[0]
     signs = [numpy.full((len(table), 1), sign, numpy.uint8) for sign in (40, 32, 41)]
     spaced = [piece for part in parts for piece in (signs[1], part)][1:]
-    return numpy.concatenate([signs[0], *spaced, signs[2]], axis=1)
+    found: Bytes = numpy.concatenate([signs[0], *spaced, signs[2]], axis=1)
+    return found
 
 
 def read_arrays(text: bytes) -> Arrays:
@@ -139,7 +141,8 @@ def read_numbers(body: bytes, width: int, count: int) -> "Whole":
     is_last = len(numbers) > 0 and (numbers.max() == MOST or numbers.min() == LEAST)
     if is_last and any(not LEAST <= int(word) <= MOST for word in plain.split() if len(word) > 18):
         raise ValueError("a number doesn't fit in 64 bits")
-    return numbers.reshape(count, width)
+    rows: Whole = numbers.reshape(count, width)
+    return rows
 
 
 def join_rows(version: int, dimension: int, embeds: list[Embed], stated: bytes | None, rows: "Whole") -> Arrays:

@@ -180,8 +180,9 @@ def test_what_is_written_is_compared():
 
 
 def test_binary_files_are_read_again():
-    head = "ply\nformat binary_big_endian 1.0\nelement vertex 4\nproperty float x\nproperty double y\nproperty float z\n"
-    head += "property uchar red\nelement face 2\nproperty uchar flag\nproperty list uchar int vertex_indices\nend_header\n"
+    head = "ply\nformat binary_big_endian 1.0\nelement vertex 4\nproperty float x\nproperty double y\n"
+    head += "property float z\nproperty uchar red\nelement face 2\nproperty uchar flag\n"
+    head += "property list uchar int vertex_indices\nend_header\n"
     body = b"".join(struct.pack(">fdfB", *one, 7) for one in ((0, 0, 0), (0.1, 0.3, 0), (1, 1, 0), (0, 1, 0.7)))
     body += struct.pack(">BB3iBB4i", 1, 3, 0, 1, 2, 1, 4, 0, 2, 3, 1)
     with scratch() as folder:

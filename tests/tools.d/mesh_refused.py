@@ -162,7 +162,8 @@ def test_strange_files_are_refused_by_what_they_are():
         (folder / "a.obj").mkdir()
         os.mkfifo(folder / "b.obj")
         assert refusal(lambda: read_mesh(folder / "a.obj")) == "it is a folder, and a mesh is a file"
-        assert refusal(lambda: read_mesh(folder / "b.obj")) == "it is a pipe or a device, and a mesh is read from a file"
+        line = "it is a pipe or a device, and a mesh is read from a file"
+        assert refusal(lambda: read_mesh(folder / "b.obj")) == line
 
 
 def test_numbers_of_other_scripts_are_refused():

@@ -10,13 +10,15 @@ first one of kind int over edges, beside their middles.
 A picture of solids needs points. It has the faces in their colours, as they are seen from where --view says, and with
 --names each face's least dart. Of volumes the border is seen, or with --apart each of them."""
 import argparse
+import os
 import sys
 from collections.abc import Sequence
 from io import BytesIO
 from pathlib import Path
 
+from gmr.arrays import read_arrays
 from gmr.commands.frame import new_parser, run_command
-from gmr.draw import flat as draw_flat, solid as draw_solid
+from gmr.draw import crowd, flat as draw_flat, solid as draw_solid
 from gmr.draw.model import Model, load_model
 from gmr.draw.solid import View
 from gmr.errors import told_with
@@ -24,6 +26,7 @@ from gmr.files import check_apart, write_whole
 from gmr.progress import tell
 
 FORMS = (".svg", ".png", ".pdf")
+SMALL = 1_000_000  # bytes of a map that isn't large
 EXAMPLES = """examples:
   tools/draw out.gmap out.svg                        all darts, with their names
   tools/draw before.gmap after.gmap both.svg         side by side, each under its file's name
@@ -90,6 +93,8 @@ def main(words: Sequence[str]) -> None:
     asked = parse(words)
     if asked.out:
         check_apart(asked.out, asked.maps)
+    if draw_crowds(asked):
+        return
     models = []
     for path in asked.maps:
         tell(f"reading {path}")
@@ -108,6 +113,27 @@ def main(words: Sequence[str]) -> None:
         raise ValueError(f"a flat picture is .svg, and no .{form}; --solid draws faces as .{form} too")
     else:
         put(draw_flat.draw(titled, asked.names).encode("utf-8"), asked.out)
+
+
+def draw_crowds(asked: argparse.Namespace) -> bool:
+    """Draws the maps as solids where all of them are large surfaces, and says whether it did."""
+    above, turn = asked.view or (25, -60)
+    view = View(above, turn, asked.axis, asked.apart, asked.clear, asked.columns, asked.size, asked.names)
+    if asked.colours is not None or asked.solid is False or any(os.path.getsize(path) < SMALL for path in asked.maps):
+        return False
+    drawn = []
+    for title, path in zip(asked.titles or titles_of(asked.maps), asked.maps):
+        tell(f"reading {path}")
+        with told_with(path):
+            it = read_arrays(Path(path).read_bytes())
+            if not crowd.suits(it, view) or not crowd.is_in_space(it):
+                return False
+            drawn.append((title, crowd.faces_of(it, view)))
+    tell("drawing")
+    picture = BytesIO()
+    draw_solid.draw_listed(drawn, view, picture, Path(asked.out).suffix[1:] if asked.out else "svg")
+    put(picture.getvalue(), asked.out)
+    return True
 
 
 def put(picture: bytes, out: str | None) -> None:

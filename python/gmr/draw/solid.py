@@ -15,6 +15,7 @@ FILL, INK = (160, 190, 222), "#1f2933"
 LIGHT = (-0.40, 0.55, 0.73)  # from the left, from above and from in front of the picture
 BRIGHTNESS = (0.30, 0.59, 0.11)  # of red, green and blue, as eyes see them
 GAP, TITLE, MOST_LINES, MOST_NAMES = 0.12, 0.3, 20_000, 50
+DOTS, IMAGE_DOTS = 120, 300  # an inch: of a picture of dots, and of an image within a picture of lines
 Flat = tuple[float, float]
 
 
@@ -170,8 +171,12 @@ def draw(models: Sequence[tuple[str | None, Model]], view: View, out: object, fo
     for _, it in models:
         if it.dimension == 1 or not it.points and it.alpha[0]:
             raise ValueError("solids are drawn of maps of dimension 2 and 3 with points: a vec2 or vec3 over vertices")
+    draw_listed([(title, faces_of(it, view)) for title, it in models], view, out, form)
+
+
+def draw_listed(drawn: Sequence[tuple[str | None, list[Face]]], view: View, out: object, form: str) -> None:
+    """Draws the faces of maps, listed from the back to the front. Those of a large map are one image in the picture."""
     pyplot = import_pyplot()
-    drawn = [(title, faces_of(it, view)) for title, it in models]
     extents = [extent_of(faces) for _, faces in drawn]
     sheet = plan(extents, view, any(title for title, _ in drawn))
     size = (sheet.columns * sheet.wide, sheet.rows * sheet.high)
@@ -184,7 +189,9 @@ def draw(models: Sequence[tuple[str | None, Model]], view: View, out: object, fo
         if title:
             axes.text(x, y + sheet.reach / 2, title, ha="center", va="center", color=INK, fontsize=12)
     undated = {"svg": {"Date": None}, "pdf": {"CreationDate": None}}.get(form)
-    figure.savefig(out, format=form, dpi=120, facecolor="white", metadata=undated)
+    has_image = any(len(faces) > MOST_LINES for _, faces in drawn)
+    dots = IMAGE_DOTS if has_image and form != "png" else DOTS
+    figure.savefig(out, format=form, dpi=dots, facecolor="white", metadata=undated)
     pyplot.close(figure)
 
 
@@ -206,6 +213,7 @@ def draw_faces(axes: Any, faces: Sequence[Face], by: Flat, view: View) -> None:
     width = max(0.25, min(1.0, 20 / math.sqrt(len(faces) or 1))) if has_lines else 0.3
     patches = collections.PolyCollection(outlines, facecolors=fills, edgecolors=edges, linewidths=width)
     patches.set_joinstyle("round")
+    patches.set_rasterized(not has_lines)
     axes.add_collection(patches)
     if view.names or view.names is None and len(faces) <= MOST_NAMES:
         write_names(axes, faces, by)

@@ -25,7 +25,7 @@ def read_by_assimp(path: Path) -> Surface:
     found = find_assimp()
     with tempfile.TemporaryDirectory() as scratch:
         turned = Path(scratch) / "turned.ply"
-        words = [found, "export", path.absolute(), turned, "-fplyb"]
+        words: list[str | Path] = [found, "export", path.absolute(), turned, "-fplyb"]
         done = subprocess.run(words, capture_output=True, check=False, stdin=subprocess.DEVNULL)
         if done.returncode != 0 or not turned.exists():
             raise Unfit(f"Assimp can't read it: {last_line(done.stdout + done.stderr, done.returncode)}")

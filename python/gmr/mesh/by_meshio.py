@@ -111,16 +111,14 @@ def enumerate_elements(blocks: Sequence[Any], first: int) -> Iterator[tuple[int,
     """The cells and polygons of the library's blocks, each with its number; Unfit at a type that isn't known here."""
     number = first
     for block in blocks:
-        made: list[Cell] | list[Polygon]
+        made: Sequence[Cell | Polygon] = ()
         if block.type in CELL_FACES:
             made = [make_cell(block.type, corners) for corners in block.data.tolist()]
         elif block.type.startswith(POLYHEDRON):
             made = [make_polyhedron([list(map(int, face)) for face in faces]) for faces in block.data]
         elif block.type in POLYGONS:
             made = [tuple(map(int, face)) for face in block.data]
-        elif block.type in PASSED:
-            made = []
-        else:
+        elif block.type not in PASSED:
             raise Unfit(f"element {number} is of the type {block.type}, and cells here are {', '.join(CELL_FACES)}")
         yield from enumerate(made, number)
         number += len(block.data)

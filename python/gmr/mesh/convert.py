@@ -55,7 +55,7 @@ class Options:
 
 
 class Imported(NamedTuple):
-    """The map of a mesh: that mesh, the scale and origin, what is told of it, and what its certificate is to look at."""
+    """The map of a mesh: that mesh, the scale and origin, what is told of it, and what its certificate looks at."""
 
     mesh: Surface | Volume
     map: Mapped
@@ -136,7 +136,9 @@ def convert_read(mesh: Surface | Volume, options: Options) -> Imported:
 
 def map_mesh(mesh: Surface | Volume, points: Whole, wish: Wish) -> tuple[Mapped, Surface | Volume, Done]:
     """The map of a mesh, the mesh that it is of, and what was done to it."""
-    return map_volume(mesh, points, wish) if isinstance(mesh, Volume) else map_surface(mesh, points, wish)
+    if isinstance(mesh, Volume):
+        return map_volume(mesh, points, wish)
+    return map_surface(mesh, points, wish)
 
 
 def weld_points(mesh: Surface | Volume, points: Whole, options: Options) -> Whole:
@@ -241,7 +243,7 @@ def compare_written(written: Path, text: bytes, frame: Frame, taken: Taken) -> N
 
 
 def order_polyhedra(mesh: Volume, starts: Whole) -> Whole:
-    """The darts at which faces begin in the order of a file of polyhedra, which has them by their numbers of corners."""
+    """The darts at which faces begin in the order of a file of polyhedra, which stand by their numbers of corners."""
     counts = [len(cell.faces) for cell in mesh.cells]
     parts = np.split(starts, np.cumsum(counts)[:-1])
     order = sorted(range(len(mesh.cells)), key=lambda index: len(mesh.cells[index].corners))

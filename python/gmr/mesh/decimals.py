@@ -7,6 +7,7 @@ from __future__ import annotations
 from collections.abc import Sequence
 from dataclasses import dataclass
 from fractions import Fraction
+from typing import Any
 
 import numpy as np
 from numpy.typing import NDArray
@@ -31,8 +32,8 @@ class Decimals:
     def __len__(self) -> int:
         return len(self.digits)
 
-    def __getitem__(self, index: object) -> Decimals:
-        return Decimals(self.digits[index], self.powers[index], self.is_exact)  # type: ignore[index]
+    def __getitem__(self, index: Any) -> Decimals:
+        return Decimals(self.digits[index], self.powers[index], self.is_exact)
 
     def reshape(self, *shape: int) -> Decimals:
         """The same numbers in another shape."""
@@ -41,7 +42,7 @@ class Decimals:
     @property
     def is_number(self) -> NDArray[np.bool_]:
         """Whether each is a finite number."""
-        return self.powers != NONE
+        return np.not_equal(self.powers, NONE)
 
     def floats(self) -> Floats:
         """The nearest numbers of 64 bits, or the one beside it where there are many digits; NaN where there is none."""
@@ -161,7 +162,7 @@ def shorten(values: Floats, single: bool = False) -> Decimals:
             is_same &= (np.abs(power) <= EXACT_FLOAT) & (np.abs(whole) < 2.0**53)
         digits[rest[is_same]], powers[rest[is_same]] = whole[is_same].astype(np.int64), power[is_same]
         rest = rest[~is_same]
-    left = flat[rest].astype(np.float32) if single else flat[rest]
+    left: NDArray[Any] = flat[rest].astype(np.float32) if single else flat[rest]
     told, _ = parse_words(left.astype("S40"))  # as the shortest texts that stand for them
     digits[rest], powers[rest] = told.digits, told.powers
     return trim(digits, powers).reshape(*np.shape(values))

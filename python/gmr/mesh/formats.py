@@ -38,7 +38,7 @@ def read_mesh(path: Path, drops: bool = False) -> Surface | Volume:
 
 
 def check_used(mesh: Surface | Volume) -> None:
-    """Unfit where a point is in no face or cell: of a format that tells no counts, that is how one sees the end gone."""
+    """Unfit where a point is in no face or cell: of a format that tells no counts, that is how a cut is seen."""
     used = np.zeros(len(mesh.places), bool)
     corners = mesh.corners if isinstance(mesh, Surface) else [one for cell in mesh.cells for one in cell.corners]
     there = np.asarray(corners, np.int64)

@@ -58,7 +58,7 @@ def make_scene(surface: Surface) -> tuple[dict[str, Any], bytes]:
 
 def pad_colours(colours: Whole) -> bytes:
     """Colours of four bytes each, the last one being opaque."""
-    return np.concatenate([colours, np.full((len(colours), 1), 255)], axis=1).astype(np.uint8).tobytes()
+    return bytes(np.concatenate([colours, np.full((len(colours), 1), 255)], axis=1).astype(np.uint8).tobytes())
 
 
 def join_parts(parts: list[tuple[bytes, dict[str, Any]]], attributes: dict[str, int]) -> dict[str, Any]:

@@ -48,8 +48,8 @@ def make_cell(kind: str, corners: Sequence[int]) -> Cell:
 
 def make_polyhedron(faces: Iterable[Sequence[int]]) -> Cell:
     """The cell that has these faces."""
-    kept = tuple(map(tuple, faces))
-    return Cell(POLYHEDRON, tuple(sorted({corner for face in kept for corner in face})), kept)
+    kept = [tuple(face) for face in faces]
+    return Cell(POLYHEDRON, tuple(sorted({corner for face in kept for corner in face})), tuple(kept))
 
 
 @dataclass(kw_only=True)
@@ -167,7 +167,7 @@ def flatten(faces: Sequence[Sequence[int]]) -> Whole:
     return np.fromiter(chain.from_iterable(faces), np.int64)
 
 
-def sizes_of(faces: Sequence[Sequence[int]]) -> Whole:
+def sizes_of(faces: Sequence[Sequence[Any]]) -> Whole:
     """How many corners each face has."""
     return np.fromiter(map(len, faces), np.int64, len(faces))
 
@@ -199,4 +199,5 @@ def tell_more(count: int) -> str:
 
 def mix_colours(parts: NDArray[np.float64]) -> Whole:
     """Colours of fractions from 0 to 1 as numbers from 0 to 255; any other number counts as the nearer of these."""
-    return np.rint(255 * np.clip(np.nan_to_num(parts), 0.0, 1.0)).astype(np.int64)
+    found: Whole = np.rint(255 * np.clip(np.nan_to_num(parts), 0.0, 1.0)).astype(np.int64)
+    return found

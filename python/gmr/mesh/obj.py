@@ -12,11 +12,10 @@ from gmr.mesh.texts import number_words, parse_places, parse_whole, read_bytes, 
 
 WHITE = (255, 255, 255)
 PASSED = {b"l": "lines", b"p": "points"}
-WORDS = {
-    b"v", b"vn", b"vt", b"vp", b"f", b"fo", b"l", b"p", b"g", b"o", b"s", b"mg", b"usemtl", b"mtllib", b"usemap",
-    b"maplib", b"cstype", b"deg", b"bmat", b"step", b"curv", b"curv2", b"surf", b"parm", b"trim", b"hole", b"scrv",
-    b"sp", b"end", b"con", b"bevel", b"c_interp", b"d_interp", b"lod", b"shadow_obj", b"trace_obj", b"ctech", b"stech", b"call", b"csh",
-}
+WORDS = set(
+    b"v vn vt vp f fo l p g o s mg usemtl mtllib usemap maplib cstype deg bmat step curv curv2 surf parm trim hole scrv sp "
+    b"end con bevel c_interp d_interp lod shadow_obj trace_obj ctech stech call csh".split()
+)
 
 
 def read_obj(path: Path) -> Surface:

@@ -43,7 +43,7 @@ def read_ply(path: Path) -> Surface:
     surface = make_surface(tables)
     if lines:
         surface.lines, surface.point_lines = lines.get("face"), lines.get("vertex")
-    edges = next((element.count for element in head.elements if element.name == "edge"), 0)
+    edges = next((element.rows for element in head.elements if element.name == "edge"), 0)
     surface.passed = {"lines": edges} if edges else {}
     return surface
 
@@ -76,7 +76,7 @@ def read_head(text: str) -> Head:
                 elements[-1].properties.append(Property(words[2], TYPES[words[1]], None))
             elif words[0] not in ("comment", "obj_info"):
                 raise KeyError
-            if words[0] == "element" and (elements[-1].count < 0 or "_" in words[2]):
+            if words[0] == "element" and (elements[-1].rows < 0 or "_" in words[2]):
                 raise KeyError
         except (IndexError, KeyError, ValueError):
             raise Unfit(f"PLY has a line in its head that isn't understood: {' '.join(words)}") from None
@@ -102,9 +102,9 @@ def read_text(body: bytes, head: Head) -> tuple[dict[str, Table], dict[str, list
     lines: dict[str, list[int]] = {}
     place = 0
     for element in head.elements:
-        behind = place + (element.count if element.properties else 0)
+        behind = place + (element.rows if element.properties else 0)
         if behind > len(rows):
-            raise Unfit(f"PLY tells of {element.count} elements {element.name} and has {len(rows) - place}: "
+            raise Unfit(f"PLY tells of {element.rows} elements {element.name} and has {len(rows) - place}: "
                         "it is cut off")
         lines[element.name] = [number + head.lines for number in numbers[place:behind]]
         tables[element.name] = read_text_table(rows[place:behind], element, lines[element.name])
@@ -214,7 +214,8 @@ def read_colours(table: Table) -> Whole | None:
         if set(channels) <= set(table):
             parts = [table[channel].numbers for channel in channels]
             if isinstance(parts[0], np.ndarray):
-                return np.clip(np.stack([np.asarray(part) for part in parts], 1), 0, 255).astype(np.int64)
+                found: Whole = np.clip(np.stack([np.asarray(part) for part in parts], 1), 0, 255).astype(np.int64)
+                return found
             return mix_colours(np.stack([as_decimals(part).floats() for part in parts], 1))
     return None
 

@@ -1,7 +1,8 @@
 """The rows of binary files in the Stanford format, PLY."""
-from typing import NamedTuple
+from typing import Any, NamedTuple
 
 import numpy as np
+from numpy.typing import NDArray
 
 from gmr.mesh.decimals import Decimals, Whole, shorten
 from gmr.mesh.model import Unfit
@@ -19,7 +20,7 @@ class Element(NamedTuple):
     """An element of the head: its name, how many there are, and their properties."""
 
     name: str
-    count: int
+    rows: int
     properties: list[Property]
 
 
@@ -32,7 +33,7 @@ class Column(NamedTuple):
 
 def read_binary_table(body: bytes, place: int, element: Element, order: str) -> tuple[dict[str, Column], int]:
     """The columns of an element, and the place behind its rows; Unfit where the file ends before."""
-    if not element.count or not element.properties:
+    if not element.rows or not element.properties:
         none = {item.name: Column(np.empty(0, np.int64), np.empty(0, np.int64)) for item in element.properties}
         return none, place
     try:
@@ -40,7 +41,7 @@ def read_binary_table(body: bytes, place: int, element: Element, order: str) -> 
         table = read_alike(body, place, element, order, first)
         return table or read_row_by_row(body, place, element, order)
     except (IndexError, ValueError):
-        raise Unfit(f"PLY tells of {element.count} elements {element.name} and has fewer: it is cut off") from None
+        raise Unfit(f"PLY tells of {element.rows} elements {element.name} and has fewer: it is cut off") from None
 
 
 def read_lengths(body: bytes, place: int, element: Element, order: str) -> list[int]:
@@ -68,26 +69,26 @@ def read_alike(
         fields += [(f"length{number}", order + item.length, ())] if item.length else []
         fields.append((f"value{number}", order + item.code, (count,)))
     form = np.dtype(fields)
-    if place + form.itemsize * element.count > len(body):
+    if place + form.itemsize * element.rows > len(body):
         if any(item.length for item in element.properties):
             return None
         raise ValueError
-    rows = np.frombuffer(body, form, element.count, place)
+    rows = np.frombuffer(body, form, element.rows, place)
     table = {}
     for number, (item, count) in enumerate(zip(element.properties, counts)):
         if item.length and (rows[f"length{number}"] != count).any():
             return None
-        sizes = np.full(element.count, count, np.int64) if item.length else None
+        sizes = np.full(element.rows, count, np.int64) if item.length else None
         table[item.name] = Column(as_numbers(rows[f"value{number}"].ravel(), item), sizes)
-    return table, place + form.itemsize * element.count
+    return table, place + form.itemsize * element.rows
 
 
 def read_row_by_row(body: bytes, place: int, element: Element, order: str) -> tuple[dict[str, Column], int]:
     """The columns where lists are of several lengths."""
-    parts: list[list[np.ndarray]] = [[] for _ in element.properties]
+    parts: list[list[NDArray[Any]]] = [[] for _ in element.properties]
     kinds = [(np.dtype(order + item.code), np.dtype(order + item.length) if item.length else None)
              for item in element.properties]
-    for _ in range(element.count):
+    for _ in range(element.rows):
         for part, (kind, length) in zip(parts, kinds):
             count = 1
             if length is not None:
@@ -104,7 +105,7 @@ def read_row_by_row(body: bytes, place: int, element: Element, order: str) -> tu
     return table, place
 
 
-def as_numbers(values: np.ndarray, item: Property) -> Decimals | Whole:
+def as_numbers(values: NDArray[Any], item: Property) -> Decimals | Whole:
     """Numbers of a file: fractions as the shortest decimals that stand for them."""
     if item.code.startswith("f"):
         return shorten(values.astype(np.float64), single=item.code == "f4")

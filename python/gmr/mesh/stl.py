@@ -4,7 +4,7 @@ from pathlib import Path
 
 import numpy as np
 
-from gmr.mesh.decimals import shorten
+from gmr.mesh.decimals import Decimals, Floats, Whole, shorten
 from gmr.mesh.model import Surface, Unfit
 from gmr.mesh.texts import parse_places, read_bytes, show_words
 
@@ -30,11 +30,11 @@ def read_stl(path: Path) -> Surface:
                 f"it is {'cut off' if len(data) < HEAD + 4 + FACET * count else 'no STL, or has more after them'}")
 
 
-def make_triangles(places: object, lines: list[int] | None = None) -> Surface:
+def make_triangles(places: Decimals, lines: list[int] | None = None) -> Surface:
     """The surface of triangles without numbers."""
-    count = len(places) // 3  # type: ignore[arg-type]
+    count = len(places) // 3
     return Surface(
-        places=places,  # type: ignore[arg-type]
+        places=places,
         corners=np.arange(3 * count),
         sizes=np.full(count, 3, np.int64),
         has_numbers=False,
@@ -80,14 +80,14 @@ def write_stl(path: Path, surface: Surface) -> None:
     corners = surface.places.floats()[triangles].astype(np.float32)
     rows = np.zeros(len(triangles), RECORD)
     one, two = corners[:, 1] - corners[:, 0], corners[:, 2] - corners[:, 0]
-    normals = np.cross(one.astype(np.float64), two.astype(np.float64))
+    normals: Floats = np.cross(one.astype(np.float64), two.astype(np.float64))
     lengths = np.linalg.norm(normals, axis=1, keepdims=True)
     rows["normal"] = np.divide(normals, lengths, out=np.zeros_like(normals), where=lengths > 0)
     rows["corners"] = corners.reshape(-1, 9)
     path.write_bytes(b"gmr".ljust(HEAD, b" ") + struct.pack("<I", len(rows)) + rows.tobytes())
 
 
-def cut_to_triangles(surface: Surface) -> np.ndarray:
+def cut_to_triangles(surface: Surface) -> Whole:
     """The triangles of the polygons, each from the polygon's first corner."""
     begins, sizes = surface.begins, surface.sizes
     counts = np.maximum(sizes - 2, 0)

@@ -147,7 +147,8 @@ def tell_one_place(mesh: Mesh, element: str, corners: tuple[int, int], count: in
 def edge_keys(surface: Surface) -> Whole:
     """A number for the edge of each side, the same for both directions."""
     ends = surface.corners[next_corners(surface.sizes)]
-    return np.minimum(surface.corners, ends) * len(surface.places) + np.maximum(surface.corners, ends)
+    found: Whole = np.minimum(surface.corners, ends) * len(surface.places) + np.maximum(surface.corners, ends)
+    return found
 
 
 def join_sides(surface: Surface) -> tuple[Whole, Whole]:

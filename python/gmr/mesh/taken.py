@@ -80,7 +80,7 @@ def lead_darts(given: Arrays, labels: Sequence[int], faces: Whole) -> Bools:
         steps.append(np.concatenate(crossed))
     least = least_of_orbits(steps, 2 * count)
     one, two = least[:count], least[count:]
-    return (one < two) | (one == two)
+    return np.less_equal(one, two)
 
 
 def list_faces(given: Arrays) -> Whole:
@@ -91,7 +91,8 @@ def list_faces(given: Arrays) -> Whole:
     flat = least_of_orbits(list(given.alpha[:2]), count) if given.dimension > 2 else faces
     leading = np.nonzero(lead_darts(given, range(given.dimension + 1), flat))[0]
     _, firsts = np.unique(faces[leading], return_index=True)
-    return leading[np.sort(firsts)]
+    found: Whole = leading[np.sort(firsts)]
+    return found
 
 
 def pick_points(given: Arrays, leads: Whole) -> Whole:

@@ -75,4 +75,5 @@ def parse_colours(rows: Sequence[Sequence[bytes]]) -> Whole | None:
     values = numbers.floats().reshape(-1, 3)
     is_pointed = np.array([any(sign in word for sign in b".eE") for word in flat], bool).reshape(-1, 3).any(axis=1)
     parts = np.where(is_pointed[:, None], np.clip(values, 0, 1) * 255, np.clip(values, 0, 255))
-    return np.rint(parts).astype(np.int64)
+    found: Whole = np.rint(parts).astype(np.int64)
+    return found

@@ -66,7 +66,7 @@ def check_cells(volume: Volume, points: Whole, wish: Wish) -> tuple[Volume, Done
         if cell.corners and not 0 <= min(cell.corners) <= max(cell.corners) < count:
             name = volume.tell_element(index)
             raise Unfit(f"cell {name} has a corner that is none of the {count} points")
-    places = list(map(tuple, points.tolist()))
+    places: list[tuple[int, ...]] = [tuple(point) for point in points.tolist()]
     faults = [(index, find_fault(volume, cell, places)) for index, cell in enumerate(volume.cells)]
     wrong = [(index, fault) for index, fault in faults if fault]
     if not wrong:

@@ -4,6 +4,7 @@ from __future__ import annotations
 from dataclasses import replace
 
 import numpy as np
+from numpy.typing import NDArray
 
 from gmr.mesh.decimals import Whole
 from gmr.mesh.model import Cell, Mesh, Surface, Volume, make_cell, make_polyhedron
@@ -28,10 +29,10 @@ def weld_near(mesh: Mesh, points: Whole, distance: float) -> Whole:
     return leaders[alike]
 
 
-def lead_points(places: np.ndarray, numbers: Whole, distance: float) -> Whole:
+def lead_points(places: NDArray[np.float64], numbers: Whole, distance: float) -> Whole:
     """For each place the number of the first one that is kept within the distance; one that has none is kept."""
-    boxes: dict[tuple[int, ...], list[int]] = {}
-    bins = list(map(tuple, np.floor(places / distance).astype(np.int64).tolist()))
+    boxes: dict[tuple[int, int, int], list[int]] = {}
+    bins: list[tuple[int, int, int]] = [(x, y, z) for x, y, z in np.floor(places / distance).astype(np.int64).tolist()]
     rows = places.tolist()
     found = list(range(len(rows)))
     limit = (distance * (1 + 1e-12)) ** 2
