@@ -90,9 +90,47 @@ def test_several_lines_for_parts_that_nothing_joins():
 
 
 def test_a_context_that_is_needed_is_told():
-    folder = DRAWN / "cut_off_corner"
-    book = write_book(compare(read(folder / "before.gmap"), read(folder / "after.gmap")), made(folder), "cut")
-    equal("# label 2 at a stays as it is: square a 0 2 without it\n" in book, True)
+    folder = DRAWN / "split_edge_at_third"
+    book = write_book(compare(read(folder / "before.gmap"), read(folder / "after.gmap")), made(folder), "split")
+    equal("# label 2 at b stays as it is: square b 0 2 without it\n" in book, True)
+
+
+def test_of_the_smallest_rules_the_one_with_the_fewest_free_darts():
+    draft = made(DRAWN / "cut_off_corner").draft
+    loops = [label for at, node in enumerate(draft.nodes) for label, step in (node.left or {}).items()
+             if getattr(step, "node", None) == at]
+    equal((draft.word, loops), ((0, 2), []))
+
+
+def test_a_rule_over_a_whole_grid():
+    """Of 200 squares that are triangulated at once the rule has three nodes, and no smaller one is looked for."""
+    before = read_map(grid_text(10, 20))
+    with tempfile.TemporaryDirectory() as scratch:
+        files = [Path(scratch, name) for name in ("a.gmap", "b.gbook", "c.gscript", "d.gmap")]
+        files[0].write_text(before.text(), encoding="ascii")
+        files[1].write_text("book 1 dim 2 rule k left a <0 1 2> hook right a <0 _ 2> b <_ 2 _> c <1 2 _> a -1- b b -0- c")
+        files[2].write_text("apply k 0")
+        equal(answer("run", *files)[0], 0)
+        after = read(files[3])
+    said: list[str] = []
+    draft = infer(compare(before, after), tells=said.append).draft
+    equal((len(draft.nodes), draft.word, len(said)), (3, (0, 1, 2), 8))
+
+
+def grid_text(rows: int, columns: int) -> str:
+    """Rows of squares, joined along 2."""
+    def across(row: int, column: int, place: int) -> int:
+        """The dart across from one of a square, or itself at the border."""
+        down, right, other = ((-1, 0, 5 - place), (0, 1, 9 - place), (1, 0, 5 - place), (0, -1, 9 - place))[place // 2]
+        is_there = 0 <= row + down < rows and 0 <= column + right < columns
+        return 8 * ((row + down) * columns + column + right) + other if is_there else 8 * (row * columns + column) + place
+
+    lines = [f"gmap 1 dim 2 darts {8 * rows * columns}"]
+    for square in range(rows * columns):
+        for place in range(8):
+            near = [8 * square + (place ^ 1), 8 * square + (place + (1 if place % 2 else -1)) % 8]
+            lines.append(" ".join(map(str, (8 * square + place, *near, across(*divmod(square, columns), place)))))
+    return "\n".join(lines)
 
 
 def test_what_no_rule_makes():

@@ -39,7 +39,8 @@ def follow(rule: Rule, told: str) -> str:
             for line in gone:
                 sides[side].remove(line)
             sides[side] = come + sides[side] if "<" in "".join(come) else sides[side] + come
-    return "\n".join([*lines[:lines.index("left")], "left", *in_order(sides["left"]), "right", *in_order(sides["right"])])
+    head = lines[:lines.index("left")]
+    return "\n".join([*head, "left", *in_order(sides["left"]), "right", *in_order(sides["right"])])
 
 
 def in_order(lines: list[str]) -> list[str]:
@@ -51,7 +52,8 @@ def key(rule: Rule) -> list[object]:
     """What a rule says, whatever the order of its lines is."""
     links = [sorted((*sorted((one, other)), label) for one, label, other in some)
              for some in (rule.left_links, rule.right_links)]
-    return [sorted((node.name, str(node.left), str(node.right), str(node.sets), node.hook) for node in rule.nodes), links]
+    nodes = [(node.name, str(node.left), str(node.right), str(node.sets), node.hook) for node in rule.nodes]
+    return [sorted(nodes), links]
 
 
 def test_ways_are_followed_to_the_letter() -> None:
@@ -98,7 +100,7 @@ def test_an_unsewing_at_a_free_dart() -> None:
     with tempfile.TemporaryDirectory() as name:
         script = Path(name, "a.gscript")
         script.write_text(f"apply unsew_along_3_3d {offered[1]}\n", encoding="ascii")
-        files = [folder / "unsew_along_3_3d" / "before.gmap", ROOT / "examples" / "operations" / "dimension3.gbook", script]
+        files = [folder / "unsew_along_3_3d" / "before.gmap", folder.with_suffix(".gbook"), script]
         status, report = answer("run", *files, Path(name, "out.gmap"))
         assert status == 0 and report.startswith("1 unsew_along_3_3d done"), report
 

@@ -51,7 +51,8 @@ def certify(example: Example, book: str, script: str, lines: Sequence[Draft]) ->
 
 def names_of_new(first: int, lines: Sequence[Draft]) -> dict[int, int]:
     """For each name that the program gives a new dart, the dart of the map after that stands for it."""
-    names, name = {}, first
+    names: dict[int, int] = {}
+    name = first
     for draft in lines:
         for node in draft.nodes:
             if node.left is None:

@@ -1,4 +1,4 @@
-"""Compares two rules: whether they are the same up to names and order, and at which darts each of them can be applied."""
+"""Compares two rules: whether they are the same up to names and order, and at which darts each can be applied."""
 from collections.abc import Sequence
 from itertools import permutations
 
@@ -19,7 +19,7 @@ def are_same(one: Draft, other: Draft) -> bool:
     return any(extend(one, other, places, {}) for places in permutations(range(len(one.word))))
 
 
-def kind_of(node: Node) -> tuple:
+def kind_of(node: Node) -> tuple[object, ...]:
     """What a node has that doesn't go by names and order."""
     return node.is_hook, *(sorted(steps) if steps is not None else [-1] for steps in (node.left, node.right))
 
@@ -52,11 +52,11 @@ def follow(one: Draft, other: Draft, places: Sequence[int], found: Numbers, at: 
             return None
         for steps, images in ((node.left or {}, image.left or {}), (node.right or {}, image.right or {})):
             for label, step in steps.items():
-                if isinstance(step, Letter) != isinstance(images[label], Letter):
-                    return None
-                if isinstance(step, Link):
-                    pairs.append((step.node, images[label].node))
-                elif places[step.place] != images[label].place:
+                other_step = images[label]
+                if isinstance(step, Link) and isinstance(other_step, Link):
+                    pairs.append((step.node, other_step.node))
+                elif not (isinstance(step, Letter) and isinstance(other_step, Letter)
+                          and places[step.place] == other_step.place):
                     return None
     return found
 
@@ -86,9 +86,9 @@ def unfold(draft: Draft, before: Map, hooks: Sequence[int]) -> Map:
             near = families[step.node] if isinstance(step, Link) else [family[at] for at in placing.turns[step.place]]
             alpha[label].update(zip(family, near))
     gone = {dart for number, node in enumerate(draft.nodes) if node.right is None for dart in families[number]}
-    for step in alpha:
+    for ends in alpha:
         for dart in gone:
-            del step[dart]
+            del ends[dart]
     return Map(before.version, before.dimension, [], name, sorted(alpha[0]), alpha, {})
 
 
@@ -106,4 +106,3 @@ def lies(draft: Draft, example: Example, hooks: Sequence[int]) -> bool:
     except Broken:
         return False
     return True
-

@@ -29,13 +29,23 @@ class Node:
     left: Steps | None
     right: Steps | None
     is_hook: bool = False
-    context: set[int] = field(default_factory=set)     # labels of steps that are alike on both sides and may be left out
+    context: set[int] = field(default_factory=set)     # labels of steps that are alike on both sides and may go
     sets: dict[str, str] = field(default_factory=dict)  # by embedding an expression, where `{n}` is the name of node n
 
     @property
     def is_kept(self) -> bool:
         """Whether the node stands on both sides."""
         return self.left is not None and self.right is not None
+
+    @property
+    def lefts(self) -> Steps:
+        """Its steps on the left, where it stands there."""
+        return {} if self.left is None else self.left
+
+    @property
+    def rights(self) -> Steps:
+        """Its steps on the right, where it stands there."""
+        return {} if self.right is None else self.right
 
     def sides(self) -> Iterator[Steps]:
         """The steps of each side on which the node stands."""

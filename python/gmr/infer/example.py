@@ -52,7 +52,8 @@ class Example:
         """For each dart that stays, the labels along which it has another neighbour after than before."""
         labels = range(self.before.dimension + 1)
         return {
-            dart: frozenset(label for label in labels if self.before.alpha[label][dart] != self.after.alpha[label][dart])
+            dart: frozenset(label for label in labels
+                            if self.before.alpha[label][dart] != self.after.alpha[label][dart])
             for dart in self.kept
         }
 
@@ -73,6 +74,15 @@ class Example:
             frozenset(orbit) for embed in self.before.embeds
             for orbit in self.after.orbits(embed.labels, sorted(self.revalued_of(embed.name)))
         ]
+
+    @cached_property
+    def groups_at(self) -> dict[int, list[int]]:
+        """For each dart the numbers of the groups in which it is."""
+        groups: dict[int, list[int]] = {}
+        for number, group in enumerate(self.groups):
+            for dart in group:
+                groups.setdefault(dart, []).append(number)
+        return groups
 
     def revalued_of(self, name: str) -> frozenset[int]:
         """The darts that stay and have another value of the embedding after than before."""

@@ -27,12 +27,13 @@ class Fold:
     or to darts that become a new node. A step that is the same before and after is context: it is
     taken in where something hangs on it."""
 
-    def __init__(self, example: Example, word: tuple[int, ...], hook: int | None) -> None:
-        self.example, self.word = example, word
+    def __init__(self, example: Example, word: tuple[int, ...], hook: int | None, most: int = MOST_NODES) -> None:
+        self.example, self.word, self.most = example, word, most
         alpha = example.before.alpha
         self.positions: Family = (0,) if hook is None else tuple(walk(hook, [alpha[label] for label in word]))
         place_of = {dart: position for position, dart in enumerate(self.positions)}
-        self.turns = [tuple(place_of[alpha[label][dart]] for dart in self.positions) for label in word if hook is not None]
+        self.turns = [tuple(place_of[alpha[label][dart]] for dart in self.positions)
+                      for label in word if hook is not None]
         self.still = [turn == tuple(range(len(turn))) for turn in self.turns]
         self.nodes: list[Node] = []
         self.number_of: dict[Family, int] = {}   # of each node, by its darts
@@ -53,8 +54,9 @@ class Fold:
     # ------------------------------------------------------------------ families of darts
     def fault_of(self, family: Family) -> str | None:
         """Why the family is no new node, with the position, or None."""
-        if len(self.nodes) >= MOST_NODES:
-            return f"there would be more than {MOST_NODES} nodes"
+        if len(self.nodes) >= self.most:
+            return f"there would be more than {MOST_NODES} nodes, which is the most that a rule has" if (
+                self.most == MOST_NODES) else "it would be no smaller than the rule in hand"
         example, seen = self.example, set()
         kind = next(darts for darts in (example.kept, example.gone, example.new) if family[0] in darts)
         for position, dart in enumerate(family):
@@ -73,8 +75,8 @@ class Fold:
         if fault:
             raise Broken(fault)
         number, first = len(self.nodes), family[0]
-        left = None if first in self.example.new else {}
-        right = None if first in self.example.gone else {}
+        left: Steps | None = None if first in self.example.new else {}
+        right: Steps | None = None if first in self.example.gone else {}
         self.nodes.append(Node(family, left, right))
         self.number_of[family] = number
         self.owner.update(dict.fromkeys(family, number))
@@ -110,7 +112,7 @@ class Fold:
         return Letter((own or fitting)[0]) if fitting else None
 
     def known(self, number: int, side: Map, label: int, *taken: Steps) -> Step | None:
-        """The step of a node along a label, where it leads to no new node; its letter's place is in none of the steps."""
+        """The step of a node along a label, where it leads to no new node; its letter's place is in none of these."""
         family, reached = self.nodes[number].darts, self.reached(number, side, label)
         letter = self.letter(family, reached, label, {place for steps in taken for place in places_of(steps)})
         if letter or reached not in self.number_of:
@@ -136,9 +138,8 @@ class Fold:
     def must_take(self, number: int) -> Iterator[tuple[int, bool]]:
         """The steps of a node without which no rule makes the map after: the label, and whether it is on the left."""
         node = self.nodes[number]
-        labels = range(self.example.before.dimension + 1)
-        if node.is_kept:
-            labels = [label for label in labels if self.is_changed(number, label)]
+        labels = [label for label in range(self.example.before.dimension + 1)
+                  if not node.is_kept or self.is_changed(number, label)]
         for is_left in (True, False):
             if (node.left if is_left else node.right) is not None:
                 yield from ((label, is_left) for label in labels)
@@ -178,7 +179,8 @@ class Fold:
                     if any(label in self.example.changed[dart] for dart in way[-1]):
                         continue
                     reached = tuple(before.alpha[label][dart] for dart in way[-1])
-                    if not seen.isdisjoint(reached) or self.fault_of(reached) or not self.example.kept.issuperset(reached):
+                    is_kept = self.example.kept.issuperset(reached)
+                    if not seen.isdisjoint(reached) or self.fault_of(reached) or not is_kept:
                         continue
                     seen.update(reached)
                     longer.append(way + [reached])
@@ -197,9 +199,9 @@ class Fold:
             for label in range(before.dimension + 1):
                 if self.is_changed(number, label):
                     continue
-                step = node.left.get(label) or self.known(number, before, label, node.left, node.right)
+                step = node.lefts.get(label) or self.known(number, before, label, node.lefts, node.rights)
                 if step is not None:
-                    node.left[label] = node.right[label] = step
+                    node.lefts[label] = node.rights[label] = step
                     node.context.add(label)
 
     def set_hooks(self) -> None:
@@ -209,7 +211,7 @@ class Fold:
             if node.left is None or number in joined:
                 continue
             part = sorted(self.joined_to([number]))
-            able = [at for at in part if len(places_of(self.nodes[at].left)) == len(self.word)]
+            able = [at for at in part if len(places_of(self.nodes[at].lefts)) == len(self.word)]
             if not able:
                 raise Broken(f"nothing leads to node {self.name_of(number)} in the map before")
             chosen = min(able, key=lambda at: len(self.nodes[at].context))
@@ -220,7 +222,7 @@ class Fold:
         """The left nodes that left links join to these."""
         joined, open_nodes = set(numbers), list(numbers)
         while open_nodes:
-            for step in self.nodes[open_nodes.pop()].left.values():
+            for step in self.nodes[open_nodes.pop()].lefts.values():
                 if isinstance(step, Link) and step.node not in joined:
                     joined.add(step.node)
                     open_nodes.append(step.node)
@@ -233,11 +235,12 @@ class Fold:
         fold.set_hooks()
         for node in fold.nodes:
             if node.is_hook:
-                node.context -= {label for label, step in node.left.items() if isinstance(step, Letter)}
+                node.context -= {label for label, step in node.lefts.items() if isinstance(step, Letter)}
         order = sorted(range(len(fold.nodes)), key=lambda number: fold.nodes[number].left is None)
         number_of = {old: new for new, old in enumerate(order)}
         nodes = [fold.nodes[old] for old in order]
         for node in nodes:
             for steps in node.sides():
-                steps.update({label: Link(number_of[step.node]) for label, step in steps.items() if isinstance(step, Link)})
+                steps.update({label: Link(number_of[step.node]) for label, step in steps.items()
+                              if isinstance(step, Link)})
         return Draft(self.word, nodes)

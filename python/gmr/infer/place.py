@@ -1,18 +1,19 @@
 """Lays a rule into an example: which dart each of its nodes has at each position, at given hooks."""
 from collections.abc import Sequence
 
-from gmr.books import Rule
+from gmr.books import Letters, Link as Written, Rule
 from gmr.infer.draft import Draft, Letter, Link, Node, Steps
 from gmr.infer.example import Example
 from gmr.infer.fold import Broken, Family
 from gmr.maps import Map, walk
+from gmr.matches import labels_of
 
 
 def draft_of(rule: Rule) -> Draft:
     """The draft of a rule of a book, whose nodes have no darts yet."""
     number = {node.name: at for at, node in enumerate(rule.nodes)}
 
-    def steps_of(name: str, letters: tuple[int | None, ...] | None, links: Sequence[tuple[str, int, str]]) -> Steps | None:
+    def steps_of(name: str, letters: Letters | None, links: Sequence[Written]) -> Steps | None:
         """The steps of a node on a side."""
         if letters is None:
             return None
@@ -27,7 +28,7 @@ def draft_of(rule: Rule) -> Draft:
         left, right = steps_of(node.name, node.left, rule.left_links), steps_of(node.name, node.right, rule.right_links)
         nodes.append(Node((), left, right, node.hook))
     word = next((node.left for node in rule.nodes if node.hook), ())
-    return Draft(tuple(label for label in word if label is not None), nodes)
+    return Draft(labels_of(word), nodes)
 
 
 class Placing:

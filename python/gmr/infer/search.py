@@ -1,5 +1,5 @@
 """Looks for the orbits along which an example folds, and for the rule with the fewest nodes among them."""
-from collections.abc import Callable, Iterator, Sequence
+from collections.abc import Callable, Container, Iterator, Sequence
 from dataclasses import dataclass, field
 from itertools import combinations
 
@@ -20,6 +20,7 @@ class Candidate:
     further: list[Place] = field(default_factory=list)     # the further examples, and the draft as it lies there
     unfound: list[Unfound] = field(default_factory=list)   # the assignments for which no expression was found
     needed: list[str] = field(default_factory=list)        # of what stays as it is and isn't left out, why
+    doubts: list[str] = field(default_factory=list)        # what the example leaves open
 
     @property
     def draft(self) -> Draft:
@@ -40,6 +41,11 @@ class Candidate:
         unowned = len(example.revalued - owned)
         return len(nodes), len(self.lines), free, joined, len(self.draft.hooks()), unowned, len(self.draft.word)
 
+    def loops(self) -> int:
+        """How many free darts the rule asks for."""
+        return sum(isinstance(step, Link) and step.node == at
+                   for at, node in enumerate(self.draft.nodes) for step in (node.left or {}).values())
+
     def drafts(self) -> list[Draft]:
         """The draft wherever it lies."""
         return self.lines + [lying for _, lying in self.further]
@@ -51,9 +57,9 @@ class Candidate:
     def remarks(self) -> str:
         """Comments on the rule: which steps stay though they don't change, and which values aren't found."""
         names = self.draft.names()
-        lines = self.needed + [
-            f"{embed} at {names[node]} isn't found; at its positions the values are {', '.join(map(value_text, wanted))}"
-            for embed, node, wanted in self.unfound
+        lines = self.needed + self.doubts + [
+            f"{embed} at {names[node]} isn't found; at its positions the values are "
+            f"{', '.join(map(value_text, wanted))}" for embed, node, wanted in self.unfound
         ]
         return "".join(f"# {line}\n" for line in lines)
 
@@ -64,29 +70,75 @@ def words_of(dimension: int) -> list[tuple[int, ...]]:
     return [word for size in range(dimension + 1, -1, -1) for word in combinations(labels, size)]
 
 
-def candidates(example: Example, words: Sequence[tuple[int, ...]], hook: int | None) -> Iterator[Candidate]:
-    """The rules that fold the whole of what differs, as they are met."""
+@dataclass
+class Hand:
+    """The smallest rule so far that the program takes: what can't be smaller isn't folded."""
+    nodes: int = MOST_NODES
+    refused: set[str] = field(default_factory=set)
+    is_one_line: bool = False
+    tells: Callable[[str], None] | None = None      # is told how far the search is
+    breaks: Callable[[str], None] | None = None     # is told of each orbit that doesn't fold, and where it breaks
+
+    def tell_broken(self, word: tuple[int, ...], hook: int | None, broken: Broken) -> None:
+        """Tells where an orbit breaks."""
+        if self.breaks:
+            self.breaks(f"the orbit <{' '.join(map(str, word))}> of dart {hook} doesn't fold: {broken}")
+
+    def take(self, example: Example, candidate: Candidate) -> None:
+        """Takes a candidate into the hand where it is smaller and the program finds no fault but wanting values."""
+        nodes, is_one = len(candidate.draft.nodes), len(candidate.lines) == 1
+        if nodes < self.nodes or nodes == self.nodes and is_one and not self.is_one_line:
+            text = candidate.draft.text("r")
+            fault = "known" if text in self.refused else faults_of(*example.schema, [candidate.draft])[0]
+            if fault is None or fault.startswith(OF_VALUES):
+                self.nodes, self.is_one_line = nodes, is_one
+            else:
+                self.refused.add(text)
+
+    def most_of_several(self) -> int:
+        """How many nodes a rule of several lines has at most that is smaller."""
+        return self.nodes - 1 if self.is_one_line else self.nodes
+
+
+def candidates(example: Example, words: Sequence[tuple[int, ...]], hook: int | None, hand: Hand) -> Iterator[Candidate]:
+    """The rules that fold the whole of what differs, as they are met. Those that can't be smaller than the one in hand
+    are left out."""
     if not example.starts:
         yield from creations(example)
     for word in words:
-        firsts = [hook]
+        firsts: list[int | None] = [hook]
         if hook is None:
             firsts = [orbit[0] for orbit in example.before.orbits(word, example.starts or None)]
-        folds = [fold for first in firsts if (fold := start_fold(example, word, first))]
-        for fold in folds:
-            yield from whole(fold)
-        if hook is None:
-            yield from repeated(example, folds)
+        if hand.tells:
+            hand.tells(f"<{' '.join(map(str, word))}>: {len(firsts)} orbits; so far {hand.nodes} nodes at most")
+        folds = []
+        for first in firsts:
+            fold = start_fold(example, word, first, hand)
+            if fold:
+                folds.append(fold)
+                yield from whole(fold, hand)
+        if hook is None and hand.most_of_several():
+            yield from repeated(example, [fold for fold in folds if len(fold.nodes) <= hand.most_of_several()])
 
 
-def start_fold(example: Example, word: tuple[int, ...], hook: int) -> Fold | None:
-    """The fold along the word from the hook with what it must have, or None where that is broken."""
+def start_fold(example: Example, word: tuple[int, ...], hook: int | None, hand: Hand) -> Fold | None:
+    """The fold along the word from the hook with what it must have, or None where that is broken or has too many
+    nodes."""
     try:
-        fold = Fold(example, word, hook)
+        fold = Fold(example, word, hook, MOST_NODES)
+        fold.most = hand.nodes if could_be_whole(fold, hand) else hand.most_of_several()
+        if len(fold.nodes) > fold.most:
+            return None
         fold.grow()
-    except Broken:
+    except Broken as broken:
+        hand.tell_broken(word, hook, broken)
         return None
     return fold
+
+
+def could_be_whole(fold: Fold, hand: Hand) -> bool:
+    """Whether so many nodes have room for all that differs."""
+    return max(len(fold.example.moved), len(fold.example.groups)) <= hand.nodes * len(fold.positions)
 
 
 def creations(example: Example) -> Iterator[Candidate]:
@@ -100,18 +152,19 @@ def creations(example: Example) -> Iterator[Candidate]:
         yield Candidate([fold.draft()])
 
 
-def whole(fold: Fold) -> Iterator[Candidate]:
+def whole(fold: Fold, hand: Hand) -> Iterator[Candidate]:
     """The rule of a fold that goes on to all that differs: along what doesn't change, or else in step."""
-    if max(len(fold.example.moved), len(fold.example.groups)) > MOST_NODES * len(fold.positions):
+    if not could_be_whole(fold, hand):
         return
     try:
         fold = fold.copy()
+        fold.most = hand.nodes
         fold.reach(FURTHEST)
         while missing := fold.example.missing(fold.owner):
             fold = go_in_step(fold, min(missing))
         yield Candidate([fold.draft()])
-    except Broken:
-        return
+    except Broken as broken:
+        hand.tell_broken(fold.word, fold.positions[0], broken)
 
 
 def go_in_step(fold: Fold, dart: int) -> Fold:
@@ -132,26 +185,49 @@ def repeated(example: Example, folds: Sequence[Fold]) -> Iterator[Candidate]:
     """Rules that make the map after in several lines, each at a part of what differs."""
     alike: dict[str, list[tuple[Draft, frozenset[int]]]] = {}
     for fold in folds:
-        if example.missing(fold.owner):
+        if not owns_all(example, fold.owner):
             try:
                 draft = fold.draft()
             except Broken:
                 continue
             alike.setdefault(draft.text("r"), []).append((draft, frozenset(fold.owner)))
     for parts in alike.values():
-        taken: set[int] = set()
-        lines = []
-        for draft, darts in parts:
-            if taken.isdisjoint(darts) and example.missing(taken) & darts:
-                taken |= darts
-                lines.append(draft)
-        if not example.missing(taken):
+        lines = cover(example, parts)
+        if lines:
             yield Candidate(lines)
 
 
-def find(example: Example, words: Sequence[tuple[int, ...]], hook: int | None) -> list[Candidate]:
-    """The candidates in which the program finds no fault but wanting values, the best first; NoRule where there is none."""
-    found = sorted(candidates(example, words, hook), key=lambda candidate: candidate.cost(example))
+def owns_all(example: Example, owned: Container[int]) -> bool:
+    """Whether these darts account for all that differs."""
+    return all(dart in owned for dart in example.moved) and all(
+        any(dart in owned for dart in group) for group in example.groups)
+
+
+def cover(example: Example, parts: Sequence[tuple[Draft, frozenset[int]]]) -> list[Draft] | None:
+    """The first of these drafts that account together for all that differs and share no dart, or None."""
+    moved, groups = set(example.moved), set(range(len(example.groups)))
+    taken: set[int] = set()
+    lines = []
+    for draft, darts in parts:
+        met = {number for dart in darts for number in example.groups_at.get(dart, ())} & groups
+        if taken.isdisjoint(darts) and (met or not moved.isdisjoint(darts)):
+            taken |= darts
+            moved -= darts
+            groups -= met
+            lines.append(draft)
+    return None if moved or groups else lines
+
+
+def find(example: Example, words: Sequence[tuple[int, ...]], hook: int | None,
+         hand: Hand | None = None, goes_on: bool = False) -> list[Candidate]:
+    """The candidates in which the program finds no fault but wanting values, the best first; NoRule where there is
+    none. Where it goes on, those are among them that can't be smaller than others."""
+    hand, found = hand or Hand(), []
+    for candidate in candidates(example, words, hook, hand):
+        found.append(candidate)
+        if not goes_on:
+            hand.take(example, candidate)
+    found.sort(key=lambda candidate: candidate.cost(example))
     if not found:
         raise NoRule(why_none(example, words, hook))
     faults = faults_of(*example.schema, [candidate.draft for candidate in found])
@@ -202,7 +278,8 @@ def least_context(example: Example, candidate: Candidate) -> Candidate:
     candidate, needed = drop_all(example, candidate, idle_steps)
     names = candidate.draft.names()
     candidate.needed = [
-        f"label {label} at {names[at]} stays as it is: {fault} without it" for (at, label), fault in sorted(needed.items())
+        f"label {label} at {names[at]} stays as it is: {fault} without it"
+        for (at, label), fault in sorted(needed.items())
     ]
     return candidate
 
@@ -226,14 +303,14 @@ def idle_nodes(draft: Draft) -> list[Drop]:
     """The nodes of which nothing changes and nothing is read."""
     read = draft.read_nodes()
     return [(at, None) for at, node in enumerate(draft.nodes) if at not in read and not node.sets
-            and node.is_kept and not node.is_hook and node.context == set(node.left)]
+            and node.is_kept and not node.is_hook and node.context == set(node.lefts)]
 
 
 def idle_steps(draft: Draft) -> list[Drop]:
     """The steps that may be left out, each link once."""
     return [
         (at, label) for at, node in enumerate(draft.nodes) for label in sorted(node.context)
-        if isinstance(node.left[label], Letter) or node.left[label].node >= at
+        if isinstance(step := node.lefts[label], Letter) or step.node >= at
     ]
 
 
@@ -243,7 +320,7 @@ def drop_from(candidate: Candidate, drops: Sequence[Drop]) -> Candidate:
     for draft in candidate.drafts():
         draft = draft.copy()
         for at, label in drops:
-            for one in [label] if label is not None else list(draft.nodes[at].left):
+            for one in [label] if label is not None else list(draft.nodes[at].lefts):
                 drop_step(draft, at, one)
         drafts.append(draft.without({at for at, label in drops if label is None}))
     lines, others = drafts[: len(candidate.lines)], drafts[len(candidate.lines) :]
@@ -252,8 +329,8 @@ def drop_from(candidate: Candidate, drops: Sequence[Drop]) -> Candidate:
 
 def drop_step(draft: Draft, at: int, label: int) -> None:
     """Takes a step from a node on both sides, and where it is a link from the other end too."""
-    step = draft.nodes[at].left[label]
+    step = draft.nodes[at].lefts[label]
     for number in {at, step.node if isinstance(step, Link) else at}:
         node = draft.nodes[number]
         node.context.discard(label)
-        del node.left[label], node.right[label]
+        del node.lefts[label], node.rights[label]

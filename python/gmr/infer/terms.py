@@ -1,8 +1,9 @@
 """The values that a rule can read of the map before, and the expressions that are made of them."""
-from collections.abc import Iterator, Sequence
+from collections.abc import Callable, Iterator, Sequence
 from dataclasses import dataclass
 from itertools import chain, combinations, permutations
 
+from gmr.expressions import parts_of
 from gmr.infer.draft import Draft
 from gmr.maps import Embed, Map, Value
 
@@ -31,7 +32,7 @@ class Term:
 
 def row_of(values: Sequence[Value]) -> Row:
     """The row of the values at all positions."""
-    return tuple(values) if isinstance(values[0], int) else tuple(chain.from_iterable(zip(*values)))
+    return tuple(chain.from_iterable(zip(*map(parts_of, values))))
 
 
 def terms_of(places: Sequence[tuple[Map, Draft]], embed: Embed) -> list[Term]:
@@ -93,7 +94,8 @@ def collected(places: Sequence[tuple[Map, Draft]], embed: Embed, text: str,
             yield Term(f"max{over}", row_of([max(orbit) for orbit in orbits]))
 
 
-def orbits_at(before: Map, word: tuple[int, ...], embed: Embed, family: tuple[int, ...]) -> Iterator[list[tuple[int, ...]]]:
+def orbits_at(before: Map, word: tuple[int, ...], embed: Embed,
+              family: tuple[int, ...]) -> Iterator[list[tuple[int, ...]]]:
     """For each dart of a family the values over its orbit, each as the tuple of its parts."""
     values = before.values[embed.name]
     known: dict[int, list[tuple[int, ...]]] = {}
@@ -118,18 +120,32 @@ def find_constant(kind: str, wanted: Row, width: int) -> tuple[int, ...] | None:
     return tuple(part[0] for part in parts) if all(min(part) == max(part) for part in parts) else None
 
 
-def find_expression(kind: str, width: int, wanted: Row, terms: Sequence[Term]) -> str | None:
-    """The first expression that has the wanted row: a constant, a term, and then sums with small factors."""
+def find_expression(kind: str, width: int, wanted: Row, terms: Sequence[Term],
+                    equations: int | None = None) -> str | None:
+    """The first expression that has the wanted row: a constant, a term, and then sums with small factors. A constant
+    that takes more of the equations than it leaves comes last."""
     constant = find_constant(kind, wanted, width)
-    if constant is not None:
-        return constant_text(kind, constant)
+    guess = None if constant is None else constant_text(kind, constant)
+    if guess and (equations is None or 2 * width <= equations):
+        return guess
     for term in terms:
         if term.row == wanted:
             return term.text
-    if kind == "rgb":
-        return None
+    return guess if kind == "rgb" else find_combined(kind, width, wanted, terms, guess is None) or guess
+
+
+def find_combined(kind: str, width: int, wanted: Row, terms: Sequence[Term], with_constants: bool) -> str | None:
+    """The first sum or multiple of terms that has the wanted row, those of plain values first; with constants besides,
+    where they are wanted."""
     single = [term for term in terms if term.is_single]
-    tries = (
+    plain = [term for term in single if "/" not in term.text]
+    if not with_constants:
+        sums = (find_sum(wanted, some[: MOST_OF_SUM[len(factors[0])]], factors)
+                for factors in (((1, 1),), FACTORS[2], FACTORS[3]) for some in (plain, single))
+        return next((text for text in sums if text is not None), None)
+    tries: tuple[Callable[[], str | None], ...] = (
+        lambda: find_sum(wanted, plain[: MOST_OF_SUM[2]], ((1, 1),)),
+        lambda: find_sum(wanted, plain[: MOST_OF_SUM[2]], FACTORS[2]),
         lambda: find_sum(wanted, single[: MOST_OF_SUM[2]], ((1, 1),)),
         lambda: find_multiple(kind, width, wanted, terms, ((1, 1),)),
         lambda: find_sum(wanted, single[: MOST_OF_SUM[2]], FACTORS[2]),

@@ -15,6 +15,7 @@ class Unfound(NamedTuple):
     wanted: list[Value]
 
 
+MOST_POSITIONS = 600    # at which expressions are looked for
 Place = tuple[Example, Draft]   # a rule as it lies in an example
 
 
@@ -66,19 +67,39 @@ def assign(places: Sequence[Place], forced: Iterable[tuple[str, int]]) -> list[U
     for embed in places[0][0].before.embeds:
         needed = [node for name, node in forced if name == embed.name]
         terms = None
+        few = [(example, thinned(lying)) for example, lying in places]
         for part in components(draft, embed):
             if set(part).isdisjoint(needed) and all(keeps_values(place, part, embed) for place in places):
                 continue
             if terms is None:
-                terms = terms_of([(example.before, lying) for example, lying in places], embed)
-            wanted = wanted_values(places, part[0], embed)
-            text = find_expression(embed.kind, WIDTHS[embed.kind], row_of(wanted), terms)
+                terms = terms_of([(example.before, lying) for example, lying in few], embed)
+            wanted = wanted_values(few, part[0], embed)
+            equations = equations_of(places, part[0], embed)
+            text = find_expression(embed.kind, WIDTHS[embed.kind], row_of(wanted), terms, equations)
             if text is None:
                 unfound.append(Unfound(embed.name, part[0], wanted))
             else:
                 for _, lying in places:
                     lying.nodes[part[0]].sets[embed.name] = text
     return unfound
+
+
+def thinned(draft: Draft) -> Draft:
+    """The draft at so many positions at most: of a large orbit a part decides which expression it is, and the program
+    tries the rule on all of it."""
+    size = len(draft.nodes[0].darts) if draft.nodes else 0
+    if size <= MOST_POSITIONS:
+        return draft
+    thin = draft.copy()
+    for node in thin.nodes:
+        node.darts = node.darts[::size // MOST_POSITIONS]
+    return thin
+
+
+def equations_of(places: Sequence[Place], node: int, embed: Embed) -> int:
+    """How many numbers of the maps after a node's values have to meet: those of each orbit in which it lies, once."""
+    orbits = sum(len(example.after.orbits(embed.labels, lying.nodes[node].darts)) for example, lying in places)
+    return orbits * WIDTHS[embed.kind]
 
 
 def wanted_values(places: Sequence[Place], node: int, embed: Embed) -> list[Value]:

@@ -100,7 +100,8 @@ def without_place(rule: Rule, place: int) -> Rule:
     """The rule without a place of all words."""
     def shorter(word: tuple[int | None, ...] | None) -> tuple[int | None, ...] | None:
         return None if word is None else word[:place] + word[place + 1:]
-    return rule._replace(nodes=[node._replace(left=shorter(node.left), right=shorter(node.right)) for node in rule.nodes])
+    return rule._replace(nodes=[node._replace(left=shorter(node.left), right=shorter(node.right))
+                                for node in rule.nodes])
 
 
 def for_word_length(book: Book, rule: Rule, words: list[str]) -> Iterator[Rule]:

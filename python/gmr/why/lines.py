@@ -174,7 +174,8 @@ def tell_where_it_lies(line: Line) -> list[str]:
     whose = f" for the hook {found.hooks[at].name}" if len(found.hooks) > 1 else ""
     if darts:
         some = [str(dart) for dart in darts[:3]]
-        return [f"Its left side lies at dart {' or '.join([', '.join(some[:-1]), some[-1]] if some[1:] else some)}{whose}"
+        said = " or ".join([", ".join(some[:-1]), some[-1]] if some[1:] else some)
+        return [f"Its left side lies at dart {said}{whose}"
                 + (f", and at {len(darts) - 3} more." if is_whole and len(darts) > 3 else ".")]
     return [f"Its left side lies at no dart of this map{whose}."] if is_whole else []
 

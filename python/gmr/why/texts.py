@@ -84,7 +84,7 @@ def tell_text(role: str, path: str, text: str, place: int) -> list[str]:
     token = token_at(text, place)
     lines = tell_place(path, text, place, token.end if token else place + 1)
     other = role_of(text)
-    if other not in (None, role) and place <= end_of_blank(text, 0):
+    if other and other != role and place <= end_of_blank(text, 0):
         return lines + [f"{path} is {NAMES[other]}, and {NAMES[role]} is needed here: the files go MAP BOOK SCRIPT."]
     if text[place:place + 1] == "." and text[place - 1:place].isdigit():
         return lines + ["A decimal point stands here, and numbers are whole. `tools/mesh import --scale` multiplies "

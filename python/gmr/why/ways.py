@@ -38,8 +38,8 @@ def find_ways(book: Book, rule: Rule, fault: str) -> list[Way]:
                 if text not in seen:
                     seen.add(text)
                     tried[text] = Way(changed, letters_between(rule, changed))
-        near = sorted((way for way in tried.values() if way.letters <= MOST_LETTERS and parts_of(way.rule, names) <= parts),
-                      key=lambda way: way.letters)
+        near = [way for way in tried.values() if way.letters <= MOST_LETTERS and parts_of(way.rule, names) <= parts]
+        near.sort(key=lambda way: way.letters)
         faults = faults_of(book, [way.rule for way in near])
         found.update({text_of(way.rule): way for way, said in zip(near, faults)
                       if said is None and (may_do_nothing or does_something(way.rule))})
@@ -58,7 +58,8 @@ def text_of(rule: Rule) -> str:
     """The rule's nodes and links, whatever their order is."""
     lines = [(side, str(sorted(map(sorted_link, links)))) for side, links in
              (("left", rule.left_links), ("right", rule.right_links))]
-    return repr([lines, [(node.name, node.left, node.right, sorted(node.sets.items()), node.hook) for node in rule.nodes]])
+    return repr([lines, [(node.name, node.left, node.right, sorted(node.sets.items()), node.hook)
+                         for node in rule.nodes]])
 
 
 def sorted_link(link: Link) -> tuple[str, int, str]:
@@ -98,7 +99,8 @@ class Change(NamedTuple):
 def changes_between(rule: Rule, other: Rule) -> Iterator[Change]:
     """What is different between two rules: the lines of each node, and then the links, whose order says nothing."""
     names = list(dict.fromkeys(node.name for node in (*rule.nodes, *other.nodes)))
-    for side, links, others in (("left", rule.left_links, other.left_links), ("right", rule.right_links, other.right_links)):
+    for side, links, others in (("left", rule.left_links, other.left_links),
+                                ("right", rule.right_links, other.right_links)):
         for name in names:
             gone, come = ([node_text(node, side) for node in one.nodes if node.name == name and stands(node, side)]
                           for one in (rule, other))
