@@ -4,22 +4,21 @@ import re
 import warnings
 from collections.abc import Sequence
 from dataclasses import dataclass
-from typing import TYPE_CHECKING
+
+import numpy
+from numpy.typing import NDArray
 
 from gmr import program
-from gmr.maps import EMBED, HEAD, WIDTHS, Embed
+from gmr.schemas import EMBED, HEAD, WIDTHS, Embed
 
-if TYPE_CHECKING:
-    import numpy
-    from numpy.typing import NDArray
-
-    Whole = NDArray[numpy.int64]
-    Bytes = NDArray[numpy.uint8]
+Whole = NDArray[numpy.int64]
+Bytes = NDArray[numpy.uint8]
 
 HEAD_BYTES = re.compile(HEAD.pattern.encode())
 IN_ROWS = b"0123456789() \t\r\n-"
 LEAST, MOST = -(2**63), 2**63 - 1
 SPACED_MINUS = re.compile(rb"-[ \t\r\n]+")
+BARE_MINUS = re.compile(rb"-(?![0-9])")
 CHUNK = 65_536  # rows that are printed at once
 
 
@@ -31,13 +30,12 @@ class Arrays:
     dimension: int
     embeds: list[Embed]
     next: int
-    names: "Whole"  # of n darts, ascending
-    alpha: "Whole"  # (dimension + 1) x n: the row of the neighbour along each label
-    values: "dict[str, Whole]"  # n x width, for each embedding
+    names: Whole  # of n darts, ascending
+    alpha: Whole  # (dimension + 1) x n: the row of the neighbour along each label
+    values: dict[str, Whole]  # n x width, for each embedding
 
     def text(self) -> bytes:
         """The canonical text."""
-        numpy = program.needs("numpy", "python3-numpy")
         rows = numpy.arange(len(self.names))
         columns = [(self.values[embed.name], rows) for embed in self.embeds]
         return head_of(self.version, self.dimension, self.embeds, self.next, len(rows)) + print_rows(
@@ -53,12 +51,11 @@ def head_of(version: int, dimension: int, embeds: list[Embed], following: int, c
     return "\n".join([*lines, f"darts {count}", ""]).encode()
 
 
-def print_rows(names: "Whole", alpha: "Whole", columns: "list[tuple[Whole, Whole]]") -> bytes:
+def print_rows(names: Whole, alpha: Whole, columns: list[tuple[Whole, Whole]]) -> bytes:
     """The lines of darts: their names, the names of their neighbours, whose rows alpha has, and their values.
 
     A column is a table of values (m x width), and for each dart the row of the table that has its value.
     """
-    numpy = program.needs("numpy", "python3-numpy")
     named = print_numbers(names)
     tables = [print_values(table) for table, _ in columns]
     blank = numpy.array([32], numpy.uint8)
@@ -75,9 +72,8 @@ def print_rows(names: "Whole", alpha: "Whole", columns: "list[tuple[Whole, Whole
     return b"".join(printed)
 
 
-def print_numbers(numbers: "Whole") -> "Bytes":
+def print_numbers(numbers: Whole) -> Bytes:
     """Whole numbers as decimals, one a row, with bytes of value 0 where a number is shorter than the longest one."""
-    numpy = program.needs("numpy", "python3-numpy")
     rest = numpy.abs(numbers).astype(numpy.uint64)
     width = len(str(int(rest.max()))) if len(rest) else 1
     found = numpy.zeros((len(rest), width + 1), numpy.uint8)
@@ -90,9 +86,8 @@ def print_numbers(numbers: "Whole") -> "Bytes":
     return kept
 
 
-def print_values(table: "Whole") -> "Bytes":
+def print_values(table: Whole) -> Bytes:
     """Values as a text of a map has them, one a row: in parentheses where they have several numbers."""
-    numpy = program.needs("numpy", "python3-numpy")
     parts = [print_numbers(column) for column in table.T]
     if len(parts) == 1:
         return parts[0]
@@ -111,8 +106,10 @@ def read_arrays(text: bytes) -> Arrays:
     if not head:
         raise ValueError("this is no text of a map: it doesn't open with gmap, dim and darts")
     version, dimension, count = int(head[1]), int(head[2]), int(head[8])
-    if version not in (1, 2) or (version == 2) != (head[7] is not None):
-        raise ValueError("a map has version 1, or version 2 with its next name")
+    if version not in (1, 2):
+        raise ValueError(f"a map has version 1 or 2, and not {version}")
+    if (version == 2) != (head[7] is not None):
+        raise ValueError("a map of version 2 tells its next name, and one of version 1 doesn't")
     if not 1 <= dimension <= 7:
         raise ValueError(f"a map has a dimension from 1 to 7, and not {dimension}")
     embeds = [
@@ -124,14 +121,15 @@ def read_arrays(text: bytes) -> Arrays:
     return join_rows(version, dimension, embeds, head[7], rows)
 
 
-def read_numbers(body: bytes, width: int, count: int) -> "Whole":
+def read_numbers(body: bytes, width: int, count: int) -> Whole:
     """The numbers of the darts' lines: count x width."""
-    numpy = program.needs("numpy", "python3-numpy")
     if body.translate(None, IN_ROWS):
         raise ValueError("after 'darts' stands something other than numbers and parentheses")
     plain = body.translate(bytes.maketrans(b"()", b"  "))
     if b"-" in plain:
         plain = SPACED_MINUS.sub(b"-", plain).replace(b"-", b" -")
+        if BARE_MINUS.search(plain):
+            raise ValueError("a sign stands after 'darts' with no number after it")
     with warnings.catch_warnings():
         warnings.simplefilter("ignore", DeprecationWarning)  # at what is no number; then the count differs
         numbers = numpy.fromstring(plain, dtype=numpy.int64, sep=" ") if plain.strip() else numpy.empty(0, numpy.int64)
@@ -145,9 +143,8 @@ def read_numbers(body: bytes, width: int, count: int) -> "Whole":
     return rows
 
 
-def join_rows(version: int, dimension: int, embeds: list[Embed], stated: bytes | None, rows: "Whole") -> Arrays:
+def join_rows(version: int, dimension: int, embeds: list[Embed], stated: bytes | None, rows: Whole) -> Arrays:
     """The map whose darts have these rows: names, neighbours, and the numbers of their values."""
-    numpy = program.needs("numpy", "python3-numpy")
     names = rows[:, 0]
     if (names[1:] <= names[:-1]).any():
         rows = rows[numpy.argsort(names, kind="stable")]

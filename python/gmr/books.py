@@ -2,23 +2,27 @@
 
 The program judges a book and this module doesn't: it reads what the grammar asks for and nothing more, so an
 expression is a text here, and a rule may be one that the program refuses."""
+import os
 import re
+import tempfile
+from collections.abc import Iterable, Sequence
 from pathlib import Path
 from typing import NamedTuple
 
-from gmr.maps import Embed
-from gmr.program import put_of_file
+from gmr.cursor import (
+    COMMENT as COMMENT, RESERVED as RESERVED, TOKEN as TOKEN, Cursor, Token as Token, end_of_blank as end_of_blank,
+    plain as plain, tokens_of as tokens_of,
+)
+from gmr.files import write_whole
+from gmr.program import answer, put_of_file, refusal_of
+from gmr.schemas import Embed
 
 Letters = tuple[int | None, ...]
 Link = tuple[str, int, str]
 
-RESERVED = frozenset("rule left right hook with pre and or not if then else true false sum count min max same".split())
 OPERATORS = frozenset("and or then else".split())
 COLLECTORS = frozenset("sum count min max".split())
-COMMENT = re.compile(r"#[^\n]*")
-TOKEN = re.compile(r"[A-Za-z][A-Za-z0-9_]*|[0-9]+|_|==|!=|<=|>=|[<>()\-+*/%=.,:@]", re.ASCII)
 LOOSE = re.compile(r"#[^\n]*|[A-Za-z][A-Za-z0-9_]*|\S")
-BLANK = re.compile(r"(?:[ \t\r\n]|#[^\n]*)*")
 
 
 class Node(NamedTuple):
@@ -41,6 +45,49 @@ class Rule(NamedTuple):
     pre: str | None
     text: str
 
+    @property
+    def hooks(self) -> list[str]:
+        """The names of its hooks, in their order."""
+        return [node.name for node in self.nodes if node.hook]
+
+    @classmethod
+    def parse(cls, text: str) -> "Rule":
+        """The rule that a text stands for; ValueError where it is none."""
+        reader = Reader(text)
+        rule = reader.rule(text.strip())
+        if reader.peek():
+            raise reader.fail("the end of the rule")
+        return rule
+
+    def canonical(self) -> str:
+        """Its text in the order and the layout of the canonical one; expressions stand as they are written."""
+        params = ", ".join(f"{name}: {kind}" for name, kind in self.params)
+        lines = [f"rule {self.name}({params})" if params else f"rule {self.name}", "left"]
+        lines += [f"{node.name} {letters_text(node.left)}{' hook' if node.hook else ''}"
+                  for node in self.nodes if node.left is not None]
+        lines += [f"{one} -{label}- {other}" for one, label, other in self.left_links] + ["right"]
+        for node in self.nodes:
+            if node.right is not None:
+                sets = "".join(f" with {name} = {expression}" for name, expression in node.sets.items())
+                lines.append(f"{node.name} {letters_text(node.right)}{sets}")
+        lines += [f"{one} -{label}- {other}" for one, label, other in self.right_links]
+        return "\n".join(lines + ([f"pre {self.pre}"] if self.pre else [])) + "\n"
+
+    def __str__(self) -> str:
+        return self.canonical()
+
+
+class Verdict(NamedTuple):
+    """What the program says of a rule: its name, and its first fault, empty where it is accepted."""
+    rule: str
+    fault: str
+    sentences: tuple[str, ...] = ()     # why it isn't accepted, as `why` tells it
+
+    @property
+    def is_accepted(self) -> bool:
+        """Whether the rule is accepted."""
+        return not self.fault
+
 
 class Book(NamedTuple):
     """A book; its head is what stands before the text of the first rule, comments included."""
@@ -50,35 +97,85 @@ class Book(NamedTuple):
     rules: list[Rule]
     head: str
 
+    @classmethod
+    def make(cls, dimension: int, embeds: Sequence[Embed] = (), rules: Iterable[Rule | str] = ()) -> "Book":
+        """The book over a schema that has these rules, objects or texts; ValueError where a text is no rule."""
+        lines = ["book 2", f"dim {dimension}", *map(embed_text, embeds)]
+        found = [Rule.parse(rule) if isinstance(rule, str) else rule for rule in rules]
+        return cls(2, dimension, list(embeds), found, "\n".join(lines) + "\n")
 
-class Token(NamedTuple):
-    """A token and where it begins and ends in the text."""
-    word: str
-    begin: int
-    end: int
+    @property
+    def text(self) -> str:
+        """Its own text, comments included."""
+        parts = (self.head, *(rule.text for rule in self.rules))
+        return "\n\n".join(part.strip() for part in parts if part) + "\n"
+
+    def rule(self, name: str) -> Rule:
+        """The rule of a name; ValueError where there is none."""
+        for rule in self.rules:
+            if rule.name == name:
+                return rule
+        raise ValueError(f"the book has no rule {name}; it has {', '.join(one.name for one in self.rules) or 'none'}")
+
+    def take(self, *names: str) -> "Book":
+        """The book of these rules alone, in the order that they have here; ValueError where there is no such rule."""
+        kept = [self.rule(name) for name in names]
+        return self._replace(rules=[rule for rule in self.rules if rule in kept])
+
+    def join(self, *others: "Book | Rule | str") -> "Book":
+        """The book with the rules of others behind its own, or with rules given as objects or texts; ValueError where
+        the schemas differ or two rules have one name."""
+        rules = list(self.rules)
+        for other in others:
+            if isinstance(other, Book) and (other.dimension, other.embeds) != (self.dimension, self.embeds):
+                raise ValueError("books that are joined have one dimension and one list of embeddings")
+            more: Sequence[Rule | str] = other.rules if isinstance(other, Book) else [other]
+            rules += [Rule.parse(rule) if isinstance(rule, str) else rule for rule in more]
+        names = [rule.name for rule in rules]
+        twice = next((name for name in names if names.count(name) > 1), None)
+        if twice is not None:
+            raise ValueError(f"the rule {twice} comes twice")
+        return Book.make(self.dimension, self.embeds, rules)
+
+    def canonical(self) -> str:
+        """Its canonical text, as the program prints it; Refused where it takes no such book."""
+        return self._asked("book")
+
+    def check(self) -> list[Verdict]:
+        """The program's verdict of each rule; Refused where it takes no such book."""
+        from gmr.why.rules import tell_rule
+        verdicts = []
+        for line in self._asked("check").splitlines()[:-1]:
+            _, name, state, *fault = line.split()
+            told = tell_rule(self.rule(name), self.dimension, " ".join(fault)) if state == "refused" else []
+            verdicts.append(Verdict(name, " ".join(fault), tuple(told)))
+        return verdicts
+
+    def save(self, path: str | os.PathLike[str]) -> None:
+        """Writes its own text into a file, whole or not at all."""
+        write_whole(path, self.text.encode("latin-1"))
+
+    def _asked(self, command: str) -> str:
+        with tempfile.TemporaryDirectory(prefix="gmr-book-") as folder:
+            path = Path(folder, "made.gbook")
+            path.write_bytes(self.text.encode("latin-1"))
+            status, said = answer(command, path)
+        if status > 1:
+            raise refusal_of(status, said)
+        return said
+
+    def __str__(self) -> str:
+        return self.canonical()
 
 
-def end_of_blank(text: str, at: int) -> int:
-    """Where the blanks and comments end that stand at a place."""
-    blank = BLANK.match(text, at)
-    return blank.end() if blank else at
+def letters_text(word: Letters) -> str:
+    """A word in its signs."""
+    return f"<{' '.join('_' if letter is None else str(letter) for letter in word)}>"
 
 
-def tokens_of(text: str) -> list[Token]:
-    """The tokens of a text, without blanks and comments, and one of no bytes at its end."""
-    found, at = [], end_of_blank(text, 0)
-    while at < len(text):
-        here = TOKEN.match(text, at)
-        if not here:
-            raise ValueError(f"line {text.count(chr(10), 0, at) + 1}: a book has no such sign as {text[at]!r}")
-        found.append(Token(here[0], at, here.end()))
-        at = end_of_blank(text, here.end())
-    return found + [Token("", len(text), len(text))]
-
-
-def plain(text: str) -> str:
-    """A part of a text on one line, without comments."""
-    return " ".join(COMMENT.sub(" ", text).split())
+def embed_text(embed: Embed) -> str:
+    """The line of an embedding."""
+    return f"embed {embed.name} <{' '.join(map(str, sorted(embed.labels)))}> {embed.kind}"
 
 
 def split_book(text: str) -> tuple[str, list[tuple[str, str]]]:
@@ -100,39 +197,10 @@ def begin_of(text: str, last: int, begin: int) -> int:
     return between + len(text[between:begin]) - len(text[between:begin].lstrip())
 
 
-class Reader:
-    """Reads a text token by token."""
+class Reader(Cursor):
+    """Reads a book token by token."""
 
-    def __init__(self, text: str):
-        self.text, self.tokens, self.at = text, tokens_of(text), 0
-
-    def peek(self, ahead: int = 0) -> str:
-        """The next token's word, or one further ahead; empty at the end."""
-        return self.tokens[min(self.at + ahead, len(self.tokens) - 1)].word
-
-    def fail(self, wanted: str) -> ValueError:
-        """What to raise where something else is wanted."""
-        line = self.text.count("\n", 0, self.tokens[self.at].begin) + 1
-        return ValueError(f"line {line}: {self.peek() or 'the end'} stands where the book needs {wanted}")
-
-    def take(self, *words: str) -> str:
-        """The next token, which is one of these words."""
-        if self.peek() not in words:
-            raise self.fail(" or ".join(words))
-        self.at += 1
-        return self.tokens[self.at - 1].word
-
-    def name(self) -> str:
-        """The next token, which is a name."""
-        if not self.peek()[:1].isalpha() or self.peek() in RESERVED:
-            raise self.fail("a name")
-        return self.take(self.peek())
-
-    def number(self) -> int:
-        """The next token, which is a number."""
-        if not self.peek().isdigit():
-            raise self.fail("a number")
-        return int(self.take(self.peek()))
+    kind = "book"
 
     def letters(self) -> Letters:
         """A word of labels and gaps in its signs."""
@@ -166,8 +234,8 @@ class Reader:
         found = []
         while self.peek() == "embed":
             self.at += 1
-            name, labels = self.name(), [label for label in self.letters() if label is not None]
-            found.append(Embed(name, tuple(labels), self.take("int", "vec2", "vec3", "rgb")))
+            name, labels = self.name(), self.labels()
+            found.append(Embed(name, labels, self.take("int", "vec2", "vec3", "rgb")))
         return found
 
     def params(self) -> list[tuple[str, str]]:
@@ -242,7 +310,7 @@ def read_book(text: str, reader: Reader | None = None) -> Book:
     return Book(version, dimension, embeds, rules, head)
 
 
-def load_book(path: str | Path) -> Book:
+def load_book(path: str | os.PathLike[str]) -> Book:
     """The book of a file as the program prints it, but each rule's own text and the head as the file has them. Where
     the program takes no book, that is Refused with its line."""
     printed = read_book(put_of_file("book", path))

@@ -6,7 +6,7 @@ from collections.abc import Callable, Mapping, Sequence
 from operator import ge, gt, le, lt
 from typing import NamedTuple
 
-from gmr.books import Token
+from gmr.cursor import Cursor
 from gmr.maps import LEAST_NUMBER, MOST_NUMBER, Map, Value
 
 ORDERS: dict[str, Callable[[int, int], bool]] = {"<": lt, "<=": le, ">": gt, ">=": ge}
@@ -51,20 +51,10 @@ class NoValue(Exception):
         self.tree, self.reason = tree, reason
 
 
-class Reader:
+class Reader(Cursor):
     """Reads the longest expression that stands at a token of a text in which one stands there."""
 
-    def __init__(self, text: str, tokens: Sequence[Token], at: int = 0) -> None:
-        self.text, self.tokens, self.at = text, tokens, at
-
-    def peek(self) -> str:
-        """The next token's word, empty at the end."""
-        return self.tokens[self.at].word if self.at < len(self.tokens) else ""
-
-    def take(self) -> str:
-        """The next token's word, which is gone past."""
-        self.at += 1
-        return self.tokens[self.at - 1].word
+    kind = "expression"
 
     def made(self, first: int, form: str, word: str, *parts: Tree, terms: Sequence[Term] = (),
              labels: Sequence[int] = ()) -> Tree:

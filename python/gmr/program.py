@@ -22,7 +22,8 @@ def find_program() -> str:
         return named
     built = CHECKOUT / "crates" / "gmr" / "out" / "gmr"
     if not built.exists():
-        raise Refused("the program isn't built: call ./gmr once, which proves and builds it, or name one by $GMR", UNRUN)
+        raise Refused("the program isn't built: call ./gmr once, which proves and builds it, or name one by $GMR",
+                      UNRUN)
     return str(built)
 
 

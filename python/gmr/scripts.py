@@ -1,11 +1,11 @@
 """Scripts as people write them, statement by statement, and the report of a run, line by line.
 
-A script that is read here was taken by the program before, so its grammar isn't judged again."""
+Whether a statement suits the book is the program's part."""
 import re
 from typing import NamedTuple
 
-from gmr.books import tokens_of
-from gmr.maps import Value
+from gmr.cursor import Cursor
+from gmr.schemas import Value
 
 STATEMENTS = frozenset(("apply", "each", "undo", "redo", "group", "end"))
 
@@ -28,63 +28,56 @@ class Outcome(NamedTuple):
     rest: str
 
 
-class Reader:
-    """Reads the statements of a script."""
+class Reader(Cursor):
+    """Reads the statements of a script; ValueError with the line where it goes on otherwise."""
 
-    def __init__(self, text: str) -> None:
-        self.tokens, self.at = tokens_of(text), 0
-
-    def peek(self) -> str:
-        """The next token's word, empty at the end."""
-        return self.tokens[self.at].word
-
-    def take(self) -> str:
-        """The next token's word, which is gone past."""
-        self.at += 1
-        return self.tokens[self.at - 1].word
-
-    def numbers(self) -> tuple[int, ...]:
-        """The numbers that stand next, each with its sign."""
-        found = []
-        while self.peek() == "-" or self.peek().isdigit():
-            sign = -1 if self.peek() == "-" else 1
-            self.at += sign < 0
-            found.append(sign * int(self.take()))
-        return tuple(found)
+    kind = "script"
 
     def values(self) -> tuple[Value, ...]:
         """The values that stand next."""
         found: list[Value] = []
         while True:
-            found.extend(self.numbers())
-            if self.peek() == "(":
-                self.take()
-                found.append(self.numbers())
-                self.take()
+            if self.is_signed():
+                found.append(self.signed())
+            elif self.peek() == "(":
+                found.append(self.group())
             elif self.peek() in ("true", "false"):
                 found.append(self.take() == "true")
             else:
                 return tuple(found)
 
+    def group(self) -> tuple[int, ...]:
+        """The numbers that stand next in parentheses."""
+        self.take("(")
+        numbers = [self.signed()]
+        while self.peek() != ")":
+            numbers.append(self.signed())
+        self.take(")")
+        return tuple(numbers)
+
     def statement(self) -> Statement:
         """The statement that stands next."""
-        first, word = self.at, self.take()
-        rule, labels, hooks, values = "", (), (), ()
+        first, word = self.at, self.take(*sorted(STATEMENTS))
+        rule = ""
+        labels: tuple[int, ...] = ()
+        hooks: list[int] = []
+        values: tuple[Value, ...] = ()
         if word == "each":
-            self.take()
-            labels = self.numbers()
-            self.take()
+            labels = self.labels()
         if word in ("apply", "each"):
-            rule = self.take()
-            hooks = self.numbers()
+            rule = self.name()
+            while self.peek().isdigit():
+                hooks.append(self.number())
             if self.peek() == "with":
                 self.take()
                 values = self.values()
-        return Statement(word, rule, labels, hooks, values, self.tokens[first].begin, self.tokens[self.at - 1].end)
+        begin, end = self.tokens[first].begin, self.tokens[self.at - 1].end
+        return Statement(word, rule, labels, tuple(hooks), values, begin, end)
 
 
 def read_script(text: str) -> list[Statement]:
-    """The statements of a script that the program takes."""
+    """The statements of a script, up to where a word stands that begins none; ValueError, with the line, where a
+    statement breaks off or goes on as none does."""
     reader, found = Reader(text), []
     while reader.peek() in STATEMENTS:
         found.append(reader.statement())

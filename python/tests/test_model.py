@@ -144,7 +144,8 @@ def test_new_and_gone() -> None:
     model.apply("move", at=2, v=(2, 0))
     hit = model.apply("triangulate", at=0)
     model.apply("split", at=4)
-    assert hit.new_darts == list(range(8, 24)) and hit.gone_darts == []
+    assert hit.new.darts == list(range(8, 24)) and not hit.gone.darts
+    assert len(hit.new.vertices()) == 1 and hit.new.map.next == 24
     assert len(model.map.darts) == 26
 
 

@@ -71,9 +71,9 @@ def test_texts_of_no_map_are_refused():
     assert fault("gmap 3 dim 2 darts 0") == "a map has version 1 or 2, and not 3"
     assert fault("gmap 2 dim 2 darts 0") == fault("gmap 1 dim 2 next 0 darts 0") == next_name
     assert fault("gmap 1 dim 8 darts 0") == "a map has a dimension from 1 to 7, and not 8"
-    assert fault("gmap 1 dim 1 darts 1 x") == "behind 'darts' stands something other than numbers and parentheses"
-    assert fault("gmap 1 dim 1 darts 1 0 0 -") == "a sign stands behind 'darts' with no number behind it"
-    assert fault("gmap 1 dim 1 darts 1 0 0") == "there are 2 numbers behind 'darts', and not 3 for each of 1 darts"
+    assert fault("gmap 1 dim 1 darts 1 x") == "after 'darts' stands something other than numbers and parentheses"
+    assert fault("gmap 1 dim 1 darts 1 0 0 -") == "a sign stands after 'darts' with no number after it"
+    assert fault("gmap 1 dim 1 darts 1 0 0") == "there are 2 numbers after 'darts', and not 3 for each of 1 darts"
     assert fault("gmap 1 dim 1 darts 2 0 0 0 0 0 0") == "two darts have one name"
     assert fault("gmap 1 dim 1 darts 1 0 0 1") == "a neighbour along label 1 is no dart"
 

@@ -7,6 +7,7 @@ import tempfile
 from collections import Counter
 from collections.abc import Iterator
 from contextlib import contextmanager
+from dataclasses import replace
 from fractions import Fraction
 from pathlib import Path
 
@@ -321,7 +322,7 @@ def test_scales_are_told_kept_and_taken():
 def test_whole_numbers_of_any_size_are_written():
     most = 2**63 - 1
     made = make_map(Surface.of(points=[(0.0, 0.0, 0.0), (1.0, 0.0, 0.0), (0.0, 1.0, 0.0)], faces=[(0, 1, 2)]), ONE)
-    made.values["pos"] = {dart: (most, *value[1:]) for dart, value in made.values["pos"].items()}
+    made = replace(made, values={"pos": {dart: (most, *value[1:]) for dart, value in made.values["pos"].items()}})
     with scratch() as folder:
         write_mesh(folder / "far.obj", make_mesh(made, ONE, False))
         assert f"v {most} 0 0\n" in (folder / "far.obj").read_text()

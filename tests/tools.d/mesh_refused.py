@@ -3,6 +3,7 @@ import os
 import re
 import subprocess
 from collections.abc import Callable
+from dataclasses import replace
 from fractions import Fraction
 from pathlib import Path
 
@@ -206,7 +207,7 @@ def test_maps_without_a_mesh_are_refused():
     assert refuse_map(EDGE) == "the face of dart 0 isn't closed: dart 1 is free along 1"
     assert refuse_map(DIGON) == "the face of dart 0 has 2 corners, and a polygon has three or more"
     lone = make_map(block(), ONE)
-    lone.alpha[2] = {dart: dart for dart in lone.darts}
+    lone = replace(lone, alpha=[*lone.alpha[:2], {dart: dart for dart in lone.darts}, *lone.alpha[3:]])
     assert refuse_map(place(lone).text(), True) == "the cell of dart 0 isn't closed: dart 0 is free along 2"
 
 

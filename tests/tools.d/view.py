@@ -43,7 +43,7 @@ def show(driver: Any, it: Map) -> None:
 
 def rows(it: Map) -> list[Any]:
     """The names of a map's darts, and for each label their neighbours."""
-    return [it.darts, [[step[dart] for dart in it.darts] for step in it.alpha]]
+    return [it.darts.tolist(), [[step[dart] for dart in it.darts] for step in it.alpha]]
 
 
 def test_numbers_are_packed_as_narrow_as_they_are():
@@ -66,7 +66,7 @@ def test_the_dart_that_is_pointed_at_is_the_one_that_is_named():
             show(driver, it)
             found = driver.execute_script(
                 "return arguments[0].map((dart) => { const {x, y} = viewer.pixelOf(dart); "
-                "return viewer.dartAt(x, y); });", it.darts)
+                "return viewer.dartAt(x, y); });", it.darts.tolist())
             assert found == it.darts, (name, found)
             assert colours(driver.get_screenshot_as_png()) > 10, name
         assert not faults(driver)

@@ -1,1 +1,4 @@
 """Pictures of maps."""
+from gmr.callables import make_callable
+
+make_callable(__name__)

@@ -2,7 +2,7 @@
 label, names, and the colours of faces and the numbers of edges."""
 import math
 from collections import defaultdict
-from collections.abc import Callable, Sequence
+from collections.abc import Callable, Iterable, Sequence
 from itertools import chain
 from typing import NamedTuple
 
@@ -121,7 +121,7 @@ def draw_numbers(layers: Layers, strokes: dict[int, Stroke], it: Model) -> None:
         layers["numbers"].append(text_at(beside(middle, -strokes[dart].inward, number, NAME), number, NAME))
 
 
-def extreme(which: Callable, places: Sequence[complex]) -> complex:
+def extreme(which: Callable[[Iterable[float]], float], places: Sequence[complex]) -> complex:
     """The least or the greatest of both coordinates."""
     return complex(which(place.real for place in places), which(place.imag for place in places))
 

@@ -1,5 +1,5 @@
 """A map as pictures see it, of dimension 1 to 3: its darts, and what gives them places, colours and numbers."""
-from collections.abc import Callable, Iterable, Mapping
+from collections.abc import Callable, Iterable, Mapping, Sequence
 from itertools import product
 from pathlib import Path
 from typing import NamedTuple
@@ -14,7 +14,7 @@ class Model(NamedTuple):
     """A map to draw. What no embedding gives is empty."""
 
     dimension: int
-    alpha: list[dict[int, int]]
+    alpha: Sequence[dict[int, int]]
     points: dict[int, Triple]
     colours: dict[int, Triple]
     numbers: dict[int, int]

@@ -98,11 +98,11 @@ def parts(it: Polygon, that: Polygon) -> bool:
 def is_behind(it: Polygon, that: Polygon) -> bool:
     """Whether the first of two polygons that overlap lies behind the second."""
     if it.high[2] <= that.low[2] or that.high[2] <= it.low[2]:
-        return it.high[2] <= that.low[2]
+        return bool(it.high[2] <= that.low[2])
     for plane, other, is_other_behind in ((that, it, True), (it, that, False)):
         length = dot(plane.normal, plane.normal) ** 0.5
         slack = (plane.slack + other.slack) * length
         heights = [dot(minus(corner, plane.middle), plane.normal) for corner in other.corners]
         if plane.normal[2] > 1e-6 * length and (max(heights) <= slack or min(heights) >= -slack):
-            return is_other_behind == (max(heights) <= slack)
-    return it.middle[2] < that.middle[2]
+            return bool(is_other_behind == (max(heights) <= slack))
+    return bool(it.middle[2] < that.middle[2])

@@ -41,7 +41,7 @@ def lay_at_points(it: Model, neighbour: Neighbour, unit: float) -> Sheet:
 
 def sheets_of(it: Model, unit: float) -> list[Sheet]:
     """The parts of a map that are laid out apart: components, and volumes in dimension 3."""
-    alpha = (it.alpha + [{dart: dart for dart in it.alpha[0]}] * 3)[:4]
+    alpha = [*it.alpha, *[{dart: dart for dart in it.alpha[0]}] * 3][:4]
 
     def neighbour(dart: int, label: int) -> int:
         return alpha[label][dart]

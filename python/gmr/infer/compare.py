@@ -95,7 +95,7 @@ def unfold(draft: Draft, before: Map, hooks: Sequence[int]) -> Map:
 def makes(draft: Draft, example: Example) -> bool:
     """Whether the rule makes the map after of the map before at some hooks, but for the names of new darts."""
     number = sum(node.is_hook for node in draft.nodes)
-    darts = example.starts if number > 1 else example.before.darts
+    darts: list[int] = example.starts if number > 1 else list(example.before.darts)
     return any(lies(draft, example, hooks) for hooks in permutations(darts, number))
 
 

@@ -2,6 +2,7 @@
 import os
 import re
 import shutil
+from fractions import Fraction
 from pathlib import Path
 from typing import NamedTuple
 
@@ -32,13 +33,14 @@ class FirstMap(NamedTuple):
         return export_map(file, out, self.frame)
 
 
-def take_first_map(path: Path, folder: Path) -> FirstMap:
-    """The first map of a file of a map or of a mesh, with copies of it in a folder."""
+def take_first_map(path: Path, folder: Path, scale: Fraction | None) -> FirstMap:
+    """The first map of a file of a map or of a mesh, whose coordinates are multiplied by the scale, with copies of it
+    in a folder."""
     given, counted = folder / "first.gmap", folder / "counted.gmap"
     if is_map(path):
         shutil.copyfile(path, given)
     else:
-        import_mesh(path, given, Options(is_checked=False))
+        import_mesh(path, given, Options(scale=scale, is_checked=False))
     put_or_refuse("migrate", given, counted)
     return FirstMap(given, counted, version_of(given), read_frame(path if is_map(path) else given))
 

@@ -2,9 +2,12 @@
 was done. A script's group has applications alone, so an `each` is written as those that it comes to."""
 from collections.abc import Iterable
 
+import numpy as np
+
 from gmr.model.outcome import Outcome
 from gmr.model.queue import Queue, Waiting
 from gmr.model.session import Session
+from gmr.model.statements import lines_at
 
 
 class Group:
@@ -19,13 +22,12 @@ class Group:
         of each, but for those that are gone when their turn comes."""
         self.queue.flush()
         session = self.queue.session
-        leads = [orbit[0] for orbit in session.map_at(len(session.lines)).orbits(labels)]
-        return self.at_leads(leads, line)
+        leads = session.map_at(len(session.lines)).leads(labels)
+        return self.at_leads(np.unique(leads).tolist(), line)
 
     def at_leads(self, leads: Iterable[int], line: str) -> Outcome:
         """The same at these darts."""
-        rule, space, values = line.partition("> ")[2].partition(" with ")
-        lines = [f"apply {rule} {lead}{space}{values}" for lead in leads]
+        lines = lines_at(leads, line)
         outcome = Outcome(self.queue, "\n".join(lines))
         if lines:
             self.queue.add(Waiting(lines, [outcome], passes=True))

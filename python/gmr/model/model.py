@@ -5,23 +5,26 @@ import os
 import tempfile
 from collections.abc import Iterable, Iterator
 from contextlib import contextmanager
+from fractions import Fraction
 from pathlib import Path
 from types import TracebackType
 
 from gmr.books import Book, load_book
+from gmr.regions import Cells
 from gmr.errors import Refused
 from gmr.files import write_whole
 from gmr.maps import Map
+from gmr.model.choosing import Choosing
 from gmr.model.first import FirstMap, copy_book, take_first_map
 from gmr.model.group import Group
 from gmr.model.outcome import Outcome
 from gmr.model.queue import Queue, Waiting
 from gmr.model.script import Script, split_script
 from gmr.model.session import Session
-from gmr.model.statements import Hooks, Parameter, apply_line, each_line, find_rule, labels_of
+from gmr.model.statements import Hooks, Parameter, apply_line, each_line, find_rule, labels_of, lines_at
 
 
-class Model:
+class Model(Choosing):
     """A map, a book of rules, and the script of what was done to the map so far.
 
     Each statement is done by the proved program. Statements are gathered, and handed to it as soon as something is
@@ -37,15 +40,19 @@ class Model:
         self._book: Book | None = None
 
     @classmethod
-    def load(cls, path: str | os.PathLike[str], book: str | os.PathLike[str] | Book | None = None) -> Model:
+    def load(
+        cls, path: str | os.PathLike[str], book: str | os.PathLike[str] | Book | None = None,
+        scale: Fraction | int | None = None,
+    ) -> Model:
         """The model of a file of a map, or of a mesh, which is imported first, under a book of rules: a file, or an
-        object. Without a book there are no rules.
+        object. Without a book there are no rules. Coordinates of a mesh are multiplied by the scale and rounded;
+        without one it is chosen as `tools/mesh import` does.
 
         Refused where the program doesn't take the map or the book, or a rule, or where the two don't agree; Unfit
         where a mesh has no map; OSError where a file can't be read.
         """
         folder = tempfile.TemporaryDirectory(prefix="gmr-model-")
-        first = take_first_map(Path(path), Path(folder.name))
+        first = take_first_map(Path(path), Path(folder.name), None if scale is None else Fraction(scale))
         return cls(first, copy_book(book, first.counted, Path(folder.name)), folder)
 
     @property
@@ -104,11 +111,18 @@ class Model:
         line, darts = apply_line(find_rule(self.book, rule), at, parameters)
         return self._add([line], darts, must)
 
-    def each(self, cells: str | int | Iterable[int], rule: str, /, **parameters: Parameter) -> Outcome:
-        """Applies a rule with one hook at each cell, as 'face' or 2, or at each orbit over labels, as (0, 1). In a
-        group all of it must be done; else what is refused is counted in the outcome."""
-        labels = labels_of(self.book.dimension, cells)
+    def each(self, cells: str | int | Iterable[int] | Cells, rule: str, /, **parameters: Parameter) -> Outcome:
+        """Applies a rule with one hook at each cell, as 'face' or 2, at each orbit over labels, as (0, 1), or at each
+        of cells that were chosen, less those whose dart an earlier application removes. In a group all of it must be
+        done; else what is refused is counted in the outcome.
+
+        All cells of the map as it is are one line of the script, an `each`; others are a line for each cell."""
+        labels = labels_of(self.book.dimension, cells.dimension if isinstance(cells, Cells) else cells)
         line = each_line(find_rule(self.book, rule), labels, parameters)
+        if isinstance(cells, Cells) and not (cells.is_all and cells.map is self.map):
+            if self._group:
+                return self._group.at_leads(cells.darts, line)
+            return self._add(lines_at(cells.darts, line), tuple(cells.darts), False, True)
         if self._group:
             return self._group.each(labels, line)
         return self._add([line], (), False)
@@ -195,10 +209,13 @@ class Model:
     def _active(self) -> Queue:
         return self._group.queue if self._group else self._queue
 
-    def _add(self, lines: list[str], darts: tuple[int, ...], must: bool) -> Outcome:
+    def _add(self, lines: list[str], darts: tuple[int, ...], must: bool, passes: bool = False) -> Outcome:
         queue = self._active()
         outcome = Outcome(queue, "\n".join(lines), darts)
-        queue.add(Waiting(lines, [outcome], must))
+        if lines:
+            queue.add(Waiting(lines, [outcome], must, passes=passes))
+        else:
+            outcome.settle([], len(queue.session.lines), len(queue.session.lines))
         return outcome
 
     def _refuse_in_group(self, what: str) -> None:

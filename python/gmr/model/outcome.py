@@ -3,6 +3,9 @@ from __future__ import annotations
 
 from typing import TYPE_CHECKING
 
+import numpy as np
+
+from gmr.regions import Region
 from gmr.errors import Refused
 from gmr.maps import Map
 from gmr.model.reasons import darts_of_refusal, explain
@@ -107,12 +110,12 @@ class Outcome:
     @property
     def added(self) -> int:
         """How many darts there are behind it that weren't there before."""
-        return len(self.new_darts)
+        return len(self.new)
 
     @property
     def removed(self) -> int:
         """How many darts that were there before it are gone."""
-        return len(self.gone_darts)
+        return len(self.gone)
 
     @property
     def before(self) -> Map:
@@ -127,14 +130,14 @@ class Outcome:
         return self._queue.session.map_at(self.end)
 
     @property
-    def new_darts(self) -> list[int]:
-        """The darts that it made, ascending."""
-        return sorted(set(self.after.darts).difference(self.before.darts))
+    def new(self) -> Region:
+        """The darts that it made, in the map that it left, and the cells that have no others."""
+        return Region(self.after, np.setdiff1d(self.after.darts, self.before.darts))
 
     @property
-    def gone_darts(self) -> list[int]:
-        """The darts that it took, ascending."""
-        return sorted(set(self.before.darts).difference(self.after.darts))
+    def gone(self) -> Region:
+        """The darts that it took, in the map that it met, and the cells that had no others."""
+        return Region(self.before, np.setdiff1d(self.before.darts, self.after.darts))
 
     def refusal(self) -> Refused:
         """What is raised where it must be done and wasn't."""

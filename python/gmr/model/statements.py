@@ -46,6 +46,12 @@ def each_line(rule: Rule, labels: Iterable[int], values: Mapping[str, Parameter]
     return f"each <{' '.join(map(str, sorted(labels)))}> {rule.name}{spell_values(rule, values)}"
 
 
+def lines_at(darts: Iterable[int], each: str) -> list[str]:
+    """The lines that apply at these darts what the line of an `each` applies."""
+    rule, space, values = each.partition("> ")[2].partition(" with ")
+    return [f"apply {rule} {dart}{space}{values}" for dart in darts]
+
+
 def check_hooks(rule: Rule, count: int) -> None:
     """ValueError where a rule has another number of hooks."""
     hooks = [node.name for node in rule.nodes if node.hook]
@@ -64,7 +70,7 @@ def darts_of(rule: Rule, at: Hooks) -> tuple[int, ...]:
         if set(at) != set(hooks):
             raise ValueError(f"{rule.name} has the hooks {', '.join(hooks)}, and {', '.join(at)} are given")
         darts = tuple(dart_of(at[name]) for name in hooks)
-    elif isinstance(at, Sequence):
+    elif isinstance(at, Sequence) and not hasattr(at, "dart"):
         darts = tuple(map(dart_of, at))
     else:
         darts = (dart_of(at),)
@@ -133,12 +139,12 @@ def labels_of(dimension: int, cells: str | int | Iterable[int]) -> tuple[int, ..
         if name not in (*CELLS, *MANY):
             raise ValueError(f"{cells!r} are no cells: say {', '.join(CELLS)}, a dimension, or labels as (0, 1)")
         cells = (CELLS if name in CELLS else MANY).index(name)
-    if isinstance(cells, SupportsIndex):
+    if not isinstance(cells, Iterable):
         cell = index(cells)
         if not 0 <= cell <= dimension:
             raise ValueError(f"a map of dimension {dimension} has no cells of dimension {cell}")
         return tuple(label for label in range(dimension + 1) if label != cell)
-    labels = tuple(sorted(map(index, cells)))
+    labels = tuple(sorted(index(label) for label in cells))
     if len(set(labels)) < len(labels) or not all(0 <= label <= dimension for label in labels):
         raise ValueError(f"{labels} has a label twice, or one that a map of dimension {dimension} hasn't")
     return labels

@@ -1,5 +1,4 @@
 """The map as it is, kept up row by row: of a new text only the lines that the old one hasn't are read."""
-from dataclasses import replace
 from typing import Any, NamedTuple
 
 from gmr.maps import WIDTHS, Map, read_columns, read_map
@@ -28,13 +27,13 @@ class Live:
         rows = read_rows(self.map, changed)
         names = {row[0] for row in rows}
         gone = sorted({int(line.split(b" ", 1)[0]) for line in old} - names)
-        self._take(rows, gone)
-        self.map = replace(self.map, next=next_of(head))
+        self.map = self._taken(rows, gone, next_of(head))
         self.lines = lines
         return Rows(gone, rows)
 
-    def _take(self, rows: list[Row], gone: list[int]) -> None:
-        """Writes rows into the map, and takes darts out of it."""
+    def _taken(self, rows: list[Row], gone: list[int], following: int) -> Map:
+        """The map with these rows, without darts that are gone, and with this next name. It takes over the columns of
+        the one before, which is a map no more."""
         it = self.map
         known = it.alpha[0]
         is_other = bool(gone) or any(row[0] not in known for row in rows)
@@ -43,8 +42,8 @@ class Live:
                 column[row[0]] = row[place]
             for dart in gone:
                 del column[dart]
-        if is_other:
-            it.darts[:] = sorted(it.alpha[0])
+        darts = sorted(it.alpha[0]) if is_other else it.darts
+        return Map(it.version, it.dimension, it.embeds, following, darts, list(it.alpha), dict(it.values))
 
     def _columns(self) -> list[tuple[dict[int, Any], int]]:
         """Each column of the map, and its place in a row."""

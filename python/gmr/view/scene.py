@@ -67,7 +67,7 @@ def scene_of(it: Map, labels: Sequence[int] | None = None) -> Json:
     return {
         "dimension": it.dimension,
         "labels": list(chosen),
-        "names": pack(it.darts),
+        "names": pack(it.darts.tolist()),
         "alpha": [pack([at[step[dart]] for dart in it.darts]) for step in it.alpha],
         "embeds": [{"name": one.name, "labels": list(one.labels), "kind": one.kind,
                     "values": pack(flat_values(map(it.values[one.name].__getitem__, it.darts), one))}

@@ -170,11 +170,11 @@ class Pattern:
         """The whole map that the part has become. Each orbit of an embedding has a value of its own."""
         darts = list(range(len(self.part.near)))
         alpha = [{dart: self.part.near[dart][label] for dart in darts} for label in self.labels]
-        amap = Map(1, len(self.labels) - 1, embeds, len(darts), darts, alpha, {})
-        for embed in embeds:
-            orbits = enumerate(amap.orbits(embed.labels))
-            amap.values[embed.name] = {dart: own_value(embed.kind, at) for at, orbit in orbits for dart in orbit}
-        return amap
+        bare = Map(1, len(self.labels) - 1, embeds, len(darts), darts, alpha, {})
+        orbits = {embed: enumerate(bare.orbits(embed.labels)) for embed in embeds}
+        values = {embed.name: {dart: own_value(embed.kind, at) for at, orbit in orbits[embed] for dart in orbit}
+                  for embed in embeds}
+        return Map(1, bare.dimension, embeds, bare.next, darts, alpha, values)
 
     def hooks(self) -> list[int]:
         """The darts of the hooks."""

@@ -1,4 +1,5 @@
 """Why a line of a script is refused, told with the darts and values that are there."""
+from collections.abc import Iterable
 from typing import NamedTuple
 
 from gmr.books import Book, Node, Rule, tokens_of
@@ -58,7 +59,7 @@ def tell_no_dart(line: Line) -> list[str]:
     return [f"{given}, and at this line no dart has that name; the nearest ones are {nearest(line.map.darts, dart)}."]
 
 
-def nearest(darts: list[int], dart: int) -> str:
+def nearest(darts: Iterable[int], dart: int) -> str:
     """The darts with the nearest names."""
     below, above = [name for name in darts if name < dart], [name for name in darts if name > dart]
     return " and ".join(map(str, below[-1:] + above[:1]))

@@ -1,0 +1,39 @@
+"""Runs the blocks of Python of a document, one after another, in the folder where it is called.
+
+    run_document.py DOCUMENT TOP    the checkout's top, whose examples are copied here
+
+A line that ends with `# TEXT` and calls
+`print` must print TEXT."""
+import contextlib
+import io
+import os
+import re
+import shutil
+import sys
+from pathlib import Path
+
+
+def blocks_of(text: str) -> list[str]:
+    """The blocks of Python of a document, between lines of three backticks."""
+    return re.findall(r"^```python\n(.*?)^```$", text, re.MULTILINE | re.DOTALL)
+
+
+def run_blocks(document: Path, top: Path) -> int:
+    """Runs the blocks in this folder, with the examples beside them: how many there are. AssertionError where one prints
+    something else than it says."""
+    for example in (top / "examples" / "python").iterdir():
+        shutil.copy(example, example.name)
+    shutil.copy(top / "examples" / "cube.obj", "cube.obj")
+    names: dict[str, object] = {}
+    blocks = blocks_of(document.read_text(encoding="utf-8"))
+    for block in blocks:
+        wanted = re.findall(r"print\(.*\)\s+# (.*)$", block, re.MULTILINE)
+        put = io.StringIO()
+        with contextlib.redirect_stdout(put):
+            exec(compile(block, os.fspath(document), "exec"), names)
+        assert put.getvalue().splitlines() == wanted, f"{block}\nprints\n{put.getvalue()}"
+    return len(blocks)
+
+
+if __name__ == "__main__":
+    print(f"{run_blocks(Path(sys.argv[1]), Path(sys.argv[2]))} blocks ran")
