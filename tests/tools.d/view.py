@@ -1,24 +1,27 @@
 """Tests of tools/view and of the viewer, in a browser without a network."""
 import json
+import subprocess
 import sys
 import tempfile
-from contextlib import contextmanager
-from collections.abc import Iterator
 from pathlib import Path
 from typing import Any
 
 from gmr.maps import Map, read_map
 from gmr.view import assets
+from gmr.view.page import make_page
 from gmr.view.scene import changes_between, pack, scene_of
+from draw import torus
 
 ROOT = Path(__file__).resolve().parents[2]
 sys.path.append(str(ROOT / "tests"))
-from browser import colours, faults, open_browser  # noqa: E402
+from browser import colours, cpu_seconds, faults, open_browser  # noqa: E402
+from selenium.webdriver.common.action_chains import ActionChains  # noqa: E402
 
 EXAMPLES = ROOT / "examples"
 PAGE = """<!doctype html><meta charset="utf-8"><style>html, body, div {margin: 0; height: 100%%}</style>
 <div id="room"></div><script>%s</script><script>%s</script>
 <script>const viewer = new gmr.Viewer(document.getElementById('room'), {theme: 'light'});</script>"""
+SCRIPT = ("examples/painted.gmap", "examples/points.gbook", "examples/points.gscript")
 
 
 def load(name: str) -> Map:
@@ -26,14 +29,27 @@ def load(name: str) -> Map:
     return read_map((EXAMPLES / name).read_text(encoding="ascii"))
 
 
-@contextmanager
-def open_viewer() -> Iterator[Any]:
-    """A browser on a page that has nothing but a viewer."""
-    with open_browser() as driver, tempfile.TemporaryDirectory() as folder:
+def view(*words: str | Path) -> tuple[int, str, str]:
+    """The status of tools/view at the top of the checkout, its output, and what it says of faults."""
+    command = [sys.executable, "tools/view", *words]
+    done = subprocess.run(command, cwd=ROOT, capture_output=True, check=False, text=True)
+    return done.returncode, done.stdout, done.stderr
+
+
+def open_page(driver: Any, text: str) -> None:
+    """Opens a page of this text, from a file."""
+    with tempfile.TemporaryDirectory() as folder:
         page = Path(folder, "page.html")
-        page.write_text(PAGE % (assets.library(), assets.viewer()), encoding="utf-8")
+        page.write_text(text, encoding="utf-8")
         driver.get(page.as_uri())
-        yield driver
+
+
+def make(*words: str) -> str:
+    """The text of the page that tools/view makes of files."""
+    with tempfile.TemporaryDirectory() as folder:
+        page = Path(folder, "page.html")
+        assert view(*words, "-o", page) == (0, f"{page}\n", "")
+        return page.read_text(encoding="utf-8")
 
 
 def show(driver: Any, it: Map) -> None:
@@ -41,46 +57,117 @@ def show(driver: Any, it: Map) -> None:
     driver.execute_script("viewer.show(arguments[0]); viewer.drawNow();", scene_of(it))
 
 
+def click(driver: Any, dart: int) -> None:
+    """Clicks where a dart's stroke has its middle."""
+    canvas = driver.find_element("css selector", "#room canvas")
+    x, y = driver.execute_script("const {x, y} = gmr.page.viewer.pixelOf(arguments[0]); return [x, y];", dart)
+    ActionChains(driver).move_to_element_with_offset(
+        canvas, round(x - canvas.size["width"] / 2), round(y - canvas.size["height"] / 2)).click().perform()
+
+
+def card(driver: Any) -> str:
+    """What the card of a dart says."""
+    return str(driver.find_element("css selector", ".card").text)
+
+
+def toast(driver: Any) -> str:
+    """What the page said last of a click."""
+    return str(driver.find_element("css selector", ".toast").get_attribute("textContent"))
+
+
 def rows(it: Map) -> list[Any]:
     """The names of a map's darts, and for each label their neighbours."""
     return [it.darts.tolist(), [[step[dart] for dart in it.darts] for step in it.alpha]]
 
 
-def test_numbers_are_packed_as_narrow_as_they_are():
+def test_numbers_are_packed_as_narrow_as_they_are() -> None:
     for numbers, name in (((0, 255, 3), "Uint8"), ((-1, 5, 9), "Int8"), ((256, 1, 1), "Uint16"), ((2**40, 0), "Int64")):
         assert pack(numbers)["type"] == name, numbers
     assert pack(range(5, 9)) == {"from": 5, "count": 4}
 
 
-def test_changes_hold_the_rows_that_differ_alone():
+def test_changes_hold_the_rows_that_differ_alone() -> None:
     before = load("painted.gmap")
     changes = changes_between(before, before)
     assert changes["rows"]["names"] == pack(()) and changes["gone"] == pack(())
     assert "places" in json.dumps(changes)
 
 
-def test_the_dart_that_is_pointed_at_is_the_one_that_is_named():
-    with open_viewer() as driver:
-        for name in ("painted.gmap", "pillows.gmap", "edge.gmap"):
-            it = load(name)
-            show(driver, it)
-            found = driver.execute_script(
-                "return arguments[0].map((dart) => { const {x, y} = viewer.pixelOf(dart); "
-                "return viewer.dartAt(x, y); });", it.darts.tolist())
-            assert found == it.darts, (name, found)
-            assert colours(driver.get_screenshot_as_png()) > 10, name
-        assert not faults(driver)
+def test_pages_in_a_browser() -> None:
+    with open_browser() as driver:      # one for all, since it takes the longest to begin
+        for check in (check_darts_that_are_pointed_at, check_changes, check_script, check_large_map):
+            check(driver)
+            assert not faults(driver), check.__name__
 
 
-def test_changes_lead_from_a_map_to_the_next_and_back():
-    before = load("operations/dimension2/triangulate_face_2d/before.gmap")
-    after = load("operations/dimension2/triangulate_face_2d/after.gmap")
+def check_darts_that_are_pointed_at(driver: Any) -> None:
+    """The dart at the pixel of a dart is that dart."""
+    open_page(driver, PAGE % (assets.library(), assets.viewer()))
+    for name in ("painted.gmap", "edge.gmap"):
+        it = load(name)
+        show(driver, it)
+        found = driver.execute_script(
+            "return arguments[0].map((dart) => { const {x, y} = viewer.pixelOf(dart); return viewer.dartAt(x, y); });",
+            it.darts.tolist())
+        assert found == it.darts.tolist(), (name, found)
+
+
+def check_changes(driver: Any) -> None:
+    """Changes lead from a map to the next, and those that an update gives lead back."""
+    before, after = (load(f"operations/dimension2/triangulate_face_2d/{name}.gmap") for name in ("before", "after"))
     ask = ("return [Array.from(viewer.state.names), viewer.state.alpha.map((step) => "
            "Array.from(step, (at) => viewer.state.names[at]))];")
-    with open_viewer() as driver:
-        show(driver, before)
-        driver.execute_script("window.found = viewer.update(arguments[0]);", changes_between(before, after))
-        assert driver.execute_script(ask) == rows(after)
-        driver.execute_script("viewer.light(found.fresh, 'new'); viewer.drawNow(); viewer.update(found.undo);")
-        assert driver.execute_script(ask) == rows(before)
-        assert not faults(driver)
+    show(driver, before)
+    driver.execute_script("window.found = viewer.update(arguments[0]);", changes_between(before, after))
+    assert driver.execute_script(ask) == rows(after)
+    driver.execute_script("viewer.light(found.fresh, 'new'); viewer.drawNow(); viewer.update(found.undo);")
+    assert driver.execute_script(ask) == rows(before)
+
+
+def check_script(driver: Any) -> None:
+    """A script is stepped through by keys, and a click copies a dart or a line."""
+    open_page(driver, make(*SCRIPT))
+    said = driver.find_element("id", "steps")
+    assert "line 0 of 6" in said.text
+    ActionChains(driver).send_keys("..").perform()
+    assert "2 triangulate done added 16 removed 0" in said.text and "16 darts new" in said.text, said.text
+    ActionChains(driver).send_keys(".").perform()
+    assert "The precondition of paint is false" in said.text, said.text
+    assert "24 darts" in driver.find_element("id", "counts").text
+    click(driver, 13)
+    assert card(driver).startswith("dart 13 α0 21 α1 3 α2 15"), card(driver)
+    assert toast(driver).endswith("13"), toast(driver)
+    driver.find_element("css selector", "#copies option[value=triangulate]").click()
+    click(driver, 3)
+    assert toast(driver).endswith("apply triangulate 3"), toast(driver)
+    driver.execute_script("document.activeElement.blur()")
+    ActionChains(driver).send_keys(",,,").perform()
+    assert "line 0 of 6" in said.text and "8 darts" in driver.find_element("id", "counts").text
+    assert colours(driver.get_screenshot_as_png()) > 10
+
+
+def check_large_map(driver: Any) -> None:
+    """A page of 100,000 darts is shorter than the map's text and three.js, and opens within three seconds."""
+    it = torus(112, 112)
+    text = make_page("torus", {"names": ["torus"], "scenes": [scene_of(it)]})
+    assert len(text) - len(assets.library()) - 100_000 < len(it.text()), len(text)
+    before = cpu_seconds(driver)
+    open_page(driver, text)
+    driver.execute_async_script("requestAnimationFrame(() => requestAnimationFrame(arguments[0]))")
+    taken = cpu_seconds(driver) - before
+    assert taken < 3, f"{taken:.1f} seconds of the page's processor"
+    assert driver.execute_script("return gmr.page.viewer.calls") < 10
+    assert colours(driver.get_screenshot_as_png()) > 50
+
+
+def test_what_is_wrong_is_told_in_a_line() -> None:
+    with tempfile.TemporaryDirectory() as folder:
+        page, broken = Path(folder, "page.html"), "examples/broken.gmap"
+        copy = Path(folder, "square.gmap")
+        copy.write_text((EXAMPLES / "square.gmap").read_text(encoding="ascii"), encoding="ascii")
+        for words, said in (((broken, "-o", page), "points back"), (("nothing.gmap", "-o", page), "nothing.gmap"),
+                            ((copy, "-o", copy), "can't be written"),
+                            ((broken, *SCRIPT[1:], "-o", page), "refused MAP involution dart 0 label 0")):
+            status, put, fault = view(*words)
+            assert (status, put) == (1, "") and said in fault and fault.count("\n") == 1, (words, fault)
+        assert not page.exists()

@@ -1,21 +1,21 @@
 """The scripts of the viewer, with three.js of the system, to be put into a page or served."""
 from pathlib import Path
 
-from gmr.program import Refused
+from gmr.errors import Missing
 
 STATIC = Path(__file__).parent / "static"
 THREE = Path("/usr/share/javascript/three")
 LIBRARY = ("build/three.min.js", "examples/js/controls/OrbitControls.js")
-SCRIPTS = ("state.js", "colours.js", "shape.js", "strokes.js", "layers.js", "marks.js", "pick.js", "pointer.js",
-           "viewer.js")
+SCRIPTS = ("state.js", "colours.js", "polygons.js", "shape.js", "strokes.js", "faces.js", "layers.js", "marks.js",
+           "pick.js", "pointer.js", "viewer.js")
 
 
 def library() -> str:
-    """The text of three.js and its controls; Refused where they aren't installed."""
+    """The text of three.js and its controls; Missing where they aren't installed."""
     try:
         return "\n".join((THREE / name).read_text(encoding="utf-8") for name in LIBRARY)
     except FileNotFoundError as error:
-        raise Refused(f"{error.filename} is missing: apt-get install libjs-three", 1) from error
+        raise Missing(f"{error.filename} is missing: apt-get install libjs-three") from error
 
 
 def viewer() -> str:

@@ -1,25 +1,31 @@
 """Where the darts of a map without points are laid out: as `draw` lays them out, sheets in rows, or in space where
 the map is large.
 
-A dart has four places: its vertex, the middle of its edge, and where each of them moves as the dart is drawn further
-within its face."""
+A dart that is laid out flat has four places: its vertex, the middle of its edge, and where each of them moves as the
+dart is drawn further within its face. In space it has that of its vertex alone."""
 import math
 from collections.abc import Iterable, Sequence
-from typing import NamedTuple
+from typing import TYPE_CHECKING, NamedTuple
+
+import numpy
 
 from gmr.draw.layout import Sheet
 from gmr.draw.model import Model
 from gmr.draw.sheets import sheets_of
 from gmr.maps import Map
+from gmr.view.spread import spread
+
+if TYPE_CHECKING:
+    from numpy.typing import NDArray
 
 STEPS, GAP, WIDTH = 65535, 0.6, 1.6
-PARTS = 4  # places that a dart has
+MOST_FLAT = 1500  # darts that are laid out flat, which takes some seconds
 
 
 class Places(NamedTuple):
-    """The places of all darts: the least coordinates, the length of a step, the coordinates of each dart's four places
-    in steps (two each where it is flat, else three), and by their place among the darts those that lie outside, round
-    a closed surface that is laid out flat."""
+    """The places of all darts: the least coordinates, the length of a step, in steps two coordinates of each dart's
+    four places where it is flat and else three of its vertex, and by their place among the darts those that lie
+    outside, round a closed surface that is laid out flat."""
 
     corner: tuple[float, ...]
     step: float
@@ -32,6 +38,8 @@ def lay_out(it: Map, labels: Sequence[int]) -> Places:
     """The places of the darts of a map, of which these labels are seen as 0, 1 and 2."""
     if not it.darts:
         return Places((0.0, 0.0), 1.0, [], [], True)
+    if len(it.darts) > MOST_FLAT:
+        return lay_in_space(it, labels[0])
     alpha = [it.alpha[label] for label in labels] + ([it.alpha[3]] if it.dimension == 3 == len(labels) else [])
     model = Model(min(it.dimension, len(alpha) - 1), alpha, {}, {}, {})
     placed: dict[int, tuple[complex, ...]] = {}
@@ -42,6 +50,24 @@ def lay_out(it: Map, labels: Sequence[int]) -> Places:
         outer.update(outer_darts(sheet))
     flat = [number for dart in it.darts for place in placed[dart] for number in (place.real, place.imag)]
     return quantised(flat, 2, [at for at, dart in enumerate(it.darts) if dart in outer])
+
+
+def lay_in_space(it: Map, along: int) -> Places:
+    """The places of the darts of a large map, whose edges lead along this label."""
+    others = [label for label in range(it.dimension + 1) if label != along]
+    numbers = dict(zip(it.darts, range(len(it.darts))))
+    ends = numpy.array([numbers[it.alpha[along][dart]] for dart in it.darts])
+    vertices, parts = (numbered(it.orbits(labels), numbers) for labels in (others, range(it.dimension + 1)))
+    places = spread(vertices, ends, parts)[vertices]
+    return quantised(places.ravel().tolist(), 3, [])
+
+
+def numbered(orbits: Iterable[list[int]], numbers: dict[int, int]) -> "NDArray[numpy.int64]":
+    """For each dart, by its place, the number of its orbit."""
+    found = numpy.zeros(len(numbers), numpy.int64)
+    for number, orbit in enumerate(orbits):
+        found[[numbers[dart] for dart in orbit]] = number
+    return found
 
 
 def outer_darts(sheet: Sheet) -> Iterable[int]:

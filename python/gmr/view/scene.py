@@ -4,7 +4,7 @@ Columns of numbers are packed: the bytes of an array, little end first, in base6
 
     {"dimension", "labels": the labels that play 0, 1 and 2, "names": packed, "alpha": [packed by label: the place of
      the neighbour among the darts], "embeds": [{"name", "labels", "kind", "values": packed, WIDTHS[kind] a dart}],
-     "points": the embedding with the points or null, "places": null, or where darts are laid out, see gmr.view.places,
+     "points": the embedding with the points or null, "places": null, or where darts are laid out, see packed_places,
      "next": the next name}
 
 and changes are
@@ -63,6 +63,7 @@ def scene_of(it: Map, labels: Sequence[int] | None = None) -> Json:
     which three are seen as those of a surface."""
     chosen = labels_of(it, labels)
     points = points_of(it, chosen)
+    check_involutions(it)
     at = dict(zip(it.darts, range(len(it.darts))))
     return {
         "dimension": it.dimension,
@@ -78,8 +79,18 @@ def scene_of(it: Map, labels: Sequence[int] | None = None) -> Json:
     }
 
 
+def check_involutions(it: Map) -> None:
+    """ValueError where a neighbour doesn't point back; what else the laws of maps forbid, can be drawn."""
+    for label, step in enumerate(it.alpha):
+        back = list(map(step.__getitem__, map(step.__getitem__, it.darts)))
+        if back != it.darts.tolist():
+            dart = next(dart for dart, there in zip(it.darts, back) if dart != there)
+            raise ValueError(f"dart {dart} has no neighbour along label {label} that points back")
+
+
 def packed_places(it: Map, labels: Sequence[int]) -> Json:
-    """Where the darts of a map without points are laid out: see gmr.view.places."""
+    """Where the darts of a map without points are laid out: see gmr.view.places. `from` and `step` say where step 0 is
+    and how long a step is, and `flat` whether each dart has four places in the plane or one in space."""
     found = lay_out(it, labels)
     return {"from": list(found.corner), "step": found.step, "at": pack(found.numbers), "outer": pack(found.outer),
             "flat": found.is_flat}

@@ -30,8 +30,8 @@
     marks.forEach((mark, at) => {
       position.set(mark.places.subarray(6, 15), 9 * at);
       drift.set(mark.moved.subarray(6, 15), 9 * at);
-      const corners = [6, 9, 12].map((from) => Array.from(mark.places.subarray(from, from + 3)));
-      const way = gmr.layers.normalOf(corners);
+      const [vertex, edge, face] = [6, 9, 12].map((from) => new THREE.Vector3(...mark.places.subarray(from, from + 3)));
+      const way = edge.sub(vertex).cross(face.sub(vertex)).normalize().toArray();
       for (let corner = 0; corner < 3; corner += 1) normal.set(way, 9 * at + 3 * corner);
     });
     const attributes = {position: [position, 3], drift: [drift, 3], normal: [normal, 3],

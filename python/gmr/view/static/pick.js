@@ -92,10 +92,12 @@
     // The dart of a face that is nearest to where a ray meets it.
     inFace(first, ray) {
       const {shape} = this.viewer;
-      const corners = gmr.layers.cornersOf(shape, first).places.map((place) => this.viewer.placed(first, place));
-      const plane = new THREE.Plane().setFromNormalAndCoplanarPoint(new THREE.Vector3(...gmr.layers.normalOf(corners)),
-        new THREE.Vector3(...corners[0]));
-      const point = ray.intersectPlane(plane, new THREE.Vector3()) || new THREE.Vector3(...corners[0]);
+      const polygons = shape.polygons();
+      const face = shape.faces.of[first];
+      const corner = new THREE.Vector3(...this.viewer.placed(first, polygons.cornerAt(polygons.begins[face])));
+      const plane = new THREE.Plane().setFromNormalAndCoplanarPoint(
+        new THREE.Vector3(...polygons.normals.subarray(3 * face, 3 * face + 3)), corner);
+      const point = ray.intersectPlane(plane, new THREE.Vector3()) || corner;
       let best = null;
       for (const dart of shape.rim(first)) {
         const near = new THREE.Vector3();

@@ -4,7 +4,8 @@
 
   // The labels of a state that play 0 to 3, where dimension 1 has no 2 and only dimension 3 has a 3.
   function stepsOf(state) {
-    const self = Int32Array.from({length: state.count}, (_, at) => at);
+    const self = new Int32Array(state.count);
+    for (let at = 0; at < self.length; at += 1) self[at] = at;
     const roles = [...state.roles];
     if (state.dimension === 3) roles.push([0, 1, 2, 3].find((label) => !roles.includes(label)));
     return {steps: [0, 1, 2, 3].map((role) => (role < roles.length ? state.alpha[roles[role]] : self)), roles};
@@ -50,20 +51,36 @@
     return vertex;
   }
 
-  // The places of a map that is laid out: four a dart, see gmr.view.places.
+  // The places of a map that is laid out flat: four a dart, see gmr.view.places.
   function placesLaidOut(state) {
-    const {from, step, at, flat} = state.places;
+    const {from, step, at} = state.places;
     const numbers = gmr.unpack(at);
-    const width = flat ? 2 : 3;
     const places = [0, 1, 2, 3].map(() => new Float64Array(state.count * 3));
     for (let dart = 0; dart < state.count; dart += 1) {
       for (let part = 0; part < 4; part += 1) {
-        for (let axis = 0; axis < width; axis += 1) {
-          places[part][3 * dart + axis] = from[axis] + step * numbers[(4 * dart + part) * width + axis];
+        for (let axis = 0; axis < 2; axis += 1) {
+          places[part][3 * dart + axis] = from[axis] + step * numbers[(4 * dart + part) * 2 + axis];
         }
       }
     }
     return places;
+  }
+
+  // The vertices of a large map that is laid out in space.
+  function placesInSpace(state) {
+    const made = new Float64Array(state.count * 3);
+    if (!state.places) return made;
+    const {from, step, at} = state.places;
+    const numbers = gmr.unpack(at);
+    for (let place = 0; place < made.length; place += 1) made[place] = from[place % 3] + step * numbers[place];
+    return made;
+  }
+
+  // Six times what a triangle fills with the middle of all: its corners are one, and two that follow each other.
+  function tripleOf(places, one, two) {
+    const [x, y, z] = [places[one], places[one + 1], places[one + 2]];
+    const [a, b, c, d, e, f] = places.subarray(two, two + 6);
+    return x * (b * f - c * e) + y * (c * d - a * f) + z * (a * e - b * d);
   }
 
   class Shape {
@@ -79,7 +96,7 @@
       this.outer = new Uint8Array(this.count);
       this.faces = gmr.orbitsOver(this.count, [steps[0], steps[1]]);
       this.volumes = gmr.orbitsOver(this.count, [steps[0], steps[1], steps[2]]);
-      if (state.places) this.layOut(frame); else this.stand(frame);
+      if (state.places && state.places.flat) this.layOut(frame); else this.stand(frame);
       this.volumeMiddles = means(this.volumes, this.vertex, this.count);
       this.spread();
     }
@@ -93,7 +110,7 @@
     }
 
     stand(frame) {
-      const points = this.state.points ? placesByPoints(this.state) : new Float64Array(this.count * 3);
+      const points = this.state.points ? placesByPoints(this.state) : placesInSpace(this.state);
       this.frame = frame || frameOf(points);
       this.isFlat = points.every((number, at) => at % 3 !== 2 || number === points[2]);
       this.vertex = this.framed(points);
@@ -131,7 +148,7 @@
     // The middle of all volumes, from which they are pulled apart.
     spread() {
       this.parts = this.volumes.count;
-      this.isSpread = this.parts > 1 && !this.state.places;
+      this.isSpread = this.parts > 1 && !this.bends;
       this.whole = [0, 0, 0];
       for (let at = 0; at < this.volumeMiddles.length; at += 1) {
         this.whole[at % 3] += this.volumeMiddles[at] / this.parts;
@@ -149,18 +166,82 @@
       }
     }
 
-    // The darts round a face from one of them on: along 0 and 1 by turns; an open one from its end.
-    rim(dart) {
+    polygons() {
+      if (!this.made) this.made = new gmr.Polygons(this);
+      return this.made;
+    }
+
+    // The way outward of each face: of zeros where its volume isn't closed, or has one side.
+    outward() {
+      if (this.ways) return this.ways;
+      this.ways = new Float32Array(3 * this.faces.count);
+      if (this.isLine || this.isFlat) return this.ways;
+      const {side, isClosed} = this.sides();
+      const filled = this.filled(side);
+      const {firsts, normals, count} = this.polygons();
+      for (let face = 0; face < count; face += 1) {
+        const volume = this.volumes.of[firsts[face]];
+        const sign = isClosed[volume] ? Math.sign(filled[volume]) * (side[firsts[face]] ? -1 : 1) : 0;
+        for (let axis = 0; axis < 3; axis += 1) this.ways[3 * face + axis] = sign * normals[3 * face + axis];
+      }
+      return this.ways;
+    }
+
+    // How much each volume fills, six times, below 0 where it is walked inside out.
+    filled(side) {
+      const sums = new Float64Array(this.volumes.count);
+      const {begins, firsts, places, count} = this.polygons();
+      for (let face = 0; face < count; face += 1) {
+        const sign = side[firsts[face]] ? -1 : 1;
+        const volume = this.volumes.of[firsts[face]];
+        for (let at = begins[face] + 1; at + 1 < begins[face + 1]; at += 1) {
+          sums[volume] += sign * tripleOf(places, 3 * begins[face], 3 * at);
+        }
+      }
+      return sums;
+    }
+
+    // On which side each dart lies, so that neighbours lie on different ones, and which volumes are closed and have two.
+    sides() {
+      const side = new Int8Array(this.count).fill(-1);
+      const isClosed = new Uint8Array(this.volumes.count).fill(1);
+      const waiting = [];
+      for (let start = 0; start < this.count; start += 1) {
+        if (side[start] >= 0) continue;
+        side[start] = 0;
+        waiting.push(start);
+        while (waiting.length) {
+          const dart = waiting.pop();
+          for (let label = 0; label < 3; label += 1) {
+            const near = this.steps[label][dart];
+            if (side[near] < 0) {
+              side[near] = 1 - side[dart];
+              waiting.push(near);
+            } else if (side[near] === side[dart]) isClosed[this.volumes.of[dart]] = 0;
+          }
+        }
+      }
+      return {side, isClosed};
+    }
+
+    // Where the way round a dart's face begins, and along which step: at the dart, or at the end of an open face.
+    rimStart(dart) {
       const [zero, one] = this.steps;
-      let start = dart;
-      let step = one;
+      let [start, step] = [dart, one];
       while (step[start] !== start) {
         start = step[start];
         step = step === one ? zero : one;
         if (start === dart) break;
       }
+      return {start, label: step === one ? zero : one};
+    }
+
+    // The darts round a face from one of them on: along 0 and 1 by turns; an open one from its end.
+    rim(dart) {
+      const [zero, one] = this.steps;
+      const {start, label} = this.rimStart(dart);
       const found = [start];
-      step = step === one ? zero : one;
+      let step = label;
       for (;;) {
         const last = found[found.length - 1];
         const near = step[last];
@@ -192,6 +273,9 @@
       }
       return to;
     }
+
+    // The middle of a dart's face, towards which its stroke is moved.
+    middleOf(dart) { return [0, 1, 2].map((axis) => this.vertex[3 * dart + axis] + this.toward1[3 * dart + axis]); }
 
     place(array, dart) { return [array[3 * dart], array[3 * dart + 1], array[3 * dart + 2]]; }
 

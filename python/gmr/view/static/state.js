@@ -11,7 +11,9 @@
   // The numbers of a packed column, as gmr.view.scene packs them.
   function unpack(packed) {
     if (packed.from !== undefined) {
-      return Int32Array.from({length: packed.count}, (_, at) => packed.from + at);
+      const made = new Int32Array(packed.count);
+      for (let at = 0; at < made.length; at += 1) made[at] = packed.from + at;
+      return made;
     }
     const letters = atob(packed.data);
     const bytes = new Uint8Array(letters.length);
@@ -75,7 +77,7 @@
       this.dimension = scene.dimension;
       this.roles = scene.labels;
       this.names = unpack(scene.names);
-      this.alpha = scene.alpha.map((column) => Int32Array.from(unpack(column)));
+      this.alpha = scene.alpha.map((column) => new Int32Array(unpack(column)));
       this.embeds = scene.embeds.map((embed) => ({...embed, width: WIDTHS[embed.kind], values: unpack(embed.values)}));
       this.points = scene.points;
       this.places = scene.places;

@@ -3,12 +3,15 @@
   'use strict';
 
   const COMMON = `
-    uniform float apart; uniform float lift; uniform vec2 size;
+    uniform float apart; uniform float lift; uniform vec2 size; uniform float isSolid;
     varying vec3 world; varying vec3 tint; varying float mark;
     vec4 placed(vec3 at, vec3 by) {
       vec3 there = at + apart * by;
       world = there;
       return projectionMatrix * modelViewMatrix * vec4(there, 1.0);
+    }
+    bool turnedAway(vec3 outward, vec3 at) {
+      return isSolid > 0.5 && dot(outward, cameraPosition - at) < -1e-4;
     }`;
   const CUT = `
     uniform vec4 plane; uniform float isPick; uniform float kind; uniform float fade;
@@ -23,7 +26,7 @@
   // A stroke is a quad along two places, with the head of an arrow where `head` is more than 0: all in pixels.
   const STROKE = `
     attribute vec3 begin; attribute vec3 end; attribute vec3 drift; attribute vec3 drift2;
-    attribute vec3 colour; attribute float id;
+    attribute vec3 colour; attribute float id; attribute vec3 outward;
     uniform float width; uniform float head; uniform float least;
     varying float along;
     ${COMMON}
@@ -32,7 +35,7 @@
       vec2 from = p.xy / p.w * size, to = q.xy / q.w * size;
       float reach = max(length(to - from), 1e-4);
       vec2 way = (to - from) / reach, across = vec2(-way.y, way.x);
-      float tip = min(head, 0.6 * reach), thick = clamp(width, 0.6, max(least, 0.34 * reach));
+      float tip = min(head, 0.3 * reach), thick = clamp(width, 0.6, max(least, 0.12 * reach));
       float share = position.x;
       vec4 there = mix(p, q, share);
       float wide = position.z > 0.5 ? 0.75 * tip : 0.5 * thick;
@@ -42,7 +45,7 @@
       there.z -= lift * there.w;
       world = mix(begin + apart * drift, end + apart * drift2, share);
       along = share * reach; tint = colour; mark = id;
-      gl_Position = there;
+      gl_Position = turnedAway(outward, world) ? vec4(2.0, 2.0, 2.0, 1.0) : there;
     }`;
   const STROKE_COLOUR = `
     uniform float dash; varying float along;
@@ -54,21 +57,21 @@
     }`;
   const FACE = `
     attribute vec3 drift; attribute vec3 colour; attribute float id;
-    varying vec3 way;
+    varying vec3 way; varying vec3 seen;
     ${COMMON}
     void main() {
       gl_Position = placed(position, drift);
       gl_Position.z -= lift * gl_Position.w;
-      way = normalMatrix * normal; tint = colour; mark = id;
+      way = normalMatrix * normal; seen = (modelViewMatrix * vec4(world, 1.0)).xyz; tint = colour; mark = id;
     }`;
   const FACE_COLOUR = `
-    uniform float shade; uniform vec3 pale; uniform float paleness; varying vec3 way;
+    uniform float shade; uniform vec3 pale; uniform float paleness; varying vec3 way; varying vec3 seen;
     ${CUT}
     void main() {
       cutAway();
       vec3 turned = normalize(way);
-      if (turned.z < 0.0) turned = -turned;
-      float light = shade + (1.0 - shade) * (0.55 * max(0.0, dot(turned, normalize(vec3(-0.4, 0.55, 0.73)))) + 0.45 * turned.z);
+      if (dot(turned, seen) > 0.0) turned = -turned;
+      float light = shade + (1.0 - shade) * (0.55 * max(0.0, dot(turned, normalize(vec3(-0.4, 0.55, 0.73)))) + 0.45 * max(0.0, turned.z));
       gl_FragColor = isPick > 0.5 ? named() : vec4(mix(tint, pale, paleness) * light, fade);
     }`;
   const POINT = `
@@ -91,17 +94,23 @@
   // A name is a row of digits, each a quad of the picture of all digits, beside a place on the side of its face.
   const NAME = `
     attribute vec3 begin; attribute vec3 drift; attribute vec3 inward; attribute vec3 digit;
+    attribute vec3 stroke; attribute vec3 outward;
     uniform float width; varying vec2 spot;
     ${COMMON}
     void main() {
       vec4 inner = placed(begin + inward, drift);
-      gl_Position = placed(begin, drift);
-      vec2 way = inner.xy / inner.w * size - gl_Position.xy / gl_Position.w * size;
+      vec4 there = placed(begin, drift);
+      gl_Position = there;
+      vec2 way = inner.xy / inner.w * size - there.xy / there.w * size;
       way = length(way) > 1e-3 ? normalize(way) : vec2(0.0);
       vec2 corner = vec2((position.x + digit.y) * width * 0.6, position.y * width);
       corner += way * (abs(way.x) * 0.3 * width * digit.z + abs(way.y) * width * 0.37 + 5.0);
       gl_Position.xy += corner / size * gl_Position.w;
       gl_Position.z -= lift * gl_Position.w;
+      vec4 tail = placed(begin + stroke, drift);
+      vec2 line = tail.xy / tail.w * size - there.xy / there.w * size;
+      float room = digit.z * width * 0.6;
+      if (length(line) < 0.9 * room + 4.0 || turnedAway(outward, world)) gl_Position = vec4(2.0, 2.0, 2.0, 1.0);
       spot = vec2((digit.x + position.x + 0.5) / 10.0, position.y + 0.5);
     }`;
   const NAME_COLOUR = `

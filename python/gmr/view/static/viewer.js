@@ -4,8 +4,9 @@
    const v = new gmr.Viewer(element, {theme})   fills the element; theme is 'light' or 'dark'
 
    v.show(scene)          shows a scene of gmr.view.scene from a view that fits it
-   v.update(changes)      applies changes of gmr.view.scene, and keeps the view. Gives {fresh, gone, changed, undo}: names
-                          of darts, and the changes that lead back. What is gone can still be lit, where it was
+   v.update(changes, isPassed)  applies changes of gmr.view.scene, and keeps the view. Gives {fresh, gone, changed, undo}:
+                          names of darts, and the changes that lead back. What is gone can still be lit, where it was.
+                          Where isPassed is true, nothing is drawn: more changes come at once, or v.settle()
    v.fit()                turns back to the first view, and fits it
    v.set({..})            sets some of: apart (0 to 1), cut (null, or {axis: 'x', 'y' or 'z', at: 0 to 1, flip}),
                           darts, faces, edges, points, names (true, false, or 'auto' by the number of darts),
@@ -30,11 +31,13 @@
 (function (gmr) {
   'use strict';
 
-  const FEW = {darts: 4000, names: 500, points: 4000, edges: 400000, links: 4000};
+  // Up to how many darts each kind of thing is shown, in the plane and in space.
+  const FEW = {darts: [4000, 700], names: [500, 150], points: [4000, 1500], edges: [200000, 60000], links: [4000, 700]};
   const CELLS = ['vertex', 'edge', 'face', 'volume'];
   const MANY = ['vertices', 'edges', 'faces', 'volumes'];
   const DEFAULTS = {apart: 0, cut: null, faces: true, edges: 'auto', points: 'auto', darts: 'auto', names: 'auto',
     links: 'auto', colourBy: 'auto'};
+  const dashOf = (label) => [0, 0, 0, 3, 5, 2, 7, 4][label]; // pixels of a dash: labels differ without colours too
   const nameOfCell = (dimension) => CELLS[dimension] || `cell of dimension ${dimension}`;
 
   class Viewer {
@@ -45,8 +48,7 @@
       this.listeners = {pick: new Set(), hover: new Set()};
       this.marks = new Map();
       this.ghosts = new Map();
-      this.shared = {apart: {value: 0}, size: {value: new THREE.Vector2(1, 1)}, plane: {value: new THREE.Vector4(0, 0, 0, 1)},
-        isPick: {value: 0}, pixels: {value: 1}};
+      this.shared = {apart: {value: 0}, size: {value: new THREE.Vector2(1, 1)}, plane: {value: new THREE.Vector4(0, 0, 0, 1)}, isSolid: {value: 0}, isPick: {value: 0}, pixels: {value: 1}};
       this.scene = new THREE.Scene();
       this.camera = new THREE.PerspectiveCamera(32, 1, 0.01, 100);
       this.camera.up.set(0, 0, 1);
@@ -78,17 +80,19 @@
       this.fit();
     }
 
-    update(changes) {
-      const old = this.shape;
+    update(changes, isPassed) {
+      if (!this.shape && !isPassed) this.shape = new gmr.Shape(this.state, this.frame);
       const gone = Array.from(changes.gone.length === undefined ? gmr.unpack(changes.gone) : changes.gone);
-      const ghosts = gone.map((name) => [name, this.markOf(this.state.indexOf(name))]);
+      const ghosts = isPassed ? [] : gone.map((name) => [name, this.markOf(this.state.indexOf(name))]);
       const found = this.state.apply(changes);
       this.ghosts = new Map(ghosts);
       this.marks.clear();
       this.shape = null;
-      this.rebuild(this.state.points ? old.frame : undefined);
+      if (!isPassed) this.settle();
       return found;
     }
+
+    settle() { if (!this.shape) this.rebuild(this.state.points ? this.frame : undefined); }
 
     fit() {
       const isFlat = this.shape.isFlat;
@@ -110,18 +114,29 @@
 
     // Where the middle of all is as the camera looks now, and how far away it must stand to see all.
     reach() {
-      const inverse = new THREE.Matrix4().getInverse(this.camera.matrixWorld).setPosition(0, 0, 0);
-      const seen = [];
-      for (let dart = 0; dart < this.shape.count; dart += 1) {
-        seen.push(new THREE.Vector3(...this.placed(dart, this.shape.place(this.shape.vertex, dart))).applyMatrix4(inverse));
+      const {vertex, count} = this.shape;
+      const turned = new Float64Array(3 * count);
+      const [right, up, back] = [0, 1, 2].map((axis) => new THREE.Vector3().setFromMatrixColumn(this.camera.matrixWorld, axis));
+      const [low, high, moved] = [[Infinity, Infinity, Infinity], [-Infinity, -Infinity, -Infinity], [0, 0, 0]];
+      for (let dart = 0; dart < count; dart += 1) {
+        this.shape.drift(dart, vertex, 3 * dart, moved, 0);
+        const [x, y, z] = [0, 1, 2].map((axis) => vertex[3 * dart + axis] + this.options.apart * moved[axis]);
+        [right, up, back].forEach((way, axis) => {
+          const part = way.x * x + way.y * y + way.z * z;
+          turned[3 * dart + axis] = part;
+          if (part < low[axis]) low[axis] = part;
+          if (part > high[axis]) high[axis] = part;
+        });
       }
-      const box = new THREE.Box3().setFromPoints(seen.length ? seen : [new THREE.Vector3()]);
-      const middle = box.getCenter(new THREE.Vector3());
-      const high = Math.tan(this.camera.fov * Math.PI / 360);
-      const wide = high * this.camera.aspect;
-      const far = seen.reduce((most, it) => Math.max(most, it.z - middle.z + 1.1 * Math.max(Math.abs(it.x - middle.x) / wide,
-        Math.abs(it.y - middle.y) / high)), 0.3);
-      return {middle: middle.applyMatrix4(new THREE.Matrix4().getInverse(inverse)), far};
+      const middle = count ? low.map((part, axis) => (part + high[axis]) / 2) : [0, 0, 0];
+      const tall = Math.tan(this.camera.fov * Math.PI / 360);
+      const wide = tall * this.camera.aspect;
+      let far = 0.3;
+      for (let at = 0; at < turned.length; at += 3) {
+        far = Math.max(far, turned[at + 2] - middle[2] + 1.1 * Math.max(Math.abs(turned[at] - middle[0]) / wide,
+          Math.abs(turned[at + 1] - middle[1]) / tall));
+      }
+      return {middle: new THREE.Vector3().addScaledVector(right, middle[0]).addScaledVector(up, middle[1]).addScaledVector(back, middle[2]), far};
     }
 
     set(options) {
@@ -137,7 +152,8 @@
 
     get() {
       const {options, state} = this;
-      const few = (name) => (options[name] === 'auto' ? !state || state.count <= FEW[name] : options[name]);
+      const most = (name) => FEW[name][this.shape && !this.shape.isFlat ? 1 : 0];
+      const few = (name) => (options[name] === 'auto' ? !state || state.count <= most(name) : options[name]);
       const found = {...options};
       ['darts', 'names', 'points', 'edges', 'links'].forEach((name) => { found[name] = few(name); });
       if (options.edges === 'auto' && state && state.dimension === 1) found.edges = !found.darts;
@@ -154,6 +170,7 @@
     setCut() {
       const {cut} = this.options;
       const plane = this.shared.plane.value;
+      this.shared.isSolid.value = this.options.faces && !cut ? 1 : 0;
       if (!cut || !this.shape) {
         plane.set(0, 0, 0, 1);
         return;
@@ -173,6 +190,7 @@
     // Makes the shape, if it isn't given, and all layers that are shown.
     rebuild(frame, shape) {
       this.shape = shape || new gmr.Shape(this.state, frame);
+      this.frame = this.shape.frame;
       this.strokes = null;
       this.shape.deep = this.options.faces || this.shape.isFlat ? 0 : 0.06;
       this.clear((layer) => !layer.userData.style);
@@ -209,8 +227,8 @@
       const labels = Array.isArray(asked) ? asked : this.state.alpha.map((_, label) => label);
       for (const label of labels) {
         const arrays = gmr.layers.linkArrays(shape, this.allStrokes(), label, theme);
-        const dash = [0, 0, 0, 3, 5][Math.min(label, 4)];
-        this.add(gmr.draw.strokes(this.shared, arrays, {width: this.thin(label === 3 ? 1.5 : 2.2), lift: 1.5e-5, dash, least: 3}, 3), 'link', false);
+        this.add(gmr.draw.strokes(this.shared, arrays, {width: this.thin(label === 3 ? 1.5 : 2.2), lift: 1.5e-5,
+          dash: gmr.dashOf(label), least: 3}, 3), 'link', false);
       }
     }
 
@@ -220,7 +238,7 @@
       const ink = new THREE.Color(theme.name);
       const rim = new THREE.Color(theme.back);
       this.add(gmr.draw.names(this.shared, gmr.layers.nameArrays(this.shape, this.allStrokes()),
-        {width: 13, digits: this.digits, ink, rim, lift: 8e-5}, 8), 'name', false);
+        {width: 13, digits: this.digits, ink, rim, lift: 2e-4}, 8), 'name', false);
     }
 
     add(made, kind, pick) {
@@ -396,5 +414,5 @@
     }
   }
 
-  Object.assign(gmr, {Viewer, CELLS});
+  Object.assign(gmr, {Viewer, CELLS, dashOf});
 }(window.gmr = window.gmr || {}));
