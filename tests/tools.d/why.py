@@ -13,6 +13,7 @@ from gmr.commands.why import Run
 from gmr.maps import read_map
 from gmr.program import answer
 from gmr.scripts import STATEMENTS
+from gmr.why.lazy import LazyMap
 from gmr.why.lines import Line, tell_line
 from gmr.why.texts import LIMITS
 
@@ -212,6 +213,19 @@ def test_library() -> None:
                 assert said and (darts is None or darts[1] != darts[2]), (script, said)
                 explained += 1
     assert explained > 70, explained
+
+
+def test_a_map_of_which_rows_are_read_when_they_are_asked_for() -> None:
+    """It has the darts, neighbours and values of the whole map, and no others."""
+    text = answer("show", ROOT / "examples" / "operations" / "values2" / "kis_from_centre" / "before.gmap")[1]
+    whole_map, lazy = read_map(text), LazyMap(text)
+    assert list(lazy.darts) == whole_map.darts and len(lazy.darts) == len(whole_map.darts)
+    assert (lazy.darts[-1], lazy.next, lazy.embeds) == (whole_map.darts[-1], whole_map.next, whole_map.embeds)
+    for dart in range(-1, whole_map.next + 2):
+        assert (dart in lazy.alpha[0]) == (dart in whole_map.alpha[0]), dart
+    for dart in whole_map.darts:
+        assert [step[dart] for step in lazy.alpha] == [step[dart] for step in whole_map.alpha], dart
+        assert all(lazy.values[embed.name][dart] == whole_map.values[embed.name][dart] for embed in lazy.embeds), dart
 
 
 def test_a_picture() -> None:
