@@ -81,7 +81,8 @@ def leave_out(read: Reread, claims: Claims, leaders: Array, places: Array) -> Re
     ends = np.cumsum(read.sizes)
     faces = [read.corners[end - size: end].tolist() for size, end in zip(read.sizes, ends)]
     if read.cells is None:
-        reduced = [reduce(face, leaders, places) for face in faces]
+        doubtful = find_doubtful(read, leaders, places)
+        reduced = [reduce(face, leaders, places) if is_odd else face for face, is_odd in zip(faces, doubtful)]
         for number in np.nonzero(~is_kept)[0].tolist():
             face = leaders[reduced[number]].tolist() if reduced[number] else []
             if len(face) > 2 and len(set(face)) == len(face):
@@ -90,6 +91,21 @@ def leave_out(read: Reread, claims: Claims, leaders: Array, places: Array) -> Re
     kept = [face for face, is_in in zip(faces, is_kept) if is_in]
     corners, sizes = gather(kept)
     return Reread(read.points, read.blur, corners, sizes, None if read.cells is None else element[is_kept])
+
+
+def find_doubtful(read: Reread, leaders: Array, places: Array) -> Array:
+    """Which faces have a corner where the next one is, or one between two that are the same point."""
+    begins = np.cumsum(read.sizes) - read.sizes
+    filled = read.sizes > 0
+    following, before = np.arange(1, len(read.corners) + 1), np.arange(-1, len(read.corners) - 1)
+    following[(begins + read.sizes - 1)[filled]] = begins[filled]
+    before[begins[filled]] = (begins + read.sizes - 1)[filled]
+    point = leaders[read.corners]
+    after = point[following]
+    is_odd = (point == after) | (places[point] == places[after]).all(axis=1) | (point[before] == after)
+    found = np.zeros(len(read.sizes), bool)
+    found[np.repeat(np.arange(len(read.sizes)), read.sizes)[is_odd]] = True
+    return found
 
 
 def reduce(face: list[int], leaders: Array, places: Array) -> list[int]:
