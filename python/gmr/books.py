@@ -9,13 +9,15 @@ from collections.abc import Iterable, Sequence
 from pathlib import Path
 from typing import NamedTuple
 
-from gmr.cursor import (
-    COMMENT as COMMENT, RESERVED as RESERVED, TOKEN as TOKEN, Cursor, Token as Token, end_of_blank as end_of_blank,
-    plain as plain, tokens_of as tokens_of,
-)
+from gmr.cursor import COMMENT, RESERVED, TOKEN, Cursor, Token, end_of_blank, plain, tokens_of
 from gmr.files import write_whole
 from gmr.program import answer, put_of_file, refusal_of
 from gmr.schemas import Embed
+
+__all__ = [
+    "COMMENT", "COLLECTORS", "OPERATORS", "RESERVED", "TOKEN", "Book", "Letters", "Link", "Node", "Reader", "Rule",
+    "Token", "Verdict", "end_of_blank", "load_book", "plain", "read_book", "split_book", "tokens_of",
+]
 
 Letters = tuple[int | None, ...]
 Link = tuple[str, int, str]

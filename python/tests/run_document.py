@@ -19,8 +19,8 @@ def blocks_of(text: str) -> list[str]:
 
 
 def run_blocks(document: Path, top: Path) -> int:
-    """Runs the blocks in this folder, with the examples beside them: how many there are. AssertionError where one prints
-    something else than it says."""
+    """Runs the blocks in this folder, with the examples beside them: how many there are. AssertionError where one
+    prints something else than it says."""
     for example in (top / "examples" / "python").iterdir():
         shutil.copy(example, example.name)
     shutil.copy(top / "examples" / "cube.obj", "cube.obj")
