@@ -116,14 +116,14 @@ def fit_next(rule: Rule, it: Map, given: list[int], table: Table) -> Truths:
     known = find_candidate(rule_of_hooks(rule, hooks[:len(given)]), it, given)
     slots = {name: np.searchsorted(table.names, darts) for name, darts in known.darts.items()}
     at: dict[str, list[Any]] = {name: list(darts) for name, darts in slots.items()}
-    walked = walk_in_step(hook, known.turns, known.count(), table)
+    walked = walk_in_step(hook, known.turns, known.size(), table)
     for name, route in routes_of(rule).items():
         if route.hook == hook.name:
             at[name] = [table.follow(darts, route.labels) for darts in walked]
     new = [node for node in rule.nodes if node.name in at and node.name not in slots]
     holds = are_apart([dart for darts in at.values() for dart in darts], len(table.names))
     for node in new:
-        for position in range(known.count()):
+        for position in range(known.size()):
             holds &= holds_there(rule, node, at, position, known.turns, table)
     return holds
 
