@@ -131,8 +131,10 @@ class Book(NamedTuple):
         for other in others:
             if isinstance(other, Book) and (other.dimension, other.embeds) != (self.dimension, self.embeds):
                 raise ValueError("books that are joined have one dimension and one list of embeddings")
-            more: Sequence[Rule | str] = other.rules if isinstance(other, Book) else [other]
-            rules += [Rule.parse(rule) if isinstance(rule, str) else rule for rule in more]
+            if isinstance(other, Book):
+                rules += other.rules
+            else:
+                rules.append(Rule.parse(other) if isinstance(other, str) else other)
         names = [rule.name for rule in rules]
         twice = next((name for name in names if names.count(name) > 1), None)
         if twice is not None:

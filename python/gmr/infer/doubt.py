@@ -88,7 +88,7 @@ def find_difference(one: Rule, other: Rule, dimension: int) -> Difference | None
                 continue
             if not is_match(meets):
                 return Difference(amap, hooks, f"only the {said} rule lies there")
-            if not are_alike(unfold(lies), unfold(meets), amap.darts):
+            if not are_alike(unfold(lies), unfold(meets), list(amap.darts)):
                 return Difference(amap, hooks, "they make two maps of it")
     return None
 

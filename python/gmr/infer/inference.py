@@ -122,7 +122,8 @@ def placements(draft: Draft, further: Sequence[Further]) -> Iterator[list[Place]
         return
     (other, hooks), rest = further[0], further[1:]
     number = sum(node.is_hook for node in draft.nodes)
-    tried = [hooks] if hooks is not None else permutations(other.starts if number > 1 else other.before.darts, number)
+    tried = [hooks] if hooks is not None else permutations(
+        other.starts if number > 1 else other.before.darts.tolist(), number)
     for darts in tried:
         try:
             lying = place(draft, other, darts)

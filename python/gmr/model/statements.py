@@ -144,7 +144,7 @@ def labels_of(dimension: int, cells: str | int | Iterable[int]) -> tuple[int, ..
         if not 0 <= cell <= dimension:
             raise ValueError(f"a map of dimension {dimension} has no cells of dimension {cell}")
         return tuple(label for label in range(dimension + 1) if label != cell)
-    labels = tuple(sorted(index(label) for label in cells))
+    labels = tuple(sorted(index(label) for label in cells if not isinstance(label, str)))
     if len(set(labels)) < len(labels) or not all(0 <= label <= dimension for label in labels):
         raise ValueError(f"{labels} has a label twice, or one that a map of dimension {dimension} hasn't")
     return labels

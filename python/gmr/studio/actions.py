@@ -5,6 +5,7 @@ from typing import Any
 from gmr.books import Rule
 from gmr.infer.example import NoRule, compare
 from gmr.infer.inference import infer, write_book
+from gmr.infer.search import Candidate
 from gmr.maps import read_map
 from gmr.studio import files
 from gmr.studio.answers import book_of, told, whole
@@ -145,7 +146,8 @@ def infer_rule(maps: list[Any], hook: int | None, name: str) -> Json:
     try:
         found = compare(*maps)
         try:
-            candidate, why = infer(found, hook=hook, name=name), []
+            candidate: Candidate | None = infer(found, hook=hook, name=name)
+            why: list[str] = []
         except NoRule as none:
             candidate, why = none.candidate, [f"No rule was found: {none}."]
     except (NoRule, ValueError) as fault:

@@ -42,7 +42,7 @@ class Live:
                 column[row[0]] = row[place]
             for dart in gone:
                 del column[dart]
-        darts = sorted(it.alpha[0]) if is_other else it.darts
+        darts: list[int] = sorted(it.alpha[0]) if is_other else it.darts.tolist()
         return Map(it.version, it.dimension, it.embeds, following, darts, list(it.alpha), dict(it.values))
 
     def _columns(self) -> list[tuple[dict[int, Any], int]]:

@@ -56,7 +56,7 @@ class Store:
             if path != self.path and facts and not facts.get("saved") and not is_alive(path):
                 script = path / SCRIPT
                 found.append({**facts, "session": path.name, "at": script.stat().st_mtime if script.exists() else 0})
-        return sorted(found, key=lambda facts: -facts["at"])
+        return sorted(found, key=lambda facts: -float(facts["at"]))
 
     def files_of(self, session: str) -> tuple[dict[str, Any], bytes, bytes, bytes]:
         """The facts, the start map, the book and the script of an earlier session that is offered."""
