@@ -12,7 +12,8 @@ from selenium.webdriver.common.by import By
 from selenium.webdriver.common.keys import Keys
 from site_of_studio import Site, open_site
 
-PATIENCE = 60.0
+PATIENCE = 90.0
+AWAKE = ("--disable-renderer-backgrounding", "--disable-backgrounding-occluded-windows")     # on a busy machine too
 
 
 class Page:
@@ -172,7 +173,7 @@ def write_small(picture: bytes, path: Path) -> None:
 @contextmanager
 def open_page(*words: str) -> Iterator[Page]:
     """The page of a studio over a cube, in a browser. No error of the page is left unsaid."""
-    with open_site(*words) as site, browser.open_browser() as driver:
+    with open_site(*words) as site, browser.open_browser(1280, 720, *AWAKE) as driver:
         page = Page(driver, site)
         yield page
         assert not browser.faults(driver), browser.faults(driver)

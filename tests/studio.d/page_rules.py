@@ -1,7 +1,7 @@
 """The studio's book and script, as they are written in the page, and what comes back after a crash."""
 import signal
 
-from page_of_studio import Page, open_page
+from page_of_studio import AWAKE, Page, open_page
 from site_of_studio import Site
 
 
@@ -96,7 +96,7 @@ def open_page_over(name: str, book: str) -> object:
             (site.folder / book).write_bytes((examples / book).read_bytes())
             other = Site(site.folder, name, book)
             try:
-                with browser.open_browser() as driver:
+                with browser.open_browser(1280, 720, *AWAKE) as driver:
                     yield Page(driver, other)
             finally:
                 other.end()

@@ -1,10 +1,8 @@
 """The answers of the studio: what it says of a session as JSON."""
 from typing import Any
 
-from gmr.maps import Map
-from gmr.studio.live import Rows
 from gmr.studio.session import Done, Session
-from gmr.view.scene import flat_values, labels_of, pack, packed_places, points_of, scene_of
+from gmr.view.scene import changes_of, scene_of
 
 Json = dict[str, Any]
 
@@ -31,23 +29,8 @@ def count_darts(text: bytes) -> int:
 
 def told(session: Session, done: Done) -> Json:
     """What came of a wish, with the state and the changes of the map for the viewer."""
-    changes = None if done.rows is None else changes_of(done.rows, session.map)
+    changes = None if done.rows is None else changes_of(done.rows.gone, done.rows.rows, session.map)
     return {"answer": done.lines, "why": done.why, "changes": changes, "state": state_of(session)}
-
-
-def changes_of(changed: Rows, after: Map) -> Json:
-    """The changes that the viewer takes, of the rows that differ in a map: see gmr.view.scene."""
-    chosen, count = labels_of(after), after.dimension + 2
-    columns = list(zip(*changed.rows)) or [()] * (count + len(after.embeds))
-    is_laid_out = points_of(after, chosen) is None and bool(changed.gone or changed.rows)
-    return {
-        "gone": pack(changed.gone),
-        "rows": {"names": pack(columns[0]), "alpha": list(map(pack, columns[1:count])),
-                 "values": {one.name: pack(flat_values(column, one)) for one, column in
-                            zip(after.embeds, columns[count:])}},
-        "places": packed_places(after, chosen) if is_laid_out else None,
-        "next": after.next,
-    }
 
 
 def whole(session: Session, lines: tuple[str, ...] = (), why: list[str] | None = None) -> Json:

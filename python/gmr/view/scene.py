@@ -112,9 +112,15 @@ def changes_between(before: Map, after: Map, labels: Sequence[int] | None = None
     """What changes from one map to another of the same dimension and embeddings; ValueError where these differ."""
     if (before.dimension, before.embeds) != (after.dimension, after.embeds):
         raise ValueError("maps of two dimensions, or with other embeddings, have no changes between them")
-    chosen = labels_of(after, labels)
     gone = sorted(before.alpha[0].keys() - after.alpha[0].keys())
-    rows = sorted(rows_of(after) - rows_of(before))
+    return changes_of(gone, sorted(rows_of(after) - rows_of(before)), after, labels)
+
+
+def changes_of(gone: Sequence[int], rows: Sequence[tuple[Any, ...]], after: Map,
+               labels: Sequence[int] | None = None) -> Json:
+    """The changes that lead to a map: the darts that are gone, and the rows that are new or other ones, as `rows_of`
+    has them, both by names."""
+    chosen = labels_of(after, labels)
     columns: list[Any] = list(zip(*rows)) or [()] * (after.dimension + 2 + len(after.embeds))
     neighbours, values = columns[1:after.dimension + 2], columns[after.dimension + 2:]
     return {
