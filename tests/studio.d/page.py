@@ -22,6 +22,7 @@ def test_a_cube_is_modelled_by_clicks_and_saved_as_a_run_saves_it() -> None:
 def extrude_by_two_clicks(page: Page) -> None:
     """A rule and a face: the face is extruded where it was clicked."""
     page.choose("extrude_face_by_2d")
+    assert page.js("return gmr.choice.values()") == [[0, 0, 50], [60, 130, 200]], "values that suit the model stand there"
     before, x_y = page.shot(), page.pixel(8)
     page.point(8)
     page.wait("what would be done", lambda: "would be done: added 32 removed 0" in page.text("tip"))
@@ -66,6 +67,7 @@ def rule_by_example(page: Page) -> None:
     page.click("take-before")
     page.wait("the map before", lambda: page.state()["example"].get("before") == 80)
     page.choose("extrude_face_by_2d")
+    page.give([0, -60, 0], [80, 160, 90])
     page.change("a first step", lambda: page.point(48, click=True) and None)
     page.choose("triangulate_at_middle")
     page.change("a second step", lambda: page.point(48, click=True) and None)
@@ -83,8 +85,9 @@ def rule_by_example(page: Page) -> None:
     page.click("add-rule")
     page.wait("the rule in the book", lambda: page.js("return Boolean(document.getElementById('rule-tower'))"))
     page.wait("where it fits", lambda: page.js("return Boolean(gmr.choice.fits)"))
-    page.change("the rule at another face", lambda: page.point(18, click=True) and None)
-    assert page.steps()[-1] == ("apply tower 18", "done")
+    dart = page.seen(range(16, 24))
+    page.change("the rule at another face", lambda: page.point(dart, click=True) and None)
+    assert page.steps()[-1] == (f"apply tower {dart}", "done")
 
 
 def be_refused(page: Page) -> None:
@@ -92,16 +95,15 @@ def be_refused(page: Page) -> None:
     darts = page.darts()
     page.choose("extrude_edge_by")
     assert page.text("fits") == "fits nowhere"
-    page.point(26)
+    page.click("tab-script")
+    dart = page.seen(range(24, 32))
+    page.point(dart)
     page.wait("why it doesn't fit", lambda: "no-match arc a 0 2" in page.text("tip"))
     assert "is joined along 2 already, where the rule needs it free" in page.text("tip")
-    page.click("tab-script")
-    page.point(26)
-    page.wait("why it doesn't fit", lambda: "no-match arc a 0 2" in page.text("tip"))
     page.keep("refusal")
-    page.change("the refusal", lambda: page.point(26, click=True) and None)
-    assert "extrude_edge_by refused no-match arc a 0 2" in page.message()
-    assert "So dart 26 is joined along 2 already, where the rule needs it free." in page.message()
+    page.point(dart, click=True)
+    page.wait("the refusal", lambda: "extrude_edge_by refused no-match arc a 0 2" in page.message())
+    assert f"So dart {dart} is joined along 2 already, where the rule needs it free." in page.message()
     assert page.darts() == darts and page.steps()[-1][1] == "note"
     page.press(Keys.ESCAPE)
 

@@ -2,7 +2,7 @@
 import os
 import time
 from collections.abc import Callable, Iterator
-from contextlib import contextmanager
+from contextlib import ExitStack, contextmanager
 from pathlib import Path
 from typing import Any
 
@@ -27,6 +27,7 @@ class Page:
         """Loads the page, and waits until it is there."""
         self.driver.get(self.site.address)
         self.wait("the page", lambda: self.js("return document.body.dataset.ready") == "yes")
+        self.js("gmr.stage.glow = 1e9")     # what is new stays lit until a test takes the light off
 
     def js(self, script: str, *words: Any) -> Any:
         """What a script gives within the page."""
@@ -127,16 +128,24 @@ class Page:
         self.js("gmr.choice.quiet()")
 
     def still(self) -> None:
-        """Waits until what was lit as new is no longer."""
-        self.wait("the light to fade", lambda: not self.js("return gmr.stage.viewer.marks.has('new')"))
+        """Takes the light off what is new."""
+        self.js("gmr.stage.light([], 'new')")
 
-    def shot(self) -> bytes:
-        """A picture of the window, once the next picture is drawn; it isn't blank."""
+    def seen(self, darts: range) -> int:
+        """One of the darts that is seen where it lies."""
+        return next(dart for dart in darts if self.js("return gmr.stage.viewer.pixelOf(arguments[0]).seen", dart))
+
+    def give(self, *values: Any) -> None:
+        """Writes values into the fields of the chosen rule's parameters."""
+        self.js("arguments[0].forEach((value, at) => gmr.choice.fields[at].write([].concat(value)))", list(values))
+
+    def shot(self, least: int = 8) -> bytes:
+        """A picture of the window, once the next picture is drawn; it isn't blank, but has some colours."""
         self.driver.execute_async_script("const end = arguments[0]; requestAnimationFrame(() => requestAnimationFrame(end))")
         picture: bytes = self.driver.get_screenshot_as_png()
         view = browser.pixels(picture)[100:600, 310:930]
         count = len({tuple((row * 255).astype(int)) for row in view[::7, ::7].reshape(-1, 3)})
-        assert count > 8, f"the picture has {count} colours"
+        assert count >= least, f"the picture has {count} colours"
         return picture
 
     def keep(self, name: str) -> None:
@@ -170,10 +179,29 @@ def write_small(picture: bytes, path: Path) -> None:
     Image.open(io.BytesIO(picture)).convert("RGB").quantize(128, dither=Image.Dither.NONE).save(path, optimize=True)
 
 
+OPENED = ExitStack()
+DRIVERS: list[Any] = []
+
+
+def the_browser() -> Any:
+    """The browser of this process, which all tests of a file share; `close_browser` ends it."""
+    if not DRIVERS:
+        DRIVERS.append(OPENED.enter_context(browser.open_browser(1280, 720, *AWAKE)))
+    return DRIVERS[0]
+
+
+def close_browser() -> None:
+    """Ends the browser of this process."""
+    OPENED.close()
+    DRIVERS.clear()
+
+
 @contextmanager
-def open_page(*words: str) -> Iterator[Page]:
-    """The page of a studio over a cube, in a browser. No error of the page is left unsaid."""
-    with open_site(*words) as site, browser.open_browser(1280, 720, *AWAKE) as driver:
-        page = Page(driver, site)
+def open_page(*words: str, examples: tuple[str, ...] = ()) -> Iterator[Page]:
+    """The page of a studio over a cube, or over what the words name, with examples of the library beside it. No error
+    of the page is left unsaid."""
+    with open_site(*words, examples=examples) as site:
+        page = Page(the_browser(), site)
         yield page
-        assert not browser.faults(driver), browser.faults(driver)
+        faults = browser.faults(page.driver)
+        assert not faults, faults

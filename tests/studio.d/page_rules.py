@@ -1,7 +1,7 @@
 """The studio's book and script, as they are written in the page, and what comes back after a crash."""
 import signal
 
-from page_of_studio import AWAKE, Page, open_page
+from page_of_studio import Page, open_page
 from site_of_studio import Site
 
 
@@ -71,33 +71,8 @@ def test_after_a_crash_the_page_offers_what_was_done() -> None:
             page.site.end()
 
 
-def test_a_map_of_dimension_three_and_one_without_points_are_shown() -> None:
-    for words in (("before3.gmap", "values3.gbook"), ("before1.gmap", "dimension1.gbook")):
-        with open_page_over(*words) as page:
+def test_maps_of_other_dimensions_are_shown() -> None:
+    for book, amap in (("values3.gbook", "values3/extrude_face_by_3d/before.gmap"), ("dimension1.gbook", "dimension1/split_edge_1d/before.gmap")):
+        with open_page("before.gmap", book, examples=(f"operations/{amap}", f"operations/{book}")) as page:
             assert page.darts() > 0
-            page.shot()
-
-
-def open_page_over(name: str, book: str) -> object:
-    """The page over an example of the library."""
-    from contextlib import contextmanager
-    from collections.abc import Iterator
-
-    import browser
-    from site_of_studio import CHECKOUT, open_site
-
-    @contextmanager
-    def opened() -> Iterator[Page]:
-        examples = CHECKOUT / "examples" / "operations"
-        source = {"before3.gmap": "values3/extrude_face_by_3d/before.gmap", "before1.gmap": "dimension1/split_edge_1d/before.gmap"}[name]
-        with open_site() as site:
-            site.end()
-            (site.folder / name).write_bytes((examples / source).read_bytes())
-            (site.folder / book).write_bytes((examples / book).read_bytes())
-            other = Site(site.folder, name, book)
-            try:
-                with browser.open_browser(1280, 720, *AWAKE) as driver:
-                    yield Page(driver, other)
-            finally:
-                other.end()
-    return opened()
+            page.shot(3)

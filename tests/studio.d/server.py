@@ -62,7 +62,7 @@ def test_hostile_requests_are_refused_and_write_nothing() -> None:
             (post(site, action="../show"), b"404"),
         ]
         for head, status in cases:
-            answer = raw(site, head, b"{}" if b"413" not in status else b"x" * 1000)
+            answer = raw(site, head, b"{}" if status == b"404" else b"")
             assert answer.split(b" ", 2)[1] == status, f"{head!r} was answered {answer[:120]!r}"
         assert contents(site.folder) == before, "a request that was refused wrote something"
         assert site.ask("show")["state"]["darts"] == 48
@@ -211,7 +211,7 @@ def test_the_darts_that_fit_are_those_where_the_program_finds_a_match() -> None:
     with open_site() as site:
         rules = [rule for rule in site.ask("show")["book"]["rules"] if sum(node["hook"] for node in rule["nodes"]) == 1]
         version = site.ask("show")["state"]["version"]
-        text = "apply extrude_face_by_2d 8 with (0 0 100) (1 2 3)\napply triangulate_at_middle 16\napply unsew_faces_at_points 0 with (0 0 0)"
+        text = "apply extrude_face_by_2d 8 with (0 0 100) (1 2 3)\napply triangulate_at_middle 16\napply unsew_faces_at_points 0"
         state = site.ask("script", version=version, text=text, rest="")["state"]
         for rule in chance.sample(rules, 12):
             fits = {dart for first, last in site.ask("fits", rule=rule["name"], hooks=[])["fits"] for dart in range(first, last + 1)}

@@ -62,12 +62,14 @@ class Site:
 
 
 @contextmanager
-def open_site(*words: str) -> Iterator[Site]:
-    """A studio over a folder that has a cube and a book."""
+def open_site(*words: str, examples: tuple[str, ...] = ()) -> Iterator[Site]:
+    """A studio over a folder that has a cube, a book, and examples of the library."""
     with tempfile.TemporaryDirectory(prefix="gmr-studio-test-") as name:
         folder = Path(name)
         (folder / "cube.obj").write_bytes(CUBE.read_bytes())
         (folder / "values2.gbook").write_bytes(BOOK.read_bytes())
+        for name in examples:
+            (folder / Path(name).name).write_bytes((CHECKOUT / "examples" / name).read_bytes())
         site = Site(folder, *words)
         try:
             yield site

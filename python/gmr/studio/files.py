@@ -11,7 +11,7 @@ from gmr.mesh.convert import Options, export_map, import_mesh
 from gmr.mesh.embeds import Colours
 from gmr.mesh.formats import list_written
 from gmr.mesh.model import Unfit
-from gmr.mesh.scale import Frame, parse_scale
+from gmr.mesh.scale import Frame, parse_scale, read_frame
 from gmr.studio.answers import book_of, told, whole
 from gmr.studio.folder import Folder
 from gmr.studio.requests import Unclear, text_in
@@ -72,7 +72,7 @@ def save(session: Session, body: Json) -> Json:
         raise Unclear(f"what can be saved is {', '.join(SAVERS)}")
     if not name.endswith(KINDS[kind]):
         raise Unclear(f"the name of a {kind} ends with {KINDS[kind][0]}")
-    if session.folder.exists(name) and body.get("over") is not True:
+    if session.folder.is_taken(name) and body.get("over") is not True:
         return {"asks": f"{name} is there already", "name": name}
     line = SAVERS[kind](session, name)
     if kind != "start":
@@ -165,14 +165,14 @@ def export_file(session: Session, body: Json) -> Json:
     name = text_in(body, "name")
     if not name.lower().endswith(tuple(list_written())):
         raise Unclear(f"meshes are written as {' '.join(list_written())}")
-    if session.folder.exists(name) and body.get("over") is not True:
+    if session.folder.is_taken(name) and body.get("over") is not True:
         return {"asks": f"{name} is there already", "name": name}
+    scale = scale_in(body)
     with tempfile.TemporaryDirectory(prefix="gmr-studio-") as folder:
         given, out = Path(folder, "map.gmap"), Path(folder, f"mesh{Path(name).suffix}")
         given.write_bytes(session.shown.read_bytes())
         try:
-            scale = scale_in(body)
-            line = export_map(given, out, None if scale is None else Frame(scale))
+            line = export_map(given, out, read_frame(session.timeline.start) if scale is None else Frame(scale))
         except Unfit as fault:
             raise Fault(fault.line, name) from None
         session.folder.write(name, out.read_bytes())

@@ -90,10 +90,9 @@ class Folder:
 
         Raises Outside as `read` does, and where the name is a link, a folder or anything else that is no file.
         """
+        self.is_taken(name)
         with self._parent_of(name) as (parent, last):
             mode = mode_of(last, parent)
-            if mode is not None and not stat.S_ISREG(mode):
-                raise Outside(f"{shown(name)} is no file, or a link, and isn't written over")
             beside = f".{last[:200]}.{secrets.token_hex(6)}"
             made = os.open(beside, WRITE_FLAGS, 0o666, dir_fd=parent)
             try:
@@ -108,13 +107,13 @@ class Folder:
                 os.unlink(beside, dir_fd=parent)
                 raise
 
-    def exists(self, name: str) -> bool:
-        """Whether something has the name."""
-        try:
-            with self._parent_of(name) as (parent, last):
-                return mode_of(last, parent) is not None
-        except OSError:
-            return False
+    def is_taken(self, name: str) -> bool:
+        """Whether a file has the name. Raises as `write` does, so that it can be asked before any work."""
+        with self._parent_of(name) as (parent, last):
+            mode = mode_of(last, parent)
+        if mode is not None and not stat.S_ISREG(mode):
+            raise Outside(f"{shown(name)} is no file, or a link, and isn't written over")
+        return mode is not None
 
     def list(self, suffixes: tuple[str, ...]) -> list[str]:
         """The names of the files with one of the suffixes, sorted; at most 2,000, six folders deep."""
@@ -122,8 +121,8 @@ class Folder:
         for folder, folders, files in os.walk(self.path):
             inner = Path(folder).relative_to(self.path)
             folders[:] = sorted(one for one in folders if not one.startswith(".")) if len(inner.parts) < DEEPEST else []
-            found += [str(inner / one) for one in sorted(files)
-                      if one.lower().endswith(suffixes) and not one.startswith(".")]
+            found += [str(inner / one) for one in sorted(files) if one.lower().endswith(suffixes)
+                      and not one.startswith(".") and stat.S_ISREG(os.lstat(Path(folder, one)).st_mode)]
             if len(found) >= MOST_LISTED:
                 break
         return sorted(found[:MOST_LISTED], key=lambda name: (name.count("/"), name))

@@ -7,10 +7,12 @@ from gmr import program
 from gmr.books import Book, Rule, read_book, split_book
 from gmr.places import token_at, tokens_up_to
 from gmr.why.books import tell_twice, tell_type, tell_unknown
+from gmr.why.refused import tell_ways
 from gmr.why.rules import tell_rule
 from gmr.why.texts import tell_limit, tell_text
 
 Json = dict[str, Any]
+MOST_WITH_WAYS = 2      # refused rules of a book for which ways out are looked for
 TELLERS = {"twice": tell_twice, "unknown": tell_unknown, "type": tell_type}
 
 
@@ -50,6 +52,9 @@ def describe_book(text: Text, folder: Path) -> Json:
     verdicts = [line.split()[2:] for line in lines[:-1]]
     rules = [describe_rule(book, rule, comment_of(own), words) for rule, (_, own), words in
              zip(book.rules, texts, verdicts)]
+    refused = [(rule, told) for rule, told in zip(book.rules, rules) if told["fault"]]
+    for rule, told in refused[:MOST_WITH_WAYS]:
+        told["why"] += tell_ways(book, rule, told["fault"])
     return {"answer": lines, "rules": rules, "dimension": book.dimension,
             "embeds": [embed._asdict() for embed in book.embeds], "faults": list(faults_of_rules(text, rules))}
 

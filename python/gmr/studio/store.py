@@ -73,8 +73,8 @@ class Store:
 
     def close(self, is_saved: bool) -> None:
         """Ends the session; its files go where nothing of it would be lost."""
-        if is_saved:
-            shutil.rmtree(self.path, ignore_errors=True)
+        for path in [self.path] if is_saved else self.path.glob("work.*"):
+            shutil.rmtree(path, ignore_errors=True)
         os.close(self.lock)
         try:
             self.all.rmdir()

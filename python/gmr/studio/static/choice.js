@@ -51,7 +51,7 @@
       this.fits = null;
       this.asked = null;
       stage.light([], 'fits');
-      stage.light(this.hooks, 'selected', 'dart');
+      if (this.hooks.length) stage.light(this.hooks, 'selected', 'dart'); else stage.lightSelected();
       const {rule, hooks} = this;
       if (!this.next()) return;
       const {version} = studio.state;
@@ -68,7 +68,7 @@
 
     lightFits() {
       const {fits} = this;
-      if (!fits || !fits.count || fits.count === studio.state.darts || fits.count > 40000) return;
+      if (!fits || !fits.count || fits.count === studio.state.darts) return;
       const darts = fits.ranges.flatMap(([first, last]) => Array.from({length: last - first + 1}, (_, at) => first + at));
       stage.light(darts, 'fits', this.kindOfHook());
     }
@@ -81,26 +81,33 @@
     kindOfHook() { return gmr.Stage.kindOf((this.next().left || []).filter((label) => label !== null)); }
 
     hover(hit) {
-      clearTimeout(this.resting);
       if (!hit) {
         this.quiet();
         return;
       }
       const hook = this.awaiting ? null : this.next();
+      const seen = [studio.state.version, hit.dart, this.rule && this.rule.name, this.hooks, stage.kind, Boolean(this.awaiting), Boolean(this.fits)].join(' ');
+      if (seen === this.hovered && !byId('tip').hidden) {
+        this.place(hit);
+        return;
+      }
+      this.hovered = seen;
       const darts = this.awaiting ? stage.cellOf(hit.dart, 'vertex') : hook ? stage.orbitOf(hit.dart, hook.left) : stage.cellOf(hit.dart, stage.kind);
       const kind = this.awaiting ? 'vertex' : hook ? this.kindOfHook() : stage.kind;
       const isFitting = !hook || this.isFitting(hit.dart);
       stage.light(isFitting ? darts : [], 'hover', kind);
       stage.light(isFitting ? [] : darts, 'fault', kind);
+      clearTimeout(this.resting);
       this.tip(hit, this.about(hit.dart));
       if (hook && this.wanted().length === this.hooks.length + 1) this.resting = setTimeout(() => this.attempt(hit), STILL);
     }
 
     // What is told of a dart: its name, and the cell that a click is about.
     about(dart) {
-      const info = stage.viewer.info(dart);
-      const values = Object.entries(info.values).map(([name, value]) => `${name} ${[].concat(value).join(' ')}`);
-      const head = element('div', {}, element('b', {}, `dart ${dart}`), `  α ${info.neighbours.join(' ')}`);
+      const {state} = stage.viewer;
+      const at = state.indexOf(dart);
+      const values = state.embeds.map((embed) => `${embed.name} ${[].concat(state.value(embed, at)).join(' ')}`);
+      const head = element('div', {}, element('b', {}, `dart ${dart}`), `  α ${state.alpha.map((step) => state.names[step[at]]).join(' ')}`);
       return [head, values.length ? element('div', {}, values.join('   ')) : null];
     }
 
@@ -128,6 +135,12 @@
       const tip = byId('tip');
       tip.replaceChildren(...told.filter(Boolean));
       tip.hidden = false;
+      this.place(hit);
+    }
+
+    // Puts what is told beside the pointer.
+    place(hit) {
+      const tip = byId('tip');
       const box = byId('stage').getBoundingClientRect();
       const [x, y] = hit.event ? [hit.event.clientX - box.left, hit.event.clientY - box.top]
         : hit.pixel ? [hit.pixel.x, hit.pixel.y] : [box.width / 2, 60];

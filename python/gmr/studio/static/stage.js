@@ -4,14 +4,15 @@
   'use strict';
 
   const {studio, element, byId} = gmr;
+  const MOST_LIT = 8000;
   const KINDS = ['dart', 'vertex', 'edge', 'face', 'volume'];
-  const SHOWN_NEW = 1800; // milliseconds that what is new stays lit
 
   class Stage {
     constructor() {
       this.kind = 'face';
       this.selected = new Map();      // by the cell's least dart: {lead, darts, kind}
       this.cursor = null;
+      this.glow = 1800;                // milliseconds that what is new stays lit
       studio.on('scene', (scene) => this.show(scene));
       studio.on('changes', (changes, answer) => this.change(changes, answer));
     }
@@ -42,7 +43,7 @@
     const lit = found.fresh.length ? found.fresh : found.changed;
       this.light(lit, 'new', 'face');
       clearTimeout(this.fading);
-      this.fading = setTimeout(() => this.light([], 'new'), SHOWN_NEW);
+      this.fading = setTimeout(() => this.light([], 'new'), this.glow);
       this.shown();
     }
 
@@ -75,7 +76,11 @@
 
     shown() { studio.tell('shown'); }
 
-    light(darts, style, kind) { this.viewer.light(darts, style, kind); }
+    // Lights darts; where there are so many that lighting them would take long, none.
+    light(darts, style, kind) {
+      const lit = darts.length > MOST_LIT ? [] : darts;
+      if (lit.length || this.viewer.marks.has(style)) this.viewer.light(lit, style, kind);
+    }
 
     // How far the points of the map reach, in the map's numbers.
     reach() {
@@ -112,9 +117,17 @@
       return this.orbitOf(dart, state.labelsBut(dimension));
     }
 
+    // The darts of an orbit, or the dart alone where it has very many.
     orbitOf(dart, labels) {
       const {state} = this.viewer;
-      return state.walk(labels, state.indexOf(dart)).map((at) => state.names[at]);
+      const orbits = state.orbits(labels);
+      if (!orbits.sizes) {
+        orbits.sizes = new Int32Array(orbits.count);
+        for (const orbit of orbits.of) orbits.sizes[orbit] += 1;
+      }
+      const at = state.indexOf(dart);
+      if (orbits.sizes[orbits.of[at]] > MOST_LIT) return [dart];
+      return state.walk(labels, at).map((one) => state.names[one]);
     }
 
     // Which kind of cell an orbit over labels looks like.
@@ -149,9 +162,13 @@
     }
 
     showSelected() {
+      this.lightSelected();
+      studio.tell('selection');
+    }
+
+    lightSelected() {
       const cells = [...this.selected.values()];
       this.light(cells.flatMap((cell) => cell.darts), 'selected', cells.length ? cells[0].kind : undefined);
-      studio.tell('selection', cells);
     }
 
     // The darts that lead the selected cells.

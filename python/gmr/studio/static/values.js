@@ -7,9 +7,9 @@
   const BRIGHT = [[220, 120, 40], [60, 130, 200], [80, 160, 90], [190, 80, 140]];
   const kept = new Map();     // what was given last, by rule and parameter
 
-  // A length that suits the map: a fifth of its reach, in one digit and zeros.
+  // A length that suits the map: half of its reach, in one digit and zeros.
   function unit() {
-    const far = gmr.stage.reach() / 5;
+    const far = gmr.stage.reach() / 2;
     if (!(far > 1)) return 1;
     const ten = 10 ** Math.floor(Math.log10(far));
     return Math.max(1, Math.round(far / ten) * ten);
