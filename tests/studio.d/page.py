@@ -63,6 +63,7 @@ def each(page: Page) -> None:
 
 def rule_by_example(page: Page) -> None:
     """Two maps by two clicks become a rule, which is added to the book and applied at another face."""
+    page.still()
     page.click("tab-example")
     page.click("take-before")
     page.wait("the map before", lambda: page.state()["example"].get("before") == 80)
@@ -96,7 +97,9 @@ def be_refused(page: Page) -> None:
     page.choose("extrude_edge_by")
     assert page.text("fits") == "fits nowhere"
     page.click("tab-script")
-    dart = page.seen(range(24, 32))
+    page.leave()
+    page.still()
+    dart = page.seen([29, 28, 27, *range(24, 32)])
     page.point(dart)
     page.wait("why it doesn't fit", lambda: "no-match arc a 0 2" in page.text("tip"))
     assert "is joined along 2 already, where the rule needs it free" in page.text("tip")

@@ -1,12 +1,13 @@
 """The studio's page in a browser, for tests: what stands on it, and what a user does there."""
 import os
 import time
-from collections.abc import Callable, Iterator
+from collections.abc import Callable, Iterable, Iterator
 from contextlib import ExitStack, contextmanager
 from pathlib import Path
 from typing import Any
 
 import browser
+from selenium.common.exceptions import StaleElementReferenceException
 from selenium.webdriver.common.action_chains import ActionChains
 from selenium.webdriver.common.by import By
 from selenium.webdriver.common.keys import Keys
@@ -45,8 +46,16 @@ class Page:
 
     def click(self, name: str) -> None:
         """Clicks the element with an id."""
-        self.js("document.getElementById(arguments[0]).scrollIntoView({block: 'nearest'})", name)
-        self.driver.find_element(By.ID, name).click()
+        self.wait(f"{name} to be clicked", lambda: self._try_click(name))
+
+    def _try_click(self, name: str) -> bool:
+        """Clicks an element; not where it was just made anew."""
+        try:
+            self.js("document.getElementById(arguments[0]).scrollIntoView({block: 'nearest'})", name)
+            self.driver.find_element(By.ID, name).click()
+        except StaleElementReferenceException:
+            return False
+        return True
 
     def text(self, name: str) -> str:
         """The text of the element with an id."""
@@ -54,9 +63,8 @@ class Page:
 
     def type(self, name: str, text: str) -> None:
         """Writes a text into the field with an id, in the place of what it holds."""
-        field = self.driver.find_element(By.ID, name)
-        field.clear()
-        field.send_keys(text)
+        self.js("const it = document.getElementById(arguments[0]); it.focus(); it.select()", name)
+        ActionChains(self.driver).send_keys(text).perform()
 
     def press(self, *keys: str) -> None:
         """Presses keys together."""
@@ -131,7 +139,7 @@ class Page:
         """Takes the light off what is new."""
         self.js("gmr.stage.light([], 'new')")
 
-    def seen(self, darts: range) -> int:
+    def seen(self, darts: Iterable[int]) -> int:
         """One of the darts that is seen where it lies."""
         return next(dart for dart in darts if self.js("return gmr.stage.viewer.pixelOf(arguments[0]).seen", dart))
 

@@ -244,6 +244,7 @@
 
     // The picture as it is now, as a small address of data.
     picture() {
+      for (const style of ['new', 'fits', 'hover', 'fault']) this.light([], style);
       this.viewer.drawNow();
       const from = this.viewer.renderer.domElement;
       const to = element('canvas', {width: 200, height: 150});

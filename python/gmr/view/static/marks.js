@@ -19,7 +19,7 @@
   function points(shared, marks, colour, order) {
     const attributes = {position: [parts(marks, 'places', 6), 3], drift: [parts(marks, 'moved', 6), 3],
       colour: [gmr.layers.filled(marks.length, colour), 3, true], id: [new Float32Array(marks.length), 1]};
-    return gmr.draw.points(shared, attributes, {width: 13, lift: 4e-5}, order);
+    return gmr.draw.points(shared, attributes, {width: 13, lift: 1.2e-4}, order);
   }
 
   // The triangles between the vertex, the edge and the face of each dart.
@@ -43,8 +43,8 @@
   function layersOf(shared, marks, kind, colour, order) {
     if (!marks.length) return [];
     if (kind === 'vertex') return [points(shared, marks, colour, order)];
-    if (kind === 'edge') return [strokes(shared, marks, 6, 9, colour, {width: 6, lift: 3.5e-5, least: 6}, order)];
-    const made = [strokes(shared, marks, 0, 3, colour, {width: 5, head: 12, lift: 3.5e-5, least: 2}, order)];
+    if (kind === 'edge') return [strokes(shared, marks, 6, 9, colour, {width: 6, lift: 1.2e-4, least: 6}, order)];
+    const made = [strokes(shared, marks, 0, 3, colour, {width: 5, head: 12, lift: 1.2e-4, least: 2}, order)];
     const filled = marks.filter((mark) => mark.hasFace);
     if (filled.length && kind !== 'dart') made.unshift(fills(shared, filled, colour, order));
     return made;

@@ -207,11 +207,11 @@
           {shade: this.shape.isFlat ? 1 : theme.shade, pale: new THREE.Color(theme.back), paleness: colours && shown.darts ? 0.45 : 0}, 0), 'face', true);
       }
       if (shown.edges) add(draw.strokes(shared, layers.edgeArrays(this.shape, theme), {width: this.thin(1.4), lift: 6e-6}, 1), 'edge', true);
-      if (shown.points) add(draw.points(shared, layers.pointArrays(this.shape, theme), {width: this.thin(6), lift: 2e-5}, 2), 'vertex', true);
+      if (shown.points) add(draw.points(shared, layers.pointArrays(this.shape, theme), {width: this.thin(6), lift: 1e-4}, 2), 'vertex', true);
       if (shown.links) this.addLinks(shown.links);
       if (shown.darts) {
         add(draw.strokes(shared, layers.dartArrays(this.shape, this.allStrokes(), isByOrbit ? colours : null, theme),
-          {width: this.thin(3.2), head: this.thin(10), lift: 2e-5}, 4), 'dart', true);
+          {width: this.thin(3.2), head: this.thin(10), lift: 1e-4}, 4), 'dart', true);
       }
       if (shown.names) this.addNames();
       this.setCut();
@@ -227,7 +227,7 @@
       const labels = Array.isArray(asked) ? asked : this.state.alpha.map((_, label) => label);
       for (const label of labels) {
         const arrays = gmr.layers.linkArrays(shape, this.allStrokes(), label, theme);
-        this.add(gmr.draw.strokes(this.shared, arrays, {width: this.thin(label === 3 ? 1.5 : 2.2), lift: 1.5e-5,
+        this.add(gmr.draw.strokes(this.shared, arrays, {width: this.thin(label === 3 ? 1.5 : 2.2), lift: 8e-5,
           dash: gmr.dashOf(label), least: 3}, 3), 'link', false);
       }
     }
