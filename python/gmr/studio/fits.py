@@ -11,6 +11,7 @@ import numpy.typing as npt
 from gmr.books import Node, Rule
 from gmr.maps import Map
 from gmr.matches import find_candidate, routes_of, step_of
+from gmr.views import least_of_orbits
 
 Slots = npt.NDArray[np.int64]
 Truths = npt.NDArray[np.bool_]
@@ -21,10 +22,8 @@ class Table:
     """A map's neighbours as arrays of slots; a slot is a dart's place among all darts by their names."""
 
     def __init__(self, it: Map) -> None:
-        self.names: Slots = np.array(it.darts, dtype=np.int64)
-        self.alpha: list[Slots] = [
-            np.searchsorted(self.names, np.fromiter((step[dart] for dart in it.darts), np.int64, len(it.darts)))
-            for step in it.alpha]
+        self.names: Slots = it.darts.view(np.ndarray)
+        self.alpha: list[Slots] = list(it.alpha.rows())
 
     def follow(self, darts: Slots, labels: tuple[int, ...]) -> Slots:
         """Where labels lead from darts, one after another."""
@@ -34,15 +33,7 @@ class Table:
 
     def orbits(self, labels: tuple[int, ...]) -> Slots:
         """A slot of its orbit over the labels for each slot, the same one for all of an orbit."""
-        found = np.arange(len(self.names))
-        while True:
-            least = found
-            for label in labels:
-                least = np.minimum(least, least[self.alpha[label]])
-            least = least[least]
-            if np.array_equal(least, found):
-                return found
-            found = least
+        return least_of_orbits([self.alpha[label] for label in labels], len(self.names))
 
 
 def find_fitting(rule: Rule, it: Map, given: list[int]) -> list[int] | None:
