@@ -28,7 +28,7 @@
 
   function kindChooser(kinds, chosen, change) {
     return element('div', {class: 'row', role: 'radiogroup'}, kinds.map((kind) => element('button', {role: 'radio', id: `file-${kind}`,
-      class: kind === chosen ? 'main' : '', 'aria-checked': String(kind === chosen), onclick: () => change(kind)}, kind)));
+      class: kind === chosen ? 'main' : '', 'aria-checked': String(kind === chosen), onclick: () => { if (kind !== chosen) change(kind); }}, kind)));
   }
 
   // Does what a dialog is about, and closes it where the server took it; asks before a file is written over.
