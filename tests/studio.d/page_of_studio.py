@@ -212,4 +212,5 @@ def open_page(*words: str, examples: tuple[str, ...] = ()) -> Iterator[Page]:
         page = Page(the_browser(), site)
         yield page
         faults = browser.faults(page.driver)
+        page.driver.get("about:blank")      # what the page still asks for is no fault once the studio ends
         assert not faults, faults
