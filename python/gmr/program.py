@@ -20,11 +20,28 @@ def find_program() -> str:
         if shutil.which(named) is None:
             raise Refused(f"{named} can't be run: $GMR names no program", UNRUN)
         return named
+    released = CHECKOUT / "program"
+    if released.exists():
+        return str(released)
     built = CHECKOUT / "crates" / "gmr" / "out" / "gmr"
     if not built.exists():
         raise Refused("the program isn't built: call ./gmr once, which proves and builds it, or name one by $GMR",
                       UNRUN)
     return str(built)
+
+
+def choose_unproved() -> None:
+    """Takes the program that `./gmr --unproved` keeps, which is built within a minute where it isn't there."""
+    words = [CHECKOUT / "gmr", "--unproved"]
+    if subprocess.run(words, stdout=subprocess.DEVNULL, stdin=subprocess.DEVNULL, check=False).returncode:
+        raise Refused("./gmr --unproved has built no program", UNRUN)
+    os.environ["GMR"] = str(CHECKOUT / "out" / "unproved" / "gmr")
+
+
+def is_unproved() -> bool:
+    """Whether the program that $GMR names has a record that says so."""
+    record = Path(os.environ.get("GMR", "") + ".record")
+    return record.is_file() and record.read_text(encoding="utf-8").startswith("built UNPROVED\n")
 
 
 def answer(*words: str | os.PathLike[str]) -> tuple[int, str]:

@@ -1,18 +1,8 @@
 """Tests of the files for editors and shells."""
-import subprocess
 import tempfile
 from pathlib import Path
 
-from standins import ROOT
-
-
-def completions(folder: Path, *words: str) -> list[str]:
-    """What bash offers for the last of these words, the first of which is the program's name."""
-    script = (f'source "{ROOT}/editors/bash/gmr"; COMP_WORDS=("$@"); COMP_CWORD=$(($# - 1)); _gmr; '
-              'printf "%s\\n" "${COMPREPLY[@]}"')
-    done = subprocess.run(["bash", "-c", script, "bash", *words], cwd=folder, capture_output=True, text=True,
-                          check=True)
-    return sorted(done.stdout.split())
+from standins import ROOT, completions
 
 
 def test_completion() -> None:
@@ -21,15 +11,15 @@ def test_completion() -> None:
         folder = Path(name)
         for file in ("a.gmap", "b.gbook", "c.gscript", "d.txt"):
             (folder / file).touch()
-        assert completions(folder, "gmr", "c") == ["cells", "check"]
-        assert completions(folder, "gmr", "--p") == ["--prove"]
-        assert completions(folder, "gmr", "run", "") == ["a.gmap"]
-        assert completions(folder, "gmr", "run", "a.gmap", "") == ["b.gbook"]
-        assert completions(folder, "gmr", "run", "a.gmap", "b.gbook", "") == ["c.gscript"]
+        assert completions(folder, "_gmr", "gmr", "c") == ["cells", "check"]
+        assert completions(folder, "_gmr", "gmr", "--p") == ["--prove"]
+        assert completions(folder, "_gmr", "gmr", "run", "") == ["a.gmap"]
+        assert completions(folder, "_gmr", "gmr", "run", "a.gmap", "") == ["b.gbook"]
+        assert completions(folder, "_gmr", "gmr", "run", "a.gmap", "b.gbook", "") == ["c.gscript"]
         for word in ("--unproved", "--prove"):
-            assert completions(folder, "gmr", word, "ch") == ["check"]
-            assert completions(folder, "gmr", word, "check", "") == ["b.gbook"]
-        assert completions(folder, "gmr", "grid", "") == []
+            assert completions(folder, "_gmr", "gmr", word, "ch") == ["check"]
+            assert completions(folder, "_gmr", "gmr", word, "check", "") == ["b.gbook"]
+        assert completions(folder, "_gmr", "gmr", "grid", "") == []
 
 
 def test_vim_knows_the_formats_words() -> None:

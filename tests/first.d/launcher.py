@@ -2,11 +2,13 @@
 the toolchain."""
 import os
 import re
+import shutil
 import signal
+import subprocess
 import time
 from pathlib import Path
 
-from standins import ROOT, Checkout, checkout, put_program
+from standins import ROOT, SYSTEM, Checkout, checkout, put_program
 
 UNPROVED = "what comes is UNPROVED: it is from a build without proofs"
 
@@ -296,6 +298,21 @@ def test_what_rt_run_left() -> None:
         stamp.write_text((made.folder / "crates/gmr/src/main.rt").read_text() + program.read_text(), encoding="utf-8")
         assert made.run("show", "a") == (3, "of rt run\n", "")
         assert "by rt run, over what earlier checks on this machine kept" in made.version()
+
+
+def test_tools_say_unproved() -> None:
+    """A tool takes the unproved program with --unproved, or by $GMR, and says so each time."""
+    with checkout() as made:
+        for name in ("python", "tools"):
+            shutil.copytree(ROOT / name, made.folder / name, symlinks=True, dirs_exist_ok=True)
+        environment = {key: value for key, value in os.environ.items() if key != "GMR"}
+        environment["PATH"] = f"{made.kit}:{SYSTEM}"
+        for word, named in (("--unproved", {}), ("--quiet", {"GMR": str(made.folder / "out/unproved/gmr")})):
+            words = [made.folder / "tools/book", word, "join", "none.gbook", "none.gbook", "--out", "out.gbook"]
+            done = subprocess.run(words, env={**environment, **named}, cwd=made.folder, capture_output=True, text=True,
+                                  check=False)
+            assert "book: what comes is UNPROVED" in done.stderr, done
+        assert len((made.folder / "bench/builds").read_text().split()) == 1
 
 
 def test_through_a_link() -> None:

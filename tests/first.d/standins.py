@@ -118,11 +118,21 @@ def checkout(*, has_toolchain: bool = True) -> Iterator[Checkout]:
         (made.folder / "bench").mkdir()
         (made.folder / "bench" / "unproved").write_text(BUILDER, encoding="utf-8")
         (made.folder / "crates.txt").write_text(CRATES, encoding="utf-8")
-        for file in ("gmr", "VERSION"):
-            shutil.copy(ROOT / file, made.folder)
+        (made.folder / "python").mkdir()
+        for file in ("gmr", "python/VERSION"):
+            shutil.copy(ROOT / file, made.folder / file)
         made.kit.mkdir()
         if has_toolchain:
             put_program(made.kit / "rt", RT)
             put_program(made.kit / "rattle", "exit 1")
             (made.kit / "version").write_text("rattle-kit-13b logic dac8208d650f15bf\n", encoding="utf-8")
         yield made
+
+
+def completions(folder: Path, function: str, *words: str) -> list[str]:
+    """What bash offers, by that function, for the last of these words, the first of which is the program's name."""
+    script = (f'source "{ROOT}/editors/bash/gmr"; COMP_WORDS=("$@"); COMP_CWORD=$(($# - 1)); {function} "$1"; '
+              'printf "%s\\n" "${COMPREPLY[@]}"')
+    done = subprocess.run(["bash", "-c", script, "bash", *words], cwd=folder, capture_output=True, text=True,
+                          check=True)
+    return sorted(done.stdout.split())

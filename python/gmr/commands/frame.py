@@ -6,10 +6,10 @@ import os
 import sys
 from collections.abc import Callable, Sequence
 from importlib.metadata import PackageNotFoundError, version
-from pathlib import Path
 from typing import NoReturn
 
 from gmr.errors import INTERRUPTED, REFUSED, WRONG_WORDS, Fault
+from gmr.program import CHECKOUT, choose_unproved, is_unproved
 from gmr.progress import shown
 
 
@@ -28,6 +28,7 @@ def new_parser(name: str, description: str | None, examples: str, usage: str | N
                     formatter_class=argparse.RawDescriptionHelpFormatter, allow_abbrev=False)
     parser.add_argument("--version", action="version", version=f"{name} of gmr {package_version()}")
     parser.add_argument("--quiet", action="store_true", help="nothing but what was asked for, and what goes wrong")
+    parser.add_argument("--unproved", action="store_true", help="ask the program that `./gmr --unproved` keeps")
     return parser
 
 
@@ -36,14 +37,17 @@ def package_version() -> str:
     try:
         return version("gmr")
     except PackageNotFoundError:
-        lines = Path(__file__).resolve().parents[2].joinpath("pyproject.toml").read_text(encoding="utf-8").splitlines()
-        return next(line.split('"')[1] for line in lines if line.startswith("version"))
+        return (CHECKOUT / "python" / "VERSION").read_text(encoding="utf-8").strip()
 
 
 def run_command(name: str, main: Callable[[Sequence[str]], int | None]) -> int:
     """Runs a command over the words that the process was given: its status, after a line for what goes wrong."""
     words = sys.argv[1:]
     try:
+        if "--unproved" in words:
+            choose_unproved()
+        if is_unproved():
+            say(name, "what comes is UNPROVED: the program that is asked is a build without proofs")
         with shown(name, "--quiet" in words):
             status = main(words) or 0
         sys.stdout.flush()

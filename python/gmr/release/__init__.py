@@ -1,0 +1,1 @@
+"""What makes a release: an archive and a package of Debian that need no toolchain."""
