@@ -74,7 +74,7 @@ def run(line: str, folder: Path, home: Path) -> str:
 def use(folder: Path, tools: str, version: str) -> None:
     """Runs each command of README and each tool in a folder that has ./gmr and examples, and asks for the version."""
     for command in commands_of((ROOT / "README.md").read_text(encoding="utf-8")):
-        found = run(command.text, folder, folder).splitlines()
+        found = run(re.sub(r"\btools/", tools, command.text), folder, folder).splitlines()
         assert found == command.wanted, (command.text, found)
     for line in WORK:
         run(line.format(bin=tools), folder, folder)
