@@ -37,9 +37,8 @@ def carry(given: Map) -> tuple[Map, dict[int, int]]:
         made = make_map(read_mesh(path), ONE)
     there = name_darts(made)
     darts = {dart: there[named] for named, dart in name_darts(placed).items()}
-    made.embeds = given.embeds
-    made.values = {name: {darts[at]: value for at, value in values.items()} for name, values in given.values.items()}
-    return made, darts
+    values = {name: {darts[at]: value for at, value in values.items()} for name, values in given.values.items()}
+    return Map(made.version, made.dimension, given.embeds, made.next, made.darts, made.alpha, values), darts
 
 
 def run(book: str, made: Map, script: str) -> tuple[list[str], Map]:
