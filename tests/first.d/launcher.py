@@ -90,13 +90,13 @@ def test_the_record() -> None:
         made.run("show", "a")
         text = (made.folder / "crates/gmr/out/gmr.record").read_text(encoding="utf-8")
         for line in ("built proved", "by rt ci: handles allowed: none; 3 of 3 proofs",
-                     "toolchain rattle-kit-13b logic dac8208d650f15bf", "commit unknown"):
+                     "toolchain rattle-kit-13f logic dac8208d650f15bf", "commit unknown"):
             assert line in text.splitlines(), (line, text)
         named = re.findall(r"^[0-9a-f]{64}  (.*)$", text, re.M)
         crates = ("gm_high", "gm_low", "gmr")
         wanted = [f"crates/{crate}/{file}" for crate in crates for file in ("proofs/main/Answers.antt", "src/main.rt")]
         assert named == ["crates/gmr/out/gmr", "crates.txt", *wanted], named
-        assert "proved and built, from commit unknown, with rattle-kit-13b" in made.version()
+        assert "proved and built, from commit unknown, with rattle-kit-13f" in made.version()
 
 
 def refused_by(made: Checkout, said: str) -> None:
@@ -281,7 +281,7 @@ class Crate:
     def stamp(self): return text_of(self.folder + "/src/main.rt")
 rtlib = types.SimpleNamespace(Crate=Crate, text_of=text_of, sum_of=text_of)
 def read_files(crate): pass
-if __name__ == "__main__": print("rattle-kit-13b logic dac8208d650f15bf")
+if __name__ == "__main__": print("rattle-kit-13f logic dac8208d650f15bf")
 """
 
 

@@ -125,7 +125,7 @@ def checkout(*, has_toolchain: bool = True) -> Iterator[Checkout]:
         if has_toolchain:
             put_program(made.kit / "rt", RT)
             put_program(made.kit / "rattle", "exit 1")
-            (made.kit / "version").write_text("rattle-kit-13b logic dac8208d650f15bf\n", encoding="utf-8")
+            (made.kit / "version").write_text("rattle-kit-13f logic dac8208d650f15bf\n", encoding="utf-8")
         yield made
 
 
