@@ -25,7 +25,8 @@ def open_browser(width: int = 1280, height: int = 720, *flags: str) -> Iterator[
     """A browser whose pages are so wide and so high; it knows no host but this machine."""
     with tempfile.TemporaryDirectory(prefix="gmr-browser-", ignore_cleanup_errors=True) as profile:
         command = [CHROMIUM, *FLAGS, NO_NETWORK, f"--user-data-dir={profile}", "--remote-debugging-port=0", *flags]
-        with subprocess.Popen([*command, "about:blank"], stdout=subprocess.DEVNULL, stderr=subprocess.DEVNULL) as browser:
+        silent = {"stdout": subprocess.DEVNULL, "stderr": subprocess.DEVNULL}
+        with subprocess.Popen([*command, "about:blank"], **silent) as browser:
             try:
                 yield from drive(wait_for_port(Path(profile, "DevToolsActivePort")), width, height)
             finally:

@@ -14,14 +14,25 @@ from draw import torus
 
 ROOT = Path(__file__).resolve().parents[2]
 sys.path.append(str(ROOT / "tests"))
-from browser import colours, cpu_seconds, faults, open_browser  # noqa: E402
+from browser import colours, cpu_seconds, faults, open_browser, pixels  # noqa: E402
 from selenium.webdriver.common.action_chains import ActionChains  # noqa: E402
+from selenium.webdriver.common.keys import Keys  # noqa: E402
 
 EXAMPLES = ROOT / "examples"
 PAGE = """<!doctype html><meta charset="utf-8"><style>html, body, div {margin: 0; height: 100%%}</style>
 <div id="room"></div><script>%s</script><script>%s</script>
 <script>const viewer = new gmr.Viewer(document.getElementById('room'), {theme: 'light'});</script>"""
+OUTSIDE = """const {viewer} = gmr.page, {clientWidth, clientHeight} = viewer.renderer.domElement;
+return Array.from(viewer.state.names).filter((dart) => {
+  const {x, y} = viewer.pixelOf(dart);
+  return !(x > 0 && y > 0 && x < clientWidth && y < clientHeight);
+});"""
+SETTINGS = "return gmr.page.viewer.get();"
+CORNER = (90, 4)    # a pixel of the picture, beside the map
 SCRIPT = ("examples/painted.gmap", "examples/points.gbook", "examples/points.gscript")
+
+
+MAPS = ("dimension1/cut_edge", "dimension2/barycentric_2d", "dimension2/create_torus", "values3/sew_volumes_that_touch")
 
 
 def load(name: str) -> Map:
@@ -65,6 +76,12 @@ def click(driver: Any, dart: int) -> None:
         canvas, round(x - canvas.size["width"] / 2), round(y - canvas.size["height"] / 2)).click().perform()
 
 
+def press(driver: Any, keys: str) -> None:
+    """Presses keys, one after another, where no field has the focus."""
+    driver.execute_script("document.activeElement.blur()")
+    ActionChains(driver).send_keys(keys).perform()
+
+
 def card(driver: Any) -> str:
     """What the card of a dart says."""
     return str(driver.find_element("css selector", ".card").text)
@@ -95,7 +112,8 @@ def test_changes_hold_the_rows_that_differ_alone() -> None:
 
 def test_pages_in_a_browser() -> None:
     with open_browser() as driver:      # one for all, since it takes the longest to begin
-        for check in (check_darts_that_are_pointed_at, check_changes, check_script, check_large_map):
+        for check in (check_darts_that_are_pointed_at, check_changes, check_script, check_several_maps, check_keys,
+                      check_large_map):
             check(driver)
             assert not faults(driver), check.__name__
 
@@ -144,6 +162,46 @@ def check_script(driver: Any) -> None:
     ActionChains(driver).send_keys(",,,").perform()
     assert "line 0 of 6" in said.text and "8 darts" in driver.find_element("id", "counts").text
     assert colours(driver.get_screenshot_as_png()) > 10
+
+
+def check_several_maps(driver: Any) -> None:
+    """Maps are gone through by keys, and all darts of each are within the picture, laid out or not."""
+    open_page(driver, make(*(f"examples/operations/{name}/before.gmap" for name in MAPS)))
+    assert driver.title == "before.gmap, before.gmap, before.gmap and 1 more"
+    for number, name in enumerate(MAPS, 1):
+        it = load(f"operations/{name}/before.gmap")
+        assert f"map {number} of {len(MAPS)}" in driver.find_element("id", "steps").text
+        said = driver.find_element("id", "counts").text
+        assert said.startswith(f"dimension {it.dimension}, {len(it.darts)} dart"), said
+        outside = driver.execute_script(OUTSIDE)
+        assert outside == [], (name, outside)
+        press(driver, ".")
+    press(driver, Keys.HOME + Keys.END + ",")
+    assert f"map {len(MAPS) - 1} of {len(MAPS)}" in driver.find_element("id", "steps").text
+    press(driver, ".")
+
+
+def check_keys(driver: Any) -> None:
+    """Keys pull volumes apart, cut, choose darts, turn the page dark, and show themselves."""
+    before = driver.execute_script(SETTINGS)
+    light = pixels(driver.get_screenshot_as_png())[CORNER].mean()
+    press(driver, "aaactn")
+    after = driver.execute_script(SETTINGS)
+    dark = pixels(driver.get_screenshot_as_png())[CORNER].mean()
+    assert before["apart"] == 0 and after["apart"] > 0.2 and after["cut"]["axis"] == "x", (before, after)
+    assert {before["theme"], after["theme"]} == {"light", "dark"} and abs(light - dark) > 0.7, (light, dark)
+    assert before["names"] != after["names"]
+    it = load(f"operations/{MAPS[-1]}/before.gmap")
+    dart = it.darts[0]
+    press(driver, f"g{dart}{Keys.ENTER}")
+    assert card(driver).startswith(f"dart {dart} "), card(driver)
+    press(driver, "1")
+    assert card(driver).startswith(f"dart {it.alpha[1][dart]} "), card(driver)
+    press(driver, "?")
+    keys = driver.find_element("id", "keys")
+    assert keys.is_displayed() and "turn" in keys.text
+    keys.find_element("css selector", "button").click()
+    assert not keys.is_displayed()
 
 
 def check_large_map(driver: Any) -> None:

@@ -22,6 +22,8 @@ from gmr.view.page import make_page
 from gmr.view.scene import Json, scene_of
 from gmr.view.steps import Lines
 
+NAMED = 3  # files that the title names: a map, a book and a script
+
 EXAMPLES = """examples:
   tools/view out.gmap -o out.html                     one map
   tools/view before.gmap after.gmap -o both.html      maps, one after another
@@ -75,13 +77,18 @@ def data_of_script(paths: list[str], labels: list[int] | None) -> Json:
                 "rules": lines.rules()}
 
 
+def title_of(paths: Sequence[str]) -> str:
+    """The names of the first files, and how many more there are."""
+    names, more = [Path(path).name for path in paths[:NAMED]], len(paths) - NAMED
+    return ", ".join(names) + (f" and {more} more" if more > 0 else "")
+
+
 def main(words: Sequence[str]) -> None:
     """Makes the page."""
     asked = parse(words)
     check_apart(asked.out, asked.files)
     data = (data_of_script if is_script(asked.files) else data_of_maps)(asked.files, asked.labels)
-    title = asked.title or ", ".join(Path(path).name for path in asked.files)
-    write_whole(asked.out, make_page(title, data))
+    write_whole(asked.out, make_page(asked.title or title_of(asked.files), data))
     print(asked.out)
     if asked.open:
         webbrowser.open(Path(asked.out).resolve().as_uri())

@@ -7,7 +7,7 @@ STATIC = Path(__file__).parent / "static"
 THREE = Path("/usr/share/javascript/three")
 LIBRARY = ("build/three.min.js", "examples/js/controls/OrbitControls.js")
 SCRIPTS = ("state.js", "colours.js", "polygons.js", "shape.js", "strokes.js", "faces.js", "layers.js", "marks.js",
-           "pick.js", "pointer.js", "viewer.js")
+           "pick.js", "pointer.js", "eye.js", "viewer.js")
 
 
 def library() -> str:

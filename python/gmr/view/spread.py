@@ -63,13 +63,14 @@ def steps_from_pivots(begins: "Whole", near: "Whole", chosen: "Whole", count: in
     while len(columns) < min(PIVOTS, len(chosen)) and least.max() > 0:
         columns.append(steps_from(begins, near, int(chosen[least.argmax()]), count)[chosen])
         least = numpy.minimum(least, columns[-1])
-    return numpy.stack(columns, axis=1).astype(float)
+    found: "Real" = numpy.stack(columns, axis=1).astype(float)
+    return found
 
 
 def scale(steps: "Real") -> "Real":
     """Places whose distances are like the steps: the axes along which these differ most."""
-    squares = steps**2
-    centred = -0.5 * (squares - squares.mean(axis=0) - squares.mean(axis=1, keepdims=True) + squares.mean())
+    squares: "Real" = steps * steps
+    centred: "Real" = -0.5 * (squares - squares.mean(axis=0) - squares.mean(axis=1, keepdims=True) + squares.mean())
     _, axes = numpy.linalg.eigh(centred.T @ centred)
     found = numpy.zeros((len(steps), AXES))
     kept = centred @ axes[:, ::-1][:, :AXES]

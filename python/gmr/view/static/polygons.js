@@ -103,7 +103,7 @@
       const [n, p] = [this.normals.subarray(3 * face, 3 * face + 3), this.places];
       const height = (at) => p[3 * at] * n[0] + p[3 * at + 1] * n[1] + p[3 * at + 2] * n[2];
       const level = height(begin);
-      for (let at = begin + 1; at < end; at += 1) if (Math.abs(height(at) - level) > 1e-4) return ROUND;
+      for (let at = begin + 1; at < end; at += 1) if (Math.abs(height(at) - level) > 2e-6) return ROUND;
       for (let at = begin; at < end; at += 1) {
         const [before, after] = [at === begin ? end - 1 : at - 1, at + 1 === end ? begin : at + 1];
         if (this.turn(before, at, after, n) < -1e-9) return EARS;

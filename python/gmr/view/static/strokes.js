@@ -36,15 +36,15 @@
       float reach = max(length(to - from), 1e-4);
       vec2 way = (to - from) / reach, across = vec2(-way.y, way.x);
       float tip = min(head, 0.3 * reach), thick = clamp(width, 0.6, max(least, 0.12 * reach));
-      float share = position.x;
+      float at = position.x > 0.5 && position.z < 1.5 ? 1.0 - tip / reach : position.x; // in the picture: the head has room
+      float share = at * p.w / (q.w + at * (p.w - q.w)); // in space, so that the head's base is as deep as its face there
       vec4 there = mix(p, q, share);
       float wide = position.z > 0.5 ? 0.75 * tip : 0.5 * thick;
-      float back = position.x > 0.5 && position.z < 1.5 ? tip : 0.0;
-      vec2 moved = across * position.y * wide - way * back;
+      vec2 moved = across * position.y * wide;
       there.xy += moved / size * there.w;
       there.z -= lift * there.w;
       world = mix(begin + apart * drift, end + apart * drift2, share);
-      along = share * reach; tint = colour; mark = id;
+      along = at * reach; tint = colour; mark = id;
       gl_Position = turnedAway(outward, world) ? vec4(2.0, 2.0, 2.0, 1.0) : there;
     }`;
   const STROKE_COLOUR = `
@@ -98,8 +98,8 @@
     uniform float width; varying vec2 spot;
     ${COMMON}
     void main() {
-      vec4 inner = placed(begin + inward, drift);
-      vec4 there = placed(begin, drift);
+      vec4 inner = placed(begin + inward, drift), tail = placed(begin + stroke, drift);
+      vec4 there = placed(begin, drift); // the last one, since where it is cut is asked there
       gl_Position = there;
       vec2 way = inner.xy / inner.w * size - there.xy / there.w * size;
       way = length(way) > 1e-3 ? normalize(way) : vec2(0.0);
@@ -107,7 +107,6 @@
       corner += way * (abs(way.x) * 0.3 * width * digit.z + abs(way.y) * width * 0.37 + 5.0);
       gl_Position.xy += corner / size * gl_Position.w;
       gl_Position.z -= lift * gl_Position.w;
-      vec4 tail = placed(begin + stroke, drift);
       vec2 line = tail.xy / tail.w * size - there.xy / there.w * size;
       float room = digit.z * width * 0.6;
       if (length(line) < 0.9 * room + 4.0 || turnedAway(outward, world)) gl_Position = vec4(2.0, 2.0, 2.0, 1.0);

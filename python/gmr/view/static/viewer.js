@@ -112,32 +112,7 @@
       this.draw();
     }
 
-    // Where the middle of all is as the camera looks now, and how far away it must stand to see all.
-    reach() {
-      const {vertex, count} = this.shape;
-      const turned = new Float64Array(3 * count);
-      const [right, up, back] = [0, 1, 2].map((axis) => new THREE.Vector3().setFromMatrixColumn(this.camera.matrixWorld, axis));
-      const [low, high, moved] = [[Infinity, Infinity, Infinity], [-Infinity, -Infinity, -Infinity], [0, 0, 0]];
-      for (let dart = 0; dart < count; dart += 1) {
-        this.shape.drift(dart, vertex, 3 * dart, moved, 0);
-        const [x, y, z] = [0, 1, 2].map((axis) => vertex[3 * dart + axis] + this.options.apart * moved[axis]);
-        [right, up, back].forEach((way, axis) => {
-          const part = way.x * x + way.y * y + way.z * z;
-          turned[3 * dart + axis] = part;
-          if (part < low[axis]) low[axis] = part;
-          if (part > high[axis]) high[axis] = part;
-        });
-      }
-      const middle = count ? low.map((part, axis) => (part + high[axis]) / 2) : [0, 0, 0];
-      const tall = Math.tan(this.camera.fov * Math.PI / 360);
-      const wide = tall * this.camera.aspect;
-      let far = 0.3;
-      for (let at = 0; at < turned.length; at += 3) {
-        far = Math.max(far, turned[at + 2] - middle[2] + 1.1 * Math.max(Math.abs(turned[at] - middle[0]) / wide,
-          Math.abs(turned[at + 1] - middle[1]) / tall));
-      }
-      return {middle: new THREE.Vector3().addScaledVector(right, middle[0]).addScaledVector(up, middle[1]).addScaledVector(back, middle[2]), far};
-    }
+    reach() { return gmr.reachOf(this); }
 
     set(options) {
       const before = {...this.options};
