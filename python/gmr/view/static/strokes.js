@@ -102,11 +102,14 @@
       vec4 there = placed(begin, drift); // the last one, since where it is cut is asked there
       gl_Position = there;
       vec2 way = inner.xy / inner.w * size - there.xy / there.w * size;
-      way = length(way) > 1e-3 ? normalize(way) : vec2(0.0);
+      float span = length(way);
+      float steep = span > 1e-3 ? (inner.z / inner.w - there.z / there.w) / span : 0.0; // of the face below the name, by pixels
+      way = span > 1e-3 ? way / span : vec2(0.0);
       vec2 corner = vec2((position.x + digit.y) * width * 0.6, position.y * width);
-      corner += way * (abs(way.x) * 0.3 * width * digit.z + abs(way.y) * width * 0.37 + 5.0);
+      float aside = abs(way.x) * 0.3 * width * digit.z + abs(way.y) * width * 0.37 + 5.0;
+      corner += way * aside;
       gl_Position.xy += corner / size * gl_Position.w;
-      gl_Position.z -= lift * gl_Position.w;
+      gl_Position.z += (clamp(2.0 * aside * steep, -6e-4, 0.0) - lift) * gl_Position.w; // its far side too before the face
       vec2 line = tail.xy / tail.w * size - there.xy / there.w * size;
       float room = digit.z * width * 0.6;
       if (length(line) < 0.9 * room + 4.0 || turnedAway(outward, world)) gl_Position = vec4(2.0, 2.0, 2.0, 1.0);
