@@ -32,7 +32,7 @@ def find_program() -> str:
 
 def choose_unproved() -> None:
     """Takes the program that `./gmr --unproved` keeps, which is built within a minute where it isn't there."""
-    words = [CHECKOUT / "gmr", "--unproved"]
+    words = [str(CHECKOUT / "gmr"), "--unproved"]
     if subprocess.run(words, stdout=subprocess.DEVNULL, stdin=subprocess.DEVNULL, check=False).returncode:
         raise Refused("./gmr --unproved has built no program", UNRUN)
     os.environ["GMR"] = str(CHECKOUT / "out" / "unproved" / "gmr")

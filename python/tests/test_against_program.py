@@ -1,4 +1,4 @@
-"""The matcher and the evaluator in Python say of random applications what the program says, so that they can't drift."""
+"""The matcher and the evaluator in Python say of random applications what the program says, so they don't drift."""
 import random
 import subprocess
 from pathlib import Path
@@ -50,7 +50,8 @@ def draw_values(rule: Rule, choose: random.Random) -> dict[str, Value]:
 def draw_cases(book: Book, amap: Map, choose: random.Random) -> list[tuple[Rule, list[int], dict[str, Value]]]:
     """Rules of a book, with darts of a map for their hooks and values."""
     rules = [choose.choice([rule for rule in book.rules if rule.hooks]) for _ in range(A_MAP)]
-    return [(rule, [choose.choice(amap.darts.tolist()) for _ in rule.hooks], draw_values(rule, choose)) for rule in rules]
+    darts = amap.darts.tolist()
+    return [(rule, [choose.choice(darts) for _ in rule.hooks], draw_values(rule, choose)) for rule in rules]
 
 
 def test_random_applications(tmp_path: Path) -> None:

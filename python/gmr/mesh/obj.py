@@ -13,8 +13,8 @@ from gmr.mesh.texts import number_words, parse_places, parse_whole, read_bytes, 
 WHITE = (255, 255, 255)
 PASSED = {b"l": "lines", b"p": "points"}
 WORDS = set(
-    b"v vn vt vp f fo l p g o s mg usemtl mtllib usemap maplib cstype deg bmat step curv curv2 surf parm trim hole scrv "
-    b"sp end con bevel c_interp d_interp lod shadow_obj trace_obj ctech stech call csh".split()
+    b"v vn vt vp f fo l p g o s mg usemtl mtllib usemap maplib cstype deg bmat step curv curv2 surf parm trim hole "
+    b"scrv sp end con bevel c_interp d_interp lod shadow_obj trace_obj ctech stech call csh".split()
 )
 
 

@@ -42,7 +42,7 @@ def make_release(top: Path, build: Build, out: Path) -> list[Path]:
         fill_root(tree, root, label.replace("-", "~"))
         stamp = {**os.environ, "SOURCE_DATE_EPOCH": commit_time(top)}
         pack(tree, Path(room, "archive"), stamp["SOURCE_DATE_EPOCH"])
-        words = ["dpkg-deb", "--root-owner-group", "-Zxz", "--build", root, Path(room, "package")]
+        words = ["dpkg-deb", "--root-owner-group", "-Zxz", "--build", str(root), str(Path(room, "package"))]
         subprocess.run(words, check=True, env=stamp, stdout=subprocess.DEVNULL)
         os.replace(Path(room, "archive"), made[0])
         os.replace(Path(room, "package"), made[1])

@@ -38,7 +38,7 @@ def proved_build(top: Path) -> Build:
 
 def unproved_build(top: Path, program: Path) -> Build:
     """A program of which nothing is known but that no proof stands behind it."""
-    words = ["git", "-C", top, "describe", "--always", "--dirty"]
+    words = ["git", "-C", str(top), "describe", "--always", "--dirty"]
     commit = subprocess.run(words, capture_output=True, text=True, check=False).stdout.strip() or "unknown"
     return Build(program, UNPROVED, "nothing that proves it", "no toolchain that is known", commit)
 
