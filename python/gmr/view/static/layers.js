@@ -140,8 +140,8 @@
     let at = 0;
     letters.forEach((name, dart) => {
       const place = [0, 1, 2].map((axis) => 0.55 * strokes[6 * dart + axis] + 0.45 * strokes[6 * dart + 3 + axis]);
-      const way = shape.isLine ? [0, 0.01, 0] : inwardOf(shape, strokes, dart);
       const along = [0, 1, 2].map((axis) => strokes[6 * dart + 3 + axis] - strokes[6 * dart + axis]);
+      const way = shape.isLine ? aboveOf(along) : inwardOf(shape, strokes, dart);
       const face = 3 * shape.faces.of[dart];
       for (let letter = 0; letter < name.length; letter += 1) {
         begin.set(place, 3 * at);
@@ -155,6 +155,14 @@
     });
     return {begin: [begin, 3], drift: [drift, 3], inward: [inward, 3], digit: [digit, 3], stroke: [stroke, 3],
       outward: [outward, 3]};
+  }
+
+  // A short way above a stroke at right angles to it, or to the right of one that stands upright.
+  function aboveOf([x, y]) {
+    const length = Math.hypot(x, y);
+    if (length < 1e-9) return [0.01, 0, 0];
+    const sign = x > 1e-6 * length || (Math.abs(x) <= 1e-6 * length && y < 0) ? 0.01 : -0.01;
+    return [-sign * y / length, sign * x / length, 0];
   }
 
   // A short way into its face at right angles to a dart's stroke.
