@@ -14,9 +14,10 @@ from draw import torus
 
 ROOT = Path(__file__).resolve().parents[2]
 sys.path.append(str(ROOT / "tests"))
-from browser import colours, cpu_seconds, faults, open_browser, pixels  # noqa: E402
+from browser import PATIENCE, colours, cpu_seconds, faults, open_browser, pixels  # noqa: E402
 from selenium.webdriver.common.action_chains import ActionChains  # noqa: E402
 from selenium.webdriver.common.keys import Keys  # noqa: E402
+from selenium.webdriver.support.wait import WebDriverWait  # noqa: E402
 
 EXAMPLES = ROOT / "examples"
 PAGE = """<!doctype html><meta charset="utf-8"><style>html, body, div {margin: 0; height: 100%%}</style>
@@ -80,6 +81,11 @@ def press(driver: Any, keys: str) -> None:
     """Presses keys, one after another, where no field has the focus."""
     driver.execute_script("document.activeElement.blur()")
     ActionChains(driver).send_keys(keys).perform()
+
+
+def brightness(driver: Any) -> float:
+    """How bright the picture is beside the map, from 0 to 1."""
+    return float(pixels(driver.get_screenshot_as_png())[CORNER].mean())
 
 
 def card(driver: Any) -> str:
@@ -184,12 +190,12 @@ def check_several_maps(driver: Any) -> None:
 def check_keys(driver: Any) -> None:
     """Keys pull volumes apart, cut, choose darts, turn the page dark, and show themselves."""
     before = driver.execute_script(SETTINGS)
-    light = pixels(driver.get_screenshot_as_png())[CORNER].mean()
+    bright = brightness(driver)
     press(driver, "aaactn")
     after = driver.execute_script(SETTINGS)
-    dark = pixels(driver.get_screenshot_as_png())[CORNER].mean()
     assert before["apart"] == 0 and after["apart"] > 0.2 and after["cut"]["axis"] == "x", (before, after)
-    assert {before["theme"], after["theme"]} == {"light", "dark"} and abs(light - dark) > 0.7, (light, dark)
+    assert {before["theme"], after["theme"]} == {"light", "dark"}, (before, after)
+    WebDriverWait(driver, PATIENCE).until(lambda _: abs(brightness(driver) - bright) > 0.7)
     assert before["names"] != after["names"]
     it = load(f"operations/{MAPS[-1]}/before.gmap")
     dart = it.darts[0]
@@ -201,7 +207,7 @@ def check_keys(driver: Any) -> None:
     keys = driver.find_element("id", "keys")
     assert keys.is_displayed() and "turn" in keys.text
     keys.find_element("css selector", "button").click()
-    assert not keys.is_displayed()
+    WebDriverWait(driver, PATIENCE).until(lambda _: not keys.is_displayed())
 
 
 def check_large_map(driver: Any) -> None:
