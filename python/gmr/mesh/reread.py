@@ -43,12 +43,12 @@ def reread_mesh(path: Path, parsed: Surface | Volume | None = None) -> Reread:
 def reread_obj(text: bytes) -> Reread:
     """Statements v and f, whose negative numbers count back from the last point above."""
     points = re.findall(rb"^[ \t]*v[ \t]+(\S+)[ \t]+(\S+)[ \t]+(\S+)", text, re.MULTILINE)
-    faces = [found[0] for found in re.finditer(rb"^[ \t]*f[ \t][^\n]*", text, re.MULTILINE)]
+    faces = [found[0] for found in re.finditer(rb"^[ \t]*f(?:[ \t][^\n]*)?$", text, re.MULTILINE)]
     words = [re.sub(rb"/\S*", b"", face).split()[1:] for face in faces]
     corners, sizes = gather(words)
     if (corners < 0).any():
         begins = [found.start() for found in re.finditer(rb"^[ \t]*v[ \t]", text, re.MULTILINE)]
-        at = [found.start() for found in re.finditer(rb"^[ \t]*f[ \t]", text, re.MULTILINE)]
+        at = [found.start() for found in re.finditer(rb"^[ \t]*f(?=[ \t]|$)", text, re.MULTILINE)]
         corners = np.where(corners < 0, np.repeat(np.searchsorted(begins, at), sizes) + corners + 1, corners)
     return Reread(points, 0, corners - 1, sizes)
 
