@@ -9,6 +9,7 @@ from pathlib import Path
 from gmr import program
 from gmr.books import Book, end_of_blank, load_book, split_book
 from gmr.commands.frame import new_parser, run_command
+from gmr.errors import told_with
 from gmr.files import write_whole
 from gmr.maps import Embed
 from gmr.places import line_and_column
@@ -62,7 +63,9 @@ def rules_in(path: str) -> dict[str, int]:
     """The rules that a script applies, each with the line of the file where it does so first."""
     text, end = read(path), 0
     found: dict[str, int] = {}
-    for statement in read_script(text):
+    with told_with(path):
+        statements = list(read_script(text))
+    for statement in statements:
         end = statement.end
         if statement.rule:
             found.setdefault(statement.rule, line_and_column(text, statement.begin)[0])

@@ -1,0 +1,67 @@
+"""What all commands share: they are quiet where they are asked to be, end with 130 at an interrupt, and tell a fault in
+one line with the file's name. And the programs of bench answer --help, and begin no proof."""
+import os
+import signal
+import subprocess
+import sys
+import time
+from pathlib import Path
+
+import pytest
+
+TOP = Path(__file__).resolve().parents[2]
+EXAMPLES = TOP / "examples"
+PROGRAMS = sorted(path for path in (TOP / "bench").iterdir() if path.is_file() and not path.suffix)
+PATIENCE = 300      # seconds: a machine that is busy is slow
+
+
+def run(*words: str | Path, **environment: str) -> subprocess.CompletedProcess[str]:
+    """A command of this checkout, run to its end."""
+    return subprocess.run([sys.executable, *words], capture_output=True, text=True, check=False, timeout=PATIENCE,
+                          env={**os.environ, **environment})
+
+
+def test_quiet(tmp_path: Path) -> None:
+    """An import tells what it did, and nothing at all where it is asked to be quiet."""
+    words: list[str | Path] = ["import", EXAMPLES / "cube.obj", tmp_path / "cube.gmap"]
+    told, quiet = run(TOP / "tools" / "mesh", *words), run(TOP / "tools" / "mesh", "--quiet", *words)
+    assert told.returncode == quiet.returncode == 0
+    assert told.stdout and quiet.stdout == quiet.stderr == ""
+
+
+@pytest.mark.parametrize("text", ["apply", "apply split", "group apply split 0", "apply split 0 with (", "each <0"])
+def test_script_breaks_off(tmp_path: Path, text: str) -> None:
+    """A script that breaks off is told in one line, with its name where it is the script that is wrong."""
+    script = tmp_path / "broken.gscript"
+    script.write_text(text, encoding="ascii")
+    done = run(TOP / "tools" / "book", "take", EXAMPLES / "split.gbook", script)
+    assert done.returncode in (0, 1) and "Traceback" not in done.stderr
+    if done.returncode == 1:
+        assert len(done.stderr.splitlines()) == 1 and "broken.gscript" in done.stderr
+
+
+def test_interrupt(tmp_path: Path) -> None:
+    """An interrupt ends a command with 130 and one line."""
+    pipe = tmp_path / "waits.gbook"
+    os.mkfifo(pipe)     # the command waits here for a book that nobody writes
+    words: list[str | Path] = [sys.executable, TOP / "tools" / "book", "join", pipe, "--out", tmp_path / "out"]
+    with subprocess.Popen(words, stderr=subprocess.PIPE, text=True) as waiting:
+        with pipe.open("wb"):       # opens as soon as the command reads
+            time.sleep(0.5)
+            waiting.send_signal(signal.SIGINT)
+            said = waiting.communicate(timeout=PATIENCE)[1]
+    assert (waiting.returncode, said) == (130, "book: interrupted\n")
+
+
+@pytest.mark.parametrize("program", PROGRAMS, ids=lambda program: program.name)
+def test_bench_answers_help(program: Path) -> None:
+    """Each program of bench says what it is for, whether a program is built or not."""
+    done = run(program, "--help", GMR="/nowhere/gmr")
+    assert done.returncode == 0 and len(done.stdout) > 60 and done.stderr == ""
+
+
+@pytest.mark.parametrize("name", ["run", "show", "books", "growth", "apply", "history", "beside", "save"])
+def test_bench_begins_no_proof(name: str) -> None:
+    """Where the program isn't there, a program of bench says so in a line."""
+    done = run(TOP / "bench" / name, GMR="/nowhere/gmr")
+    assert done.returncode == 1 and len(done.stderr.splitlines()) == 1 and "/nowhere/gmr isn't there" in done.stderr
