@@ -2,11 +2,13 @@
 import shutil
 import subprocess
 import tempfile
+from collections import Counter
 from dataclasses import replace
 from pathlib import Path
 
 from gmr.errors import Missing
 from gmr.mesh.model import Surface, Unfit
+from gmr.mesh.obj import read_obj
 from gmr.mesh.ply import read_ply
 
 LINE_ENDS = 2  # corners of what is no face, but a line or a point
@@ -21,18 +23,32 @@ def find_assimp() -> str:
 
 
 def read_by_assimp(path: Path) -> Surface:
-    """The surface of a file, whose points have no numbers. Lines and points are passed over and counted."""
-    found = find_assimp()
+    """The surface of a file, whose points have no numbers. Lines and points are passed over and counted.
+
+    Assimp writes a PLY that is no PLY where some meshes of a file have colours and others have none: then it is
+    asked for an OBJ, which has no colours.
+    """
     with tempfile.TemporaryDirectory() as scratch:
-        turned = Path(scratch) / "turned.ply"
-        words: list[str | Path] = [found, "export", path.absolute(), turned, "-fplyb"]
-        done = subprocess.run(words, capture_output=True, check=False, stdin=subprocess.DEVNULL)
-        if done.returncode != 0 or not turned.exists():
-            raise Unfit(f"Assimp can't read it: {last_line(done.stdout + done.stderr, done.returncode)}")
+        turned = turn(path, Path(scratch), "plyb", "turned.ply")
         try:
-            return pass_over_lines(replace(read_ply(turned), has_numbers=False))
+            surface = read_ply(turned)
         except Unfit as unfit:
-            raise Unfit(f"what Assimp makes of it is no surface: {unfit}") from None
+            try:
+                surface = read_obj(turn(path, Path(scratch), "obj", "turned.obj"))
+                surface = replace(surface, names=None, passed={**surface.passed, "colours": len(surface.places)})
+            except Unfit:
+                raise Unfit(f"what Assimp makes of it is no surface: {unfit}") from None
+    return pass_over_lines(replace(surface, has_numbers=False))
+
+
+def turn(path: Path, folder: Path, form: str, name: str) -> Path:
+    """The file that Assimp makes of a mesh in this form; Unfit where it can't read the mesh."""
+    turned = folder / name
+    words: list[str | Path] = [find_assimp(), "export", path.absolute(), turned, f"-f{form}"]
+    done = subprocess.run(words, capture_output=True, check=False, stdin=subprocess.DEVNULL)
+    if done.returncode != 0 or not turned.exists():
+        raise Unfit(f"Assimp can't read it: {last_line(done.stdout + done.stderr, done.returncode)}")
+    return turned
 
 
 def pass_over_lines(surface: Surface) -> Surface:
@@ -40,14 +56,15 @@ def pass_over_lines(surface: Surface) -> Surface:
     is_face = surface.sizes > LINE_ENDS
     if is_face.all():
         return surface
-    passed = {"points": int((surface.sizes == 1).sum()), "lines": int((surface.sizes == LINE_ENDS).sum())}
+    counts = {"points": int((surface.sizes == 1).sum()), "lines": int((surface.sizes == LINE_ENDS).sum())}
+    passed = Counter(surface.passed) + Counter(counts)
     return replace(
         surface,
         corners=surface.corners[is_face.repeat(surface.sizes)],
         sizes=surface.sizes[is_face],
         face_colours=None if surface.face_colours is None else surface.face_colours[is_face],
         names=is_face.nonzero()[0],
-        passed={name: count for name, count in passed.items() if count},
+        passed=dict(passed),
     )
 
 
