@@ -13,6 +13,11 @@ import sys
 from pathlib import Path
 
 
+# A file of a reader's own, with four sides and a bottom.
+PYRAMID = "".join(f"v {x} {y} {z}\n" for x, y, z in ((0, 0, 0), (2, 0, 0), (2, 2, 0), (0, 2, 0), (1, 1, 1.5)))
+PYRAMID += "f 4 3 2 1\nf 1 2 5\nf 2 3 5\nf 3 4 5\nf 4 1 5\n"
+
+
 def blocks_of(text: str) -> list[str]:
     """The blocks of Python of a document, between lines of three backticks."""
     return re.findall(r"^```python\n(.*?)^```$", text, re.MULTILINE | re.DOTALL)
@@ -23,7 +28,9 @@ def run_blocks(document: Path, top: Path) -> int:
     prints something else than it says."""
     for example in (top / "examples" / "python").iterdir():
         shutil.copy(example, example.name)
-    shutil.copy(top / "examples" / "cube.obj", "cube.obj")
+    for example in ("cube.obj", "subdivision/subdivision.gbook"):
+        shutil.copy(top / "examples" / example, Path(example).name)
+    Path("pyramid.obj").write_text(PYRAMID, encoding="ascii")
     names: dict[str, object] = {}
     blocks = blocks_of(document.read_text(encoding="utf-8"))
     for block in blocks:

@@ -33,14 +33,14 @@ class FirstMap(NamedTuple):
         return export_map(file, out, self.frame)
 
 
-def take_first_map(path: Path, folder: Path, scale: Fraction | None) -> FirstMap:
-    """The first map of a file of a map or of a mesh, whose coordinates are multiplied by the scale, with copies of it
-    in a folder."""
+def take_first_map(path: Path, folder: Path, scale: Fraction | None, book: Path | None) -> FirstMap:
+    """The first map of a file of a map or of a mesh, with copies of it in a folder. A mesh's coordinates are multiplied
+    by the scale, and its map has the embeddings of the book, where there is one."""
     given, counted = folder / "first.gmap", folder / "counted.gmap"
     if is_map(path):
         shutil.copyfile(path, given)
     else:
-        import_mesh(path, given, Options(scale=scale, is_checked=False))
+        import_mesh(path, given, Options(scale=scale, book=book, is_checked=False))
     put_or_refuse("migrate", given, counted)
     return FirstMap(given, counted, version_of(given), read_frame(path if is_map(path) else given))
 
@@ -59,17 +59,26 @@ def version_of(path: Path) -> int:
     return int(head[1]) if head else 2
 
 
-def copy_book(book: str | os.PathLike[str] | Book | None, counted: Path, folder: Path) -> Path:
-    """The file of a book in a folder: of a file's text, of an object's, or without rules for the map's schema."""
-    number = len(list(folder.glob("*.gbook")))
-    out = folder / f"{number}.gbook"
-    if book is None:
-        out.write_text(bare_book(counted), encoding="ascii")
-    elif isinstance(book, Book):
+def copy_book(book: str | os.PathLike[str] | Book, folder: Path) -> Path:
+    """The file of a book in a folder: of a file's text, or of an object's."""
+    out = name_book(folder)
+    if isinstance(book, Book):
         out.write_text(book.head + "".join(f"{rule.text}\n" for rule in book.rules), encoding="latin-1")
     else:
         shutil.copyfile(book, out)
     return out
+
+
+def make_bare_book(counted: Path, folder: Path) -> Path:
+    """The file of a book without rules in a folder, for a map's schema."""
+    out = name_book(folder)
+    out.write_text(bare_book(counted), encoding="ascii")
+    return out
+
+
+def name_book(folder: Path) -> Path:
+    """A name that no book of the folder has."""
+    return folder / f"{len(list(folder.glob('*.gbook')))}.gbook"
 
 
 def bare_book(counted: Path) -> str:

@@ -15,7 +15,7 @@ from gmr.errors import Refused
 from gmr.files import write_whole
 from gmr.maps import Map
 from gmr.model.choosing import Choosing
-from gmr.model.first import FirstMap, copy_book, take_first_map
+from gmr.model.first import FirstMap, copy_book, make_bare_book, take_first_map
 from gmr.model.group import Group
 from gmr.model.outcome import Outcome
 from gmr.model.queue import Queue, Waiting
@@ -45,15 +45,16 @@ class Model(Choosing):
         scale: Fraction | int | None = None,
     ) -> Model:
         """The model of a file of a map, or of a mesh, which is imported first, under a book of rules: a file, or an
-        object. Without a book there are no rules. Coordinates of a mesh are multiplied by the scale and rounded;
-        without one it is chosen as `tools/mesh import` does.
+        object. Without a book there are no rules. The map of a mesh has the embeddings of the book; coordinates are
+        multiplied by the scale and rounded, and without one it is chosen as `tools/mesh import` does.
 
         Refused where the program doesn't take the map or the book, or a rule, or where the two don't agree; Unfit
         where a mesh has no map; OSError where a file can't be read.
         """
         folder = tempfile.TemporaryDirectory(prefix="gmr-model-")
-        first = take_first_map(Path(path), Path(folder.name), None if scale is None else Fraction(scale))
-        return cls(first, copy_book(book, first.counted, Path(folder.name)), folder)
+        given = None if book is None else copy_book(book, Path(folder.name))
+        first = take_first_map(Path(path), Path(folder.name), None if scale is None else Fraction(scale), given)
+        return cls(first, given or make_bare_book(first.counted, Path(folder.name)), folder)
 
     @property
     def map(self) -> Map:
@@ -80,7 +81,7 @@ class Model(Choosing):
         under it; then the old one stays."""
         self._refuse_in_group("another book")
         self.now()
-        file = copy_book(book, self._first.counted, Path(self._folder.name))
+        file = copy_book(book, Path(self._folder.name))
         self._queue.session.change_book(file)
         self._book_file, self._book = file, None
 
