@@ -3,6 +3,7 @@ import json
 import subprocess
 import sys
 import tempfile
+from collections.abc import Callable
 from pathlib import Path
 from typing import Any
 
@@ -24,6 +25,7 @@ PAGE = """<!doctype html><meta charset="utf-8"><style>html, body, div {margin: 0
 <div id="room"></div><script>%s</script><script>%s</script>
 <script>const viewer = new gmr.Viewer(document.getElementById('room'), {theme: 'light'});</script>"""
 OUTSIDE = """const {viewer} = gmr.page, {clientWidth, clientHeight} = viewer.renderer.domElement;
+viewer.drawNow();   // where a dart lies in the picture is known when that is drawn
 return Array.from(viewer.state.names).filter((dart) => {
   const {x, y} = viewer.pixelOf(dart);
   return !(x > 0 && y > 0 && x < clientWidth && y < clientHeight);
@@ -72,9 +74,15 @@ def show(driver: Any, it: Map) -> None:
 def click(driver: Any, dart: int) -> None:
     """Clicks where a dart's stroke has its middle."""
     canvas = driver.find_element("css selector", "#room canvas")
-    x, y = driver.execute_script("const {x, y} = gmr.page.viewer.pixelOf(arguments[0]); return [x, y];", dart)
+    x, y = driver.execute_script("const {viewer} = gmr.page; viewer.drawNow();"
+                                 " const {x, y} = viewer.pixelOf(arguments[0]); return [x, y];", dart)
     ActionChains(driver).move_to_element_with_offset(
         canvas, round(x - canvas.size["width"] / 2), round(y - canvas.size["height"] / 2)).click().perform()
+
+
+def until(driver: Any, holds: Callable[[], bool], what: str) -> None:
+    """Waits until something holds; TimeoutException, which says what doesn't, where it never does."""
+    WebDriverWait(driver, PATIENCE).until(lambda _: holds(), what)
 
 
 def press(driver: Any, keys: str) -> None:
@@ -152,21 +160,23 @@ def check_script(driver: Any) -> None:
     """A script is stepped through by keys, and a click copies a dart or a line."""
     open_page(driver, make(*SCRIPT))
     said = driver.find_element("id", "steps")
-    assert "line 0 of 6" in said.text
+    until(driver, lambda: "line 0 of 6" in said.text, "what is said of a line")
     ActionChains(driver).send_keys("..").perform()
-    assert "2 triangulate done added 16 removed 0" in said.text and "16 darts new" in said.text, said.text
+    until(driver, lambda: "2 triangulate done added 16 removed 0" in said.text, "what is said of a line")
+    until(driver, lambda: "16 darts new" in said.text, "what is new")
     ActionChains(driver).send_keys(".").perform()
-    assert "The precondition of paint is false" in said.text, said.text
+    until(driver, lambda: "The precondition of paint is false" in said.text, "what is said of a line")
     assert "24 darts" in driver.find_element("id", "counts").text
     click(driver, 13)
-    assert card(driver).startswith("dart 13 α0 21 α1 3 α2 15"), card(driver)
-    assert toast(driver).endswith("13"), toast(driver)
+    until(driver, lambda: card(driver).startswith("dart 13 α0 21 α1 3 α2 15"), "the card of a dart")
+    until(driver, lambda: toast(driver).endswith("13"), "what was copied")
     driver.find_element("css selector", "#copies option[value=triangulate]").click()
     click(driver, 3)
-    assert toast(driver).endswith("apply triangulate 3"), toast(driver)
+    until(driver, lambda: toast(driver).endswith("apply triangulate 3"), "what was copied")
     driver.execute_script("document.activeElement.blur()")
     ActionChains(driver).send_keys(",,,").perform()
-    assert "line 0 of 6" in said.text and "8 darts" in driver.find_element("id", "counts").text
+    until(driver, lambda: "line 0 of 6" in said.text, "what is said of a line")
+    until(driver, lambda: "8 darts" in driver.find_element("id", "counts").text, "the counts")
     assert colours(driver.get_screenshot_as_png()) > 10
 
 
@@ -179,8 +189,7 @@ def check_several_maps(driver: Any) -> None:
         assert f"map {number} of {len(MAPS)}" in driver.find_element("id", "steps").text
         said = driver.find_element("id", "counts").text
         assert said.startswith(f"dimension {it.dimension}, {len(it.darts)} dart"), said
-        outside = driver.execute_script(OUTSIDE)
-        assert outside == [], (name, outside)
+        until(driver, lambda: driver.execute_script(OUTSIDE) == [], f"darts of {name} lie outside")
         press(driver, ".")
     press(driver, Keys.HOME + Keys.END + ",")
     assert f"map {len(MAPS) - 1} of {len(MAPS)}" in driver.find_element("id", "steps").text
@@ -200,9 +209,9 @@ def check_keys(driver: Any) -> None:
     it = load(f"operations/{MAPS[-1]}/before.gmap")
     dart = it.darts[0]
     press(driver, f"g{dart}{Keys.ENTER}")
-    assert card(driver).startswith(f"dart {dart} "), card(driver)
+    until(driver, lambda: card(driver).startswith(f"dart {dart} "), "the card of a dart")
     press(driver, "1")
-    assert card(driver).startswith(f"dart {it.alpha[1][dart]} "), card(driver)
+    until(driver, lambda: card(driver).startswith(f"dart {it.alpha[1][dart]} "), "the card of a dart")
     press(driver, "?")
     keys = driver.find_element("id", "keys")
     assert keys.is_displayed() and "turn" in keys.text
