@@ -49,7 +49,10 @@ def run_document(name: str) -> None:
             found = done.stdout.splitlines()
             if (found != command.wanted and command.wanted) or done.stderr:
                 differing.append(f"{name}:{command.line}: {command.text}: {found[:8]} {done.stderr[:300]}")
+        made = [entry.name for entry in Path(folder).iterdir() if not entry.is_symlink()]
     assert not differing, differing
+    told = subprocess.run(["git", "-C", ROOT, "check-ignore", *made], capture_output=True, text=True, check=False)
+    assert sorted(told.stdout.split()) == sorted(made), f".gitignore leaves out some of {made}"
 
 
 def test_readme() -> None:
