@@ -9,7 +9,8 @@ to be read and believed so that the clause means what its sentence in README say
 is a record each field can be asked for by itself, as CLAUSE.FIELD. Behind the first clause it is also told
 what a clause adds to those before it. The types and constants of the code (`declared`) that are named, with
 the types of their fields, count as their lines in src/; words of the kit's library (`Rattle.std..`) are
-counted and listed, and end the walk. A word that is found nowhere ends the script with status 1. Lines
+counted and listed, and end the walk. A word that is found nowhere ends the script with status 1, and so does one
+that lies in specs/inner/, the floor below, where the words are that only inner contracts speak in. Lines
 count without blank ones, comments, attributes and `use` lines."""
 import collections, functools, glob, os, re, sys
 
@@ -36,7 +37,7 @@ class File:
 
     def __init__(self, crate, module):
         self.items, self.owner, self.names, self.modules = {}, {}, {}, {}
-        path, item, modules, block = f"{CRATES}/{crate}/specs/{module}.antt", None, [], None
+        path, item, modules, block = f"{CRATES}/{path_of(crate, module)}", None, [], None
         for line in open(path, encoding="utf-8").read().split("\n") if os.path.isfile(path) else []:
             if not line.strip() or line.lstrip().startswith("--") or imports(line, self):
                 continue
@@ -59,6 +60,11 @@ class File:
                     self.owner.setdefault(FIELD.match(line)[1], item)
             elif modules:
                 modules[-1][1].append(line)
+
+
+def path_of(crate, module):
+    """The file of a module of specs/, below crates/: `inner.Layout` lies in the folder inner."""
+    return f"{crate}/specs/{module.replace('.', '/') if crate != 'std' else module}.antt"
 
 
 def is_record(lines):
@@ -117,11 +123,13 @@ def walk(crate, module, name, found, named_by):
     it = file_of(crate, module)
     name = it.owner.get(name, name) if name not in it.items else name
     if name not in it.items:
-        fail(f"{named_by} names {name}, which {crate}/specs/{module}.antt doesn't define")
+        fail(f"{named_by} names {name}, which {path_of(crate, module)} doesn't define")
+    if module.startswith("inner."):
+        fail(f"{named_by} names {name}, a word to be believed, and {path_of(crate, module)} holds words of inner contracts alone")
     if name in found[crate, module]:
         return
     found[crate, module].append(name)
-    follow(it, without_given(it.items[name], name), found, f"{name} of {crate}/specs/{module}.antt", (crate, module))
+    follow(it, without_given(it.items[name], name), found, f"{name} of {path_of(crate, module)}", (crate, module))
 
 
 def add(found, key, name):
@@ -250,7 +258,7 @@ def tell(clause, found, before):
     for (crate, module), names in found.items():
         kind = "library" if crate == "std" else "types" if module.startswith("src/") else "definitions"
         kinds[kind][crate, module] = names
-        path = f"{crate}/specs/{module}.antt" if kind != "types" else f"{crate}/{module}"
+        path = path_of(crate, module) if kind != "types" else f"{crate}/{module}"
         print(f"  {path}, {len(lines_in({(crate, module): names}))} lines: {' '.join(names)}")
     defined, typed, library = ({key: sorted(names) for key, names in of.items()} for of in kinds.values())
     print(f"  {len(lines_in(defined))} lines of {count_names(defined)} definitions in {len(defined)} files, {len(lines_in(typed))} lines of {count_names(typed)} "

@@ -20,27 +20,27 @@ use Rattle.gm_model.specs.Unfolding.{IsGone, scene_of, added_nodes}
 use Rattle.gm_model.specs.Values.{IsValueOf}
 use Rattle.gm_model.specs.declared.expr.Expr.{Expr}
 use Rattle.gm_model.specs.declared.rule.RuleTable.{RuleTable}
-use Rattle.gm_arena.specs.ArenaAsMap.{as_map}
-use Rattle.gm_arena.specs.ArenaMap.{ArenaMap}
-use Rattle.gm_arena.specs.Lawful.{IsLawful}
+use Rattle.gm_arena.specs.inner.ArenaAsMap.{as_map}
+use Rattle.gm_arena.specs.inner.ArenaMap.{ArenaMap}
+use Rattle.gm_arena.specs.inner.Lawful.{IsLawful}
 use Rattle.gm_arena.proofs.Keys.{darts_counted}
 use Rattle.gm_match.specs.declared.fault.MatchFault.{MatchFault}
 use Rattle.gm_match.specs.declared.fault.MatchFault.TheVariants as faults
-use Rattle.gm_eval.specs.Places.{reading_in}
-use Rattle.gm_match.specs.Outcome.{application_of, IsAnswer, IsCause}
-use Rattle.gm_pending.specs.EditLists.{HasSameRows, IsResultOf}
-use Rattle.gm_pending.specs.Results.{PendingOf, IsGivenIn}
-use Rattle.gm_plan.specs.Counts.{removed_nodes}
-use Rattle.gm_plan.specs.InArena.{placement_in}
-use Rattle.gm_plan.specs.Placed.{Placed}
-use Rattle.gm_plan.specs.Plans.{IsPlanned}
+use Rattle.gm_eval.specs.inner.Places.{reading_in}
+use Rattle.gm_match.specs.inner.Outcome.{application_of, IsAnswer, IsCause}
+use Rattle.gm_pending.specs.inner.EditLists.{HasSameRows, IsResultOf}
+use Rattle.gm_pending.specs.inner.Results.{PendingOf, IsGivenIn}
+use Rattle.gm_plan.specs.inner.Counts.{removed_nodes}
+use Rattle.gm_plan.specs.inner.InArena.{placement_in}
+use Rattle.gm_plan.specs.inner.Placed.{Placed}
+use Rattle.gm_plan.specs.inner.Plans.{IsPlanned}
 use Rattle.gm_theory.proofs.Turns.{some_position_walked}
 use Rattle.gm_theory.proofs.Lists.{none_some, some_same}
 use Rattle.gm_theory.proofs.ReadingsTyped.{values_have_their_kinds}
 use Rattle.gm_theory.proofs.ValuesKept.{match_reading}
 use Rattle.gm_apply.specs.declared.reading.Reading.{Reading}
-use Rattle.gm_apply.specs.Outcomes.{refusal_of_match, IsRefusedFor, HasRoom}
-use Rattle.gm_apply.specs.Reads.{IsReadable}
+use Rattle.gm_apply.specs.inner.Outcomes.{refusal_of_match, IsRefusedFor, HasRoom}
+use Rattle.gm_apply.specs.inner.Reads.{IsReadable}
 use Rattle.gm_apply.proofs.Counted.{gone_counted, staying_counted}
 
 pub refused_match : (app : Application) (fault : MatchFault) → IsCause app fault → IsRefusedFor app (refusal_of_match fault)

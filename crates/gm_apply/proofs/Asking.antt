@@ -11,11 +11,11 @@ use Rattle.gm_model.specs.declared.schema.Embed.{Embed}
 use Rattle.gm_model.specs.Applications.{Decider, IsReadUnits}
 use Rattle.gm_model.specs.Maps.{IsEmbedAt}
 use Rattle.gm_pending.specs.declared.deciding_instance.DecidingInstance.{DecidingInstance as Entry}
-use Rattle.gm_pending.specs.Results.{PendingOf, IsAsked, IsWithinReach, AreDecidingInstances, instances_of, deciding_of, with_instances}
+use Rattle.gm_pending.specs.inner.Results.{PendingOf, IsAsked, IsWithinReach, AreDecidingInstances, instances_of, deciding_of, with_instances}
 use Rattle.gm_apply.specs.declared.reading.Reading.{Reading}
-use Rattle.gm_theory.specs.Theorem.{Unfolded, IsDartOf}
-use Rattle.gm_apply.specs.ReadOnce.{IsReadOnce}
-use Rattle.gm_apply.specs.Reads.{app_at, place_at, pending_at, unasked_at, decider_at, seen_before, seen_to, IsGivenRight, IsWithinSeen, IsWithinSeenBy, IsWithinSeenOnce, HasRead}
+use Rattle.gm_theory.specs.inner.Theorem.{Unfolded, IsDartOf}
+use Rattle.gm_apply.specs.inner.ReadOnce.{IsReadOnce}
+use Rattle.gm_apply.specs.inner.Reads.{app_at, place_at, pending_at, unasked_at, decider_at, seen_before, seen_to, IsGivenRight, IsWithinSeen, IsWithinSeenBy, IsWithinSeenOnce, HasRead}
 use Rattle.gm_apply.proofs.ReadValues.{some_embed}
 use Rattle.gm_apply.proofs.Sublists.{sum_cons}
 

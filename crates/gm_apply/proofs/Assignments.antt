@@ -8,7 +8,7 @@ use Rattle.gm_model.specs.declared.rule.Set.{Set}
 use Rattle.gm_model.specs.Components.{IsAssigned}
 use Rattle.gm_model.specs.Rules.{Rule, RuleNode, Assignment, Assigns, assignment_of}
 use Rattle.gm_model.specs.Trees.{tree_of}
-use Rattle.gm_apply.specs.Reads.{SetsEmbed}
+use Rattle.gm_apply.specs.inner.Reads.{SetsEmbed}
 
 some_mapped : (found : Option Set) (a : Assignment) → option_map assignment_of found ≡ Some a → (s : Set) × (found ≡ Some s) × (assignment_of s ≡ a)
 some_mapped (Some s) a h = (s, refl, cc)

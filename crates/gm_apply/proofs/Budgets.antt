@@ -8,17 +8,17 @@ use Rattle.gm_model.specs.Maps.{IsSchema, IsSound}
 use Rattle.gm_model.specs.Matches.{Placement, IsCandidate, IsMatch}
 use Rattle.gm_model.specs.Rules.{Rule}
 use Rattle.gm_model.specs.Unfolding.{added_nodes}
-use Rattle.gm_arena.specs.ArenaAsMap.{as_map}
-use Rattle.gm_arena.specs.ArenaMap.{ArenaMap}
-use Rattle.gm_match.specs.Outcome.{application_of, IsAnswer}
-use Rattle.gm_plan.specs.InArena.{placement_in}
-use Rattle.gm_plan.specs.Placed.{Placed}
-use Rattle.gm_theory.specs.Theorem.{Unfolded, Unfolds, IsDartOf}
+use Rattle.gm_arena.specs.inner.ArenaAsMap.{as_map}
+use Rattle.gm_arena.specs.inner.ArenaMap.{ArenaMap}
+use Rattle.gm_match.specs.inner.Outcome.{application_of, IsAnswer}
+use Rattle.gm_plan.specs.inner.InArena.{placement_in}
+use Rattle.gm_plan.specs.inner.Placed.{Placed}
+use Rattle.gm_theory.specs.inner.Theorem.{Unfolded, Unfolds, IsDartOf}
 use Rattle.gm_theory.proofs.Candidates.{match_is_candidate}
 use Rattle.gm_theory.proofs.Found.{IsFound, match_found}
 use Rattle.gm_theory.proofs.LikeCandidates.{candidates_like}
 use Rattle.gm_theory.proofs.CandidatesFound.{some_position}
-use Rattle.gm_apply.specs.ReadOnce.{IsBudgetOnce, IsReadOnceSum, OfReady}
+use Rattle.gm_apply.specs.inner.ReadOnce.{IsBudgetOnce, IsReadOnceSum, OfReady}
 use Rattle.gm_apply.proofs.LikeApplications.{pre_units_there, ready_there}
 use Rattle.gm_apply.proofs.LikeReadOnce.{once_sum_there}
 use Rattle.gm_apply.proofs.LikeResults.{results_like}

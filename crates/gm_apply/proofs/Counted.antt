@@ -7,7 +7,7 @@ use Rattle.gm_model.specs.Matches.{Placement, IsEmbedding}
 use Rattle.gm_model.specs.Orbits.{HasCount, IsPairBefore}
 use Rattle.gm_model.specs.Rules.{Rule, has_word, is_removed}
 use Rattle.gm_model.specs.Unfolding.{IsGone, scene_of}
-use Rattle.gm_plan.specs.Counts.{removed_before, removed_nodes}
+use Rattle.gm_plan.specs.inner.Counts.{removed_before, removed_nodes}
 use Rattle.gm_theory.proofs.RuleSteps.{word_below}
 use Rattle.gm_apply.proofs.Counting.{count_none, count_same, count_more, count_left}
 

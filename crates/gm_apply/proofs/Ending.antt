@@ -6,16 +6,16 @@ use Rattle.gm_model.specs.declared.value.Value.{Value}
 use Rattle.gm_model.specs.Applications.{GivesValue, IsReachedSum, IsReadSum}
 use Rattle.gm_model.specs.Maps.{IsEmbedAt}
 use Rattle.gm_model.specs.Rules.{rule_of}
-use Rattle.gm_arena.specs.ArenaAsMap.{as_map}
-use Rattle.gm_arena.specs.ArenaMap.{ArenaMap}
-use Rattle.gm_pending.specs.EditLists.{EditLists, AreEditsOf, HasSameRows, IsReachedSumIn}
-use Rattle.gm_pending.specs.Results.{PendingOf, IsGivenIn, rule_in}
-use Rattle.gm_theory.specs.Theorem.{Unfolded, Unfolds, IsDartOf}
+use Rattle.gm_arena.specs.inner.ArenaAsMap.{as_map}
+use Rattle.gm_arena.specs.inner.ArenaMap.{ArenaMap}
+use Rattle.gm_pending.specs.inner.EditLists.{EditLists, AreEditsOf, HasSameRows, IsReachedSumIn}
+use Rattle.gm_pending.specs.inner.Results.{PendingOf, IsGivenIn, rule_in}
+use Rattle.gm_theory.specs.inner.Theorem.{Unfolded, Unfolds, IsDartOf}
 use Rattle.gm_theory.proofs.Lists.{some_same}
 use Rattle.gm_apply.specs.declared.reading.Reading.{Reading}
 use Rattle.gm_apply.specs.declared.refusal.Refusal.{Refusal}
-use Rattle.gm_apply.specs.ReadOnce.{IsReadOnceSum}
-use Rattle.gm_apply.specs.Reads.{app_at, place_at, pending_at, HasEdits, IsEnded, IsWithinEdits, IsWithinEditsOnce}
+use Rattle.gm_apply.specs.inner.ReadOnce.{IsReadOnceSum}
+use Rattle.gm_apply.specs.inner.Reads.{app_at, place_at, pending_at, HasEdits, IsEnded, IsWithinEdits, IsWithinEditsOnce}
 
 module _ (reading : Reading) (hooks : List ℕ) where
   -- so many steps more: for each instance, for each dart that gets a value, and for each unit that is read

@@ -14,17 +14,17 @@ use Rattle.gm_model.specs.Maps.{IsEmbedAt}
 use Rattle.gm_model.specs.Orbits.{IsPairBefore}
 use Rattle.gm_model.specs.Rules.{rule_of}
 use Rattle.gm_model.specs.Unfolding.{IsUnfolding, scene_of}
-use Rattle.gm_theory.specs.Theorem.{Unfolded, Unfolds, IsDartOf}
+use Rattle.gm_theory.specs.inner.Theorem.{Unfolded, Unfolds, IsDartOf}
 use Rattle.gm_theory.proofs.Keeps.{rules_keep_generalised_maps}
 use Rattle.gm_theory.proofs.Lists.{get_contained, contained_at, none_some, some_same}
-use Rattle.gm_arena.specs.ArenaAsMap.{as_map}
+use Rattle.gm_arena.specs.inner.ArenaAsMap.{as_map}
 use Rattle.gm_pending.specs.declared.deciding_instance.DecidingInstance.{DecidingInstance as Entry}
-use Rattle.gm_pending.specs.EditLists.{EditLists, AllGiven, AreEditsOf, IsReachedSumIn}
-use Rattle.gm_pending.specs.Results.{PendingOf, IsAsked, IsWithinReach, AreDecidingInstances, IsDecidingIn, instances_of, deciding_of, with_instances, given_at, place_of, rule_in}
+use Rattle.gm_pending.specs.inner.EditLists.{EditLists, AllGiven, AreEditsOf, IsReachedSumIn}
+use Rattle.gm_pending.specs.inner.Results.{PendingOf, IsAsked, IsWithinReach, AreDecidingInstances, IsDecidingIn, instances_of, deciding_of, with_instances, given_at, place_of, rule_in}
 use Rattle.gm_apply.specs.declared.reading.Reading.{Reading}
 use Rattle.gm_apply.specs.declared.refusal.Refusal.TheVariants as refusals
-use Rattle.gm_apply.specs.Reads.{IsReadable, app_at, place_at, pending_at, unasked_at, decider_at, seen_at, seen_before, seen_to, IsGivenRight, IsWithinSeen, IsWithinSeenBy, IsWithinSeenOnce, IsWithinRead, IsWithinReadOnce, IsWithinEdits, IsWithinEditsOnce, IsEnded, HasEdits, HasRead}
-use Rattle.gm_apply.specs.ReadOnce.{IsReadOnce}
+use Rattle.gm_apply.specs.inner.Reads.{IsReadable, app_at, place_at, pending_at, unasked_at, decider_at, seen_at, seen_before, seen_to, IsGivenRight, IsWithinSeen, IsWithinSeenBy, IsWithinSeenOnce, IsWithinRead, IsWithinReadOnce, IsWithinEdits, IsWithinEditsOnce, IsEnded, HasEdits, HasRead}
+use Rattle.gm_apply.specs.inner.ReadOnce.{IsReadOnce}
 use Rattle.gm_apply.proofs.Asking.{asked_by, nothing_behind, split_last, entry_same, entry_other, seen_same, is_there, within_asked}
 use Rattle.gm_apply.proofs.Seen.{decides, valued_before, within_read, within_read_once}
 

@@ -7,7 +7,7 @@ use Rattle.gm_model.specs.Expressions.{Reading}
 use Rattle.gm_model.specs.Maps.{Map, IsDart, IsMap, IsGeneralised, dimension}
 use Rattle.gm_model.specs.Matches.{Placement, IsInstance}
 use Rattle.gm_model.specs.Rules.{Rule}
-use Rattle.gm_theory.specs.OneMatch.{IsLike}
+use Rattle.gm_theory.specs.inner.OneMatch.{IsLike}
 use Rattle.gm_apply.proofs.LikeReadings.{AreLikeReadings}
 
 -- ---- maps and places that are like

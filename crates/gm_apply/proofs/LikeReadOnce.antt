@@ -13,13 +13,13 @@ use Rattle.gm_model.specs.Maps.{Map}
 use Rattle.gm_model.specs.Matches.{Placement}
 use Rattle.gm_model.specs.Rules.{Rule}
 use Rattle.gm_model.specs.Trees.{Tree, Number, Truth, Param, Field, Same, Count, Sum, Least, Greatest, Unary, Binary, If, MakeVec2, MakeVec3, MakeRgb}
-use Rattle.gm_theory.specs.Theorem.{Unfolded, IsDartOf}
+use Rattle.gm_theory.specs.inner.Theorem.{Unfolded, IsDartOf}
 use Rattle.gm_eval.specs.declared.kept.Collector.{Collector}
 use Rattle.gm_eval.specs.declared.kept.Form.{Form}
 use Rattle.gm_eval.specs.declared.kept.Form.TheVariants as forms
-use Rattle.gm_eval.specs.Keeping.{collector_at, own_term}
-use Rattle.gm_eval.specs.Sharing.{HasOwnUnits, HasUnitsBeside, IsOwn, Reads}
-use Rattle.gm_apply.specs.ReadOnce.{IsReadBefore, IsReadOnce, IsReadOnceSum}
+use Rattle.gm_eval.specs.inner.Keeping.{collector_at, own_term}
+use Rattle.gm_eval.specs.inner.Sharing.{HasOwnUnits, HasUnitsBeside, IsOwn, Reads}
+use Rattle.gm_apply.specs.inner.ReadOnce.{IsReadBefore, IsReadOnce, IsReadOnceSum}
 use Rattle.gm_apply.proofs.LikePlaces.{readings_like}
 use Rattle.gm_apply.proofs.LikeReadings.{AreLikeReadings, collected_there, value_there, no_value_there, units_there}
 use Rattle.gm_apply.proofs.LikeResults.{AreLikeResults, results_back, within_there}

@@ -15,7 +15,7 @@ use Rattle.gm_model.specs.Orbits.{IsListOf, HasCount, follow}
 use Rattle.gm_model.specs.Rules.{Rule, has_word}
 use Rattle.gm_model.specs.Trees.{Tree, Number, Truth, Param, Field, Same, Count, Sum, Least, Greatest, Unary, Binary, If, MakeVec2, MakeVec3, MakeRgb}
 use Rattle.gm_model.specs.Values.{kind_of}
-use Rattle.gm_theory.specs.Readings.{IsReadingOf}
+use Rattle.gm_theory.specs.inner.Readings.{IsReadingOf}
 use Rattle.gm_theory.proofs.ReadingsTyped.{term_live, collected_live}
 use Rattle.gm_apply.proofs.LikeOrbits.{labels_low, follow_same}
 

@@ -11,7 +11,7 @@ use Rattle.gm_model.specs.NewValues.{IsAssignedAt, LiesIn, IsDecidedBy, IsDecidi
 use Rattle.gm_model.specs.Orbits.{IsInOrbit}
 use Rattle.gm_model.specs.Rules.{Rule, has_word, hook_label, width}
 use Rattle.gm_model.specs.Unfolding.{scene_of, name_in}
-use Rattle.gm_theory.specs.Theorem.{Unfolded, Unfolds, IsDartOf, AreSame}
+use Rattle.gm_theory.specs.inner.Theorem.{Unfolded, Unfolds, IsDartOf, AreSame}
 use Rattle.gm_theory.proofs.Arcs.{right_dart}
 use Rattle.gm_theory.proofs.Keeps.{lawful, rules_keep_generalised_maps}
 use Rattle.gm_apply.proofs.LikeOrbits.{orbit_same}

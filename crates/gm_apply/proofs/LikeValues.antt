@@ -12,7 +12,7 @@ use Rattle.gm_model.specs.Matches.{Placement, IsMatch}
 use Rattle.gm_model.specs.NewValues.{IsValueAfter, Decided, Kept, Added}
 use Rattle.gm_model.specs.Orbits.{HasCount}
 use Rattle.gm_model.specs.Rules.{Rule, has_word}
-use Rattle.gm_theory.specs.Theorem.{Unfolded, Unfolds, IsDartOf}
+use Rattle.gm_theory.specs.inner.Theorem.{Unfolded, Unfolds, IsDartOf}
 use Rattle.gm_theory.proofs.Tests.{both_true}
 use Rattle.gm_apply.proofs.Counting.{count_same}
 use Rattle.gm_apply.proofs.LikeApplications.{here, there}

@@ -5,16 +5,16 @@ use Rattle.gm_model.specs.Applications.{HasPositions, IsBudget, IsDone, IsReache
 use Rattle.gm_model.specs.Maps.{IsSchema, IsSound}
 use Rattle.gm_model.specs.Rules.{rule_of}
 use Rattle.gm_model.specs.Unfolding.{added_nodes}
-use Rattle.gm_arena.specs.ArenaAsMap.{as_map}
-use Rattle.gm_arena.specs.ArenaMap.{ArenaMap}
-use Rattle.gm_pending.specs.EditLists.{EditLists, AreEditsOf, HasSameRows, IsReachedSumIn}
-use Rattle.gm_pending.specs.OwnEdits.{OwnEdits, AreTouched}
-use Rattle.gm_pending.specs.Results.{PendingOf, rule_in}
+use Rattle.gm_arena.specs.inner.ArenaAsMap.{as_map}
+use Rattle.gm_arena.specs.inner.ArenaMap.{ArenaMap}
+use Rattle.gm_pending.specs.inner.EditLists.{EditLists, AreEditsOf, HasSameRows, IsReachedSumIn}
+use Rattle.gm_pending.specs.inner.OwnEdits.{OwnEdits, AreTouched}
+use Rattle.gm_pending.specs.inner.Results.{PendingOf, rule_in}
 use Rattle.gm_pending.proofs.Collected.{few_added}
-use Rattle.gm_theory.specs.Theorem.{Unfolded, Unfolds, IsDartOf}
+use Rattle.gm_theory.specs.inner.Theorem.{Unfolded, Unfolds, IsDartOf}
 use Rattle.gm_apply.specs.declared.reading.Reading.{Reading}
-use Rattle.gm_apply.specs.Prepared.{IsCommittedOf, IsReadyToCommit, cost_with_rows, rows_of}
-use Rattle.gm_apply.specs.Reads.{app_at, place_at, pending_at, IsReadable, IsReadyAt}
+use Rattle.gm_apply.specs.inner.Prepared.{IsCommittedOf, IsReadyToCommit, cost_with_rows, rows_of}
+use Rattle.gm_apply.specs.inner.Reads.{app_at, place_at, pending_at, IsReadable, IsReadyAt}
 use Rattle.gm_apply.proofs.Budgets.{positions_here, ready_within, ready_work}
 use Rattle.gm_apply.proofs.Readying.{are_here, done, edits_there, new_is, old_is}
 

@@ -8,18 +8,18 @@ use Rattle.gm_model.specs.Kinds.{IsTreeInRange}
 use Rattle.gm_model.specs.Orbits.{IsPairBefore}
 use Rattle.gm_model.specs.Rules.{rule_of}
 use Rattle.gm_model.specs.Trees.{Tree}
-use Rattle.gm_theory.specs.Theorem.{Unfolded, Unfolds, IsDartOf}
+use Rattle.gm_theory.specs.inner.Theorem.{Unfolded, Unfolds, IsDartOf}
 use Rattle.gm_theory.proofs.Lists.{some_same}
-use Rattle.gm_arena.specs.ArenaAsMap.{as_map}
+use Rattle.gm_arena.specs.inner.ArenaAsMap.{as_map}
 use Rattle.gm_eval.specs.declared.kept.Collector.{Collector}
-use Rattle.gm_eval.specs.Sharing.{HasUnitsBeside, IsShared}
+use Rattle.gm_eval.specs.inner.Sharing.{HasUnitsBeside, IsShared}
 use Rattle.gm_eval.proofs.Sharing.{units_more}
 use Rattle.gm_pending.specs.declared.deciding_instance.DecidingInstance.{DecidingInstance as Entry}
-use Rattle.gm_pending.specs.Results.{PendingOf, instances_of, place_of}
+use Rattle.gm_pending.specs.inner.Results.{PendingOf, instances_of, place_of}
 use Rattle.gm_apply.specs.declared.reading.Reading.{Reading}
-use Rattle.gm_apply.specs.ReadOnce.{IsReadBefore, IsReadOnce}
-use Rattle.gm_apply.specs.Readings.{IsExpression, WasRead, places_of, read_at}
-use Rattle.gm_apply.specs.Reads.{app_at, place_at, HasRead, IsReadable}
+use Rattle.gm_apply.specs.inner.ReadOnce.{IsReadBefore, IsReadOnce}
+use Rattle.gm_apply.specs.inner.Readings.{IsExpression, WasRead, places_of, read_at}
+use Rattle.gm_apply.specs.inner.Reads.{app_at, place_at, HasRead, IsReadable}
 use Rattle.gm_apply.proofs.Giving.{IsEntryAt}
 use Rattle.gm_apply.proofs.LikeReadOnce.{reads_in_range}
 use Rattle.gm_apply.proofs.ReadValues.{some_embed}

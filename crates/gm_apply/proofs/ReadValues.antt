@@ -10,13 +10,13 @@ use Rattle.gm_model.specs.Maps.{IsEmbedAt}
 use Rattle.gm_model.specs.Rules.{Assigns, rule_of}
 use Rattle.gm_model.specs.Trees.{Tree}
 use Rattle.gm_model.specs.Values.{IsValueOf}
-use Rattle.gm_eval.specs.Places.{IsTypedFor, reading_in}
+use Rattle.gm_eval.specs.inner.Places.{IsTypedFor, reading_in}
 use Rattle.gm_eval.proofs.Matched.{typed_there}
-use Rattle.gm_plan.specs.Plans.{IsPlanned}
+use Rattle.gm_plan.specs.inner.Plans.{IsPlanned}
 use Rattle.gm_theory.proofs.ReadingsTyped.{values_have_their_kinds}
 use Rattle.gm_theory.proofs.ValuesKept.{match_reading, one_tree}
 use Rattle.gm_apply.specs.declared.reading.Reading.{Reading}
-use Rattle.gm_apply.specs.Reads.{IsReadable, app_at, place_at}
+use Rattle.gm_apply.specs.inner.Reads.{IsReadable, app_at, place_at}
 use Rattle.gm_apply.proofs.Applying.{accepted_for}
 
 pub some_embed : (embeds : List Embed) (e : ℕ) → e < length embeds → (embed : Embed) × (slice_get embeds e ≡ Some embed)

@@ -4,15 +4,15 @@ use Rattle.gm_model.specs.Applications.{HasPositions, IsBudget, IsDone, IsPreUni
 use Rattle.gm_model.specs.Limits.{most_names}
 use Rattle.gm_model.specs.Maps.{IsSchema}
 use Rattle.gm_model.specs.Rules.{rule_of}
-use Rattle.gm_arena.specs.ArenaAsMap.{as_map}
-use Rattle.gm_arena.specs.ArenaMap.{ArenaMap}
-use Rattle.gm_pending.specs.EditLists.{EditLists, AreEditsOf, AreEditsHere, HasSameRows, IsReachedSumIn, IsResultOf}
-use Rattle.gm_pending.specs.Results.{PendingOf, rule_in}
+use Rattle.gm_arena.specs.inner.ArenaAsMap.{as_map}
+use Rattle.gm_arena.specs.inner.ArenaMap.{ArenaMap}
+use Rattle.gm_pending.specs.inner.EditLists.{EditLists, AreEditsOf, AreEditsHere, HasSameRows, IsReachedSumIn, IsResultOf}
+use Rattle.gm_pending.specs.inner.Results.{PendingOf, rule_in}
 use Rattle.gm_apply.specs.declared.reading.Reading.{Reading}
 use Rattle.gm_apply.specs.declared.refusal.Refusal.{Refusal}
-use Rattle.gm_apply.specs.Outcomes.{IsRefusedFor}
-use Rattle.gm_apply.specs.ReadOnce.{IsBudgetOnce}
-use Rattle.gm_apply.specs.Reads.{app_at, place_at, pending_at, IsReadable, IsEnded, IsReadyAt, IsRefusedAt}
+use Rattle.gm_apply.specs.inner.Outcomes.{IsRefusedFor}
+use Rattle.gm_apply.specs.inner.ReadOnce.{IsBudgetOnce}
+use Rattle.gm_apply.specs.inner.Reads.{app_at, place_at, pending_at, IsReadable, IsEnded, IsReadyAt, IsRefusedAt}
 use Rattle.gm_apply.proofs.Applying.{is_done}
 use Rattle.gm_apply.proofs.Budgets.{pre_within, pre_within_once, ready_within, ready_within_once}
 use Rattle.gm_apply.proofs.Ending.{ended_within, ended_within_once, read_within, read_within_once, edits_here, rows_there, values_right, committed_within, committed_within_once, kept_within}

@@ -10,18 +10,18 @@ use Rattle.gm_model.specs.Rules.{rule_of}
 use Rattle.gm_model.specs.Trees.{Tree}
 use Rattle.gm_theory.proofs.Lists.{none_some, some_same}
 use Rattle.gm_theory.proofs.ValuesLists.{in_contained}
-use Rattle.gm_plan.specs.Collecting.{CollectsNothing}
+use Rattle.gm_plan.specs.inner.Collecting.{CollectsNothing}
 use Rattle.gm_eval.specs.declared.kept.Collector.{Collector}
 use Rattle.gm_eval.specs.declared.kept.Entry.{Entry as KeptEntry}
-use Rattle.gm_eval.specs.Keeping.{KeptOf}
-use Rattle.gm_eval.specs.Sharing.{AreKeptOnce, HasRoom, HasUnitsBeside, IsAtHand, IsShared, Reads, StillKept, collectors_of}
+use Rattle.gm_eval.specs.inner.Keeping.{KeptOf}
+use Rattle.gm_eval.specs.inner.Sharing.{AreKeptOnce, HasRoom, HasUnitsBeside, IsAtHand, IsShared, Reads, StillKept, collectors_of}
 use Rattle.gm_eval.proofs.Adding.{has_room}
 use Rattle.gm_eval.proofs.Sharing.{none_to_read, still_at_hand, units_more}
 use Rattle.gm_pending.specs.declared.deciding_instance.DecidingInstance.{DecidingInstance as Entry}
-use Rattle.gm_pending.specs.Results.{PendingOf, given_at, instances_of, place_of}
+use Rattle.gm_pending.specs.inner.Results.{PendingOf, given_at, instances_of, place_of}
 use Rattle.gm_apply.specs.declared.reading.Reading.{Reading}
-use Rattle.gm_apply.specs.Reads.{HasRead}
-use Rattle.gm_apply.specs.Readings.{IsExpression, WasRead, places_of, read_at}
+use Rattle.gm_apply.specs.inner.Reads.{HasRead}
+use Rattle.gm_apply.specs.inner.Readings.{IsExpression, WasRead, places_of, read_at}
 use Rattle.gm_apply.proofs.Giving.{entry_at}
 use Rattle.gm_apply.proofs.ReadValues.{some_embed}
 

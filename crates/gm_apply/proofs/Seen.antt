@@ -11,14 +11,14 @@ use Rattle.gm_model.specs.Applications.{Application, Decider, IsDeciderBefore, G
 use Rattle.gm_model.specs.Maps.{IsEmbedAt}
 use Rattle.gm_model.specs.Orbits.{IsPairBefore}
 use Rattle.gm_model.specs.Rules.{rule_of}
-use Rattle.gm_theory.specs.Theorem.{Unfolded, Unfolds, IsDartOf}
+use Rattle.gm_theory.specs.inner.Theorem.{Unfolded, Unfolds, IsDartOf}
 use Rattle.gm_theory.proofs.Lists.{contained_at, get_contained, none_some, some_same}
-use Rattle.gm_arena.specs.ArenaAsMap.{as_map}
+use Rattle.gm_arena.specs.inner.ArenaAsMap.{as_map}
 use Rattle.gm_pending.specs.declared.deciding_instance.DecidingInstance.{DecidingInstance as Entry}
-use Rattle.gm_pending.specs.Results.{PendingOf, IsAsked, instances_of, deciding_of}
+use Rattle.gm_pending.specs.inner.Results.{PendingOf, IsAsked, instances_of, deciding_of}
 use Rattle.gm_apply.specs.declared.reading.Reading.{Reading}
-use Rattle.gm_apply.specs.ReadOnce.{IsReadOnce, IsReadOnceSum}
-use Rattle.gm_apply.specs.Reads.{app_at, place_at, decider_at, seen_at, seen_before, seen_to, IsWithinSeen, IsWithinSeenOnce, IsWithinRead, IsWithinReadOnce, HasRead}
+use Rattle.gm_apply.specs.inner.ReadOnce.{IsReadOnce, IsReadOnceSum}
+use Rattle.gm_apply.specs.inner.Reads.{app_at, place_at, decider_at, seen_at, seen_before, seen_to, IsWithinSeen, IsWithinSeenOnce, IsWithinRead, IsWithinReadOnce, HasRead}
 use Rattle.gm_apply.proofs.ReadValues.{some_embed}
 use Rattle.gm_apply.proofs.Sublists.{AreOrdered, HasUnitsOf, units_among}
 

@@ -1,5 +1,1 @@
-pub mod Outcomes
-pub mod Prepared
-pub mod ReadOnce
-pub mod Readings
-pub mod Reads
+pub mod inner

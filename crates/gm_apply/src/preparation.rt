@@ -4,12 +4,12 @@ ghost use Rattle.gm_model.specs.Applications.{HasPositions, IsBudget, IsWork};
 ghost use Rattle.gm_model.specs.Kinds.{AreGoodParams};
 ghost use Rattle.gm_model.specs.Maps.{IsSound};
 ghost use Rattle.gm_model.specs.Rules.{rule_of};
-ghost use Rattle.gm_arena.specs.ArenaAsMap.{as_map};
-ghost use Rattle.gm_match.specs.Outcome.{application_of};
-ghost use Rattle.gm_pending.specs.EditLists.{HasSameRows};
+ghost use Rattle.gm_arena.specs.inner.ArenaAsMap.{as_map};
+ghost use Rattle.gm_match.specs.inner.Outcome.{application_of};
+ghost use Rattle.gm_pending.specs.inner.EditLists.{HasSameRows};
 ghost use Rattle.gm_apply.specs.declared.refusal.Refusal.TheVariants as refusals;
-ghost use Rattle.gm_apply.specs.Outcomes.{IsRefusedFor, StaysInRoom};
-ghost use Rattle.gm_apply.specs.Prepared.{IsReadyToCommit, cost_with_rows, rows_of};
+ghost use Rattle.gm_apply.specs.inner.Outcomes.{IsRefusedFor, StaysInRoom};
+ghost use Rattle.gm_apply.specs.inner.Prepared.{IsReadyToCommit, cost_with_rows, rows_of};
 
 use crate::application::{ready, reserve};
 use crate::reading::Reading;

@@ -60,7 +60,7 @@ impl From<OutOfMemory> for Refusal {
 
 impl From<MatchFault> for Refusal {
     ghost use Rattle.std.specs.Prelude.{◌≡◌};
-    ghost use Rattle.gm_apply.specs.Outcomes.{refusal_of_match};
+    ghost use Rattle.gm_apply.specs.inner.Outcomes.{refusal_of_match};
 
     ghost from_gives = { λ fault refusal. refusal ≡ refusal_of_match fault };
 

@@ -1,8 +1,8 @@
 //! The edits of an application, with the values of its result.
 ghost use Rattle.std.specs.Prelude.{◌≡◌, ℕ, suc, ◌+◌, ◌<◌, List, length, MatchResult};
-ghost use Rattle.gm_pending.specs.Results.{instances_of};
-ghost use Rattle.gm_walk.specs.Room.{Fits};
-ghost use Rattle.gm_apply.specs.Reads.{IsReadable, HasRead, HasEdits, IsEnded};
+ghost use Rattle.gm_pending.specs.inner.Results.{instances_of};
+ghost use Rattle.gm_walk.specs.inner.Room.{Fits};
+ghost use Rattle.gm_apply.specs.inner.Reads.{IsReadable, HasRead, HasEdits, IsEnded};
 
 use crate::reading::Reading;
 use crate::refusal::Refusal;

@@ -11,10 +11,10 @@ use Rattle.gm_model.specs.declared.schema.Schema.{Schema}
 use Rattle.gm_model.specs.declared.value.Value.{Value}
 use Rattle.gm_arena.specs.declared.slot.Slot.{Slot}
 use Rattle.gm_arena.specs.declared.arena.Place.{Place}
-use Rattle.gm_arena.specs.Lawful.{AreGoodValues}
-use Rattle.gm_arena.specs.Edits.{free_dart, with_dart}
-use Rattle.gm_arena.specs.Inside.{no_slot, slot_in, name_in, dart_in, darts_in, slots_in, map_of, IsPlaced, IsWritten, FitTogether}
-use Rattle.gm_arena.specs.Parts.{part_of}
+use Rattle.gm_arena.specs.inner.Lawful.{AreGoodValues}
+use Rattle.gm_arena.specs.inner.Edits.{free_dart, with_dart}
+use Rattle.gm_arena.specs.inner.Inside.{no_slot, slot_in, name_in, dart_in, darts_in, slots_in, map_of, IsPlaced, IsWritten, FitTogether}
+use Rattle.gm_arena.specs.inner.Parts.{part_of}
 use Rattle.gm_arena.proofs.FilledLemmas.{same_maps, get-insert_same, get-insert_other, len-insert_new}
 use Rattle.gm_arena.proofs.InsideLemmas.{nowhere, dart_at, darts_get, slot_at, name_in-get, is_some_at, some_of, links_there, values_there}
 use Rattle.gm_arena.proofs.ValueLemmas.{reached}

@@ -10,10 +10,10 @@ use Rattle.gm_model.specs.declared.schema.Schema.{Schema}
 use Rattle.gm_model.specs.declared.value.Value.{Value}
 use Rattle.gm_arena.specs.declared.slot.Slot.{Slot}
 use Rattle.gm_arena.specs.declared.arena.Place.{Place}
-use Rattle.gm_arena.specs.ArenaMap.{Dart}
-use Rattle.gm_arena.specs.Edits.{turned, relinked, put_if, with_alpha}
-use Rattle.gm_arena.specs.Inside.{no_slot, name_in, dart_in, darts_in, map_of, IsPlaced, IsWritten, FitTogether}
-use Rattle.gm_arena.specs.Parts.{part_of}
+use Rattle.gm_arena.specs.inner.ArenaMap.{Dart}
+use Rattle.gm_arena.specs.inner.Edits.{turned, relinked, put_if, with_alpha}
+use Rattle.gm_arena.specs.inner.Inside.{no_slot, name_in, dart_in, darts_in, map_of, IsPlaced, IsWritten, FitTogether}
+use Rattle.gm_arena.specs.inner.Parts.{part_of}
 use Rattle.gm_arena.proofs.FilledLemmas.{same_maps, get-insert_same, get-insert_other, len-insert_again}
 use Rattle.gm_arena.proofs.InsideLemmas.{nowhere, dart_at, darts_get, links_there}
 use Rattle.gm_arena.proofs.ChangeLemmas.{dart_alike, other_dart, other_slot}

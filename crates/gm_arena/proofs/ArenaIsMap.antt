@@ -11,9 +11,9 @@ use Rattle.gm_model.specs.declared.value.Value.{Value}
 use Rattle.gm_model.specs.declared.value.Value.TheVariants.{Int}
 use Rattle.gm_model.specs.Maps.{IsEmbedAt, IsMap}
 use Rattle.gm_model.specs.Values.{kind_of, IsValueOf}
-use Rattle.gm_arena.specs.ArenaAsMap.{as_map}
-use Rattle.gm_arena.specs.ArenaMap.{ArenaMap, Dart}
-use Rattle.gm_arena.specs.Lawful.{IsLawful, AreGoodValues}
+use Rattle.gm_arena.specs.inner.ArenaAsMap.{as_map}
+use Rattle.gm_arena.specs.inner.ArenaMap.{ArenaMap, Dart}
+use Rattle.gm_arena.specs.inner.Lawful.{IsLawful, AreGoodValues}
 
 some_same : {A : Type 0} (x y : A) → Some x ≡ Some y → x ≡ y
 some_same x y e = cc

@@ -7,7 +7,7 @@ use Rattle.std.specs.FinMap.Entries.{below_all}
 use Rattle.std.specs.declared.cmp.Ordering.TheVariants.{Less, Equal, Greater}
 use Rattle.std.proofs.lemmas.Bool.{cases_lt}
 use Rattle.slab.specs.Slab.{entries_from}
-use Rattle.gm_arena.specs.Filled.{filled}
+use Rattle.gm_arena.specs.inner.Filled.{filled}
 
 less : (x y : ℕ) → x < y → nat_cmp x y ≡ Less
 less x y h = sym (nat_cmp_is x y Less h)

@@ -13,11 +13,11 @@ use Rattle.gm_model.specs.declared.value.Value.{Value}
 use Rattle.gm_model.specs.declared.value.Value.TheVariants.{Int}
 use Rattle.gm_arena.specs.declared.slot.Slot.{Slot}
 use Rattle.gm_arena.specs.declared.arena.Place.{Place}
-use Rattle.gm_arena.specs.ArenaAsMap.{value}
-use Rattle.gm_arena.specs.ArenaMap.{Dart, IsLiveName, name_at, alpha}
-use Rattle.gm_arena.specs.Lawful.{IsLawful, IsLawfulDart, AreGoodValues}
-use Rattle.gm_arena.specs.Inside.{no_slot, slot_in, name_in, dart_in, darts_in, slots_in, map_of, FitTogether}
-use Rattle.gm_arena.specs.Parts.{part_of}
+use Rattle.gm_arena.specs.inner.ArenaAsMap.{value}
+use Rattle.gm_arena.specs.inner.ArenaMap.{Dart, IsLiveName, name_at, alpha}
+use Rattle.gm_arena.specs.inner.Lawful.{IsLawful, IsLawfulDart, AreGoodValues}
+use Rattle.gm_arena.specs.inner.Inside.{no_slot, slot_in, name_in, dart_in, darts_in, slots_in, map_of, FitTogether}
+use Rattle.gm_arena.specs.inner.Parts.{part_of}
 use Rattle.gm_arena.proofs.FilledLemmas.{get-filled}
 use Rattle.gm_arena.proofs.ValueLemmas.{stretch}
 

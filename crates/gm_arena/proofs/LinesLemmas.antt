@@ -16,10 +16,10 @@ use Rattle.gm_model.specs.declared.schema.Schema.{Schema}
 use Rattle.gm_model.specs.declared.value.Value.{Value}
 use Rattle.gm_arena.specs.declared.slot.Slot.{Slot}
 use Rattle.gm_arena.specs.declared.arena.Place.{Place}
-use Rattle.gm_arena.specs.Lines.{line_count, neighbours_on, values_on, AreLines, HoldsLines}
-use Rattle.gm_arena.specs.Filled.{filled}
-use Rattle.gm_arena.specs.Inside.{no_slot, slot_in, name_in, slot_numbered, links_in, dart_in, darts_in, map_of, AreNumbered, AreNamesSlots, IsPlaced, FitTogether}
-use Rattle.gm_arena.specs.Parts.{part_of}
+use Rattle.gm_arena.specs.inner.Lines.{line_count, neighbours_on, values_on, AreLines, HoldsLines}
+use Rattle.gm_arena.specs.inner.Filled.{filled}
+use Rattle.gm_arena.specs.inner.Inside.{no_slot, slot_in, name_in, slot_numbered, links_in, dart_in, darts_in, map_of, AreNumbered, AreNamesSlots, IsPlaced, FitTogether}
+use Rattle.gm_arena.specs.inner.Parts.{part_of}
 use Rattle.gm_arena.proofs.FilledLemmas.{get-filled, keys-filled}
 use Rattle.gm_arena.proofs.InsideLemmas.{darts_get, slot_at, none_at, name_in-get, is_some_at, some_of}
 use Rattle.gm_arena.proofs.PartLemmas.{parts_more, drop_one_before}

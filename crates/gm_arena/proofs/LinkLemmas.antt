@@ -9,9 +9,9 @@ use Rattle.gm_model.specs.declared.schema.Schema.{Schema}
 use Rattle.gm_model.specs.declared.value.Value.{Value}
 use Rattle.gm_arena.specs.declared.slot.Slot.{Slot}
 use Rattle.gm_arena.specs.declared.arena.Place.{Place}
-use Rattle.gm_arena.specs.ArenaMap.{name_at}
-use Rattle.gm_arena.specs.Edits.{with_alpha, with_alphas}
-use Rattle.gm_arena.specs.Inside.{linked, map_of, FitTogether}
+use Rattle.gm_arena.specs.inner.ArenaMap.{name_at}
+use Rattle.gm_arena.specs.inner.Edits.{with_alpha, with_alphas}
+use Rattle.gm_arena.specs.inner.Inside.{linked, map_of, FitTogether}
 use Rattle.gm_arena.proofs.InsideLemmas.{some_of, name_at_in, name_in-get}
 use Rattle.gm_arena.proofs.ValueLemmas.{IsWritten-set}
 use Rattle.gm_arena.proofs.AlphaLemmas.{sound_turned, map_turned}

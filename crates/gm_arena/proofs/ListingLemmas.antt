@@ -6,8 +6,8 @@ use Rattle.std.proofs.lemmas.Bool.{cases_lt, false≢true}
 use Rattle.std.proofs.lemmas.List.{append_assoc, get_or_append_left, get_or-append_right, get_or-replicate, get_or_past, length-replicate, length-append, map-id, replicate-append-replicate}
 use Rattle.std.proofs.Math.Seq.{set-append_seam}
 use Rattle.std.proofs.lemmas.List.FromFn.{get_or-range_with_len, length-range_with_len, map-range_with_len_more}
-use Rattle.gm_arena.specs.Inside.{no_slot, slot_in}
-use Rattle.gm_arena.specs.Listing.{even, listing, IsListed}
+use Rattle.gm_arena.specs.inner.Inside.{no_slot, slot_in}
+use Rattle.gm_arena.specs.inner.Listing.{even, listing, IsListed}
 
 -- as long as there are names
 pub length-even : (taken len : ℕ) → taken ≤ len → length (even taken len) ≡ len

@@ -6,9 +6,9 @@ use Rattle.std.proofs.lemmas.Bool.{false≢true}
 use Rattle.std.proofs.lemmas.List.{get_or-set_same, get_or-set_other}
 use Rattle.std.proofs.lemmas.List.Elements.{All-get_or}
 use Rattle.gm_model.specs.declared.value.Value.{Value}
-use Rattle.gm_arena.specs.ArenaMap.{ArenaMap, Dart, IsAt, IsLiveSlot, IsLiveName, name_at, alpha}
-use Rattle.gm_arena.specs.Lawful.{IsLawful}
-use Rattle.gm_arena.specs.Edits.{with_dart, with_alpha, without_dart, turned, put_if, free_dart}
+use Rattle.gm_arena.specs.inner.ArenaMap.{ArenaMap, Dart, IsAt, IsLiveSlot, IsLiveName, name_at, alpha}
+use Rattle.gm_arena.specs.inner.Lawful.{IsLawful}
+use Rattle.gm_arena.specs.inner.Edits.{with_dart, with_alpha, without_dart, turned, put_if, free_dart}
 use Rattle.gm_arena.proofs.FilledLemmas.{get-insert_same, get-insert_other, get-remove_same, get-remove_other}
 use Rattle.gm_arena.proofs.InsideLemmas.{some_of}
 

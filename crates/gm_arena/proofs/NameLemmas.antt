@@ -12,7 +12,7 @@ use Rattle.gm_model.specs.declared.schema.Schema.{Schema}
 use Rattle.gm_model.specs.declared.value.Value.{Value}
 use Rattle.gm_arena.specs.declared.slot.Slot.{Slot}
 use Rattle.gm_arena.specs.declared.arena.Place.{Place}
-use Rattle.gm_arena.specs.Inside.{no_slot, slot_in, entry_of, names_in, dart_in, darts_in, FitTogether}
+use Rattle.gm_arena.specs.inner.Inside.{no_slot, slot_in, entry_of, names_in, dart_in, darts_in, FitTogether}
 use Rattle.gm_arena.proofs.FilledLemmas.{keys-filled}
 use Rattle.gm_arena.proofs.InsideLemmas.{nowhere}
 

@@ -7,10 +7,10 @@ use Rattle.std.proofs.lemmas.Option.{none-some}
 use Rattle.slab.specs.Slab.{Slab, get, slab_len}
 use Rattle.gm_model.specs.declared.schema.Schema.{Schema}
 use Rattle.gm_arena.specs.declared.arena.Place.{Place}
-use Rattle.gm_arena.specs.Edits.{empty_map}
-use Rattle.gm_arena.specs.Filled.{filled}
+use Rattle.gm_arena.specs.inner.Edits.{empty_map}
+use Rattle.gm_arena.specs.inner.Filled.{filled}
 use Rattle.gm_model.specs.Maps.{IsSchema}
-use Rattle.gm_arena.specs.Inside.{slots_in, map_of, FitTogether, AreNamesSlots}
+use Rattle.gm_arena.specs.inner.Inside.{slots_in, map_of, FitTogether, AreNamesSlots}
 use Rattle.gm_arena.proofs.FilledLemmas.{get-filled, same_maps}
 
 filled_none : {X : Type 0} → filled {X = X} [] ≡ map.empty

@@ -3,7 +3,7 @@ use Rattle.std.proofs.Common.{◌≡◌, ℕ, suc, ◌+◌, ◌*◌, ◌/◌, �
 use Rattle.std.proofs.Math.Nat.{add-div_left, mul-le-mul_right}
 use Rattle.std.proofs.lemmas.Nat.{mul-le}
 use Rattle.std.proofs.lemmas.List.{length-append, drop-drop}
-use Rattle.gm_arena.specs.Inside.{no_slot}
+use Rattle.gm_arena.specs.inner.Inside.{no_slot}
 
 -- with a part in front they are one more
 pub parts_more : {A : Type 0} (width : ℕ) (part rest : List A) → 0 < width → length part ≡ width → length (part ++ rest) / width ≡ suc (length rest / width)

@@ -10,10 +10,10 @@ use Rattle.gm_model.specs.declared.schema.Schema.{Schema}
 use Rattle.gm_model.specs.declared.value.Value.{Value}
 use Rattle.gm_arena.specs.declared.slot.Slot.{Slot}
 use Rattle.gm_arena.specs.declared.arena.Place.{Place}
-use Rattle.gm_arena.specs.ArenaMap.{alpha}
-use Rattle.gm_arena.specs.Edits.{IsAlone, without_dart}
-use Rattle.gm_arena.specs.Inside.{no_slot, slot_in, name_in, dart_in, darts_in, slots_in, map_of, IsPlaced, FitTogether}
-use Rattle.gm_arena.specs.Parts.{part_of}
+use Rattle.gm_arena.specs.inner.ArenaMap.{alpha}
+use Rattle.gm_arena.specs.inner.Edits.{IsAlone, without_dart}
+use Rattle.gm_arena.specs.inner.Inside.{no_slot, slot_in, name_in, dart_in, darts_in, slots_in, map_of, IsPlaced, FitTogether}
+use Rattle.gm_arena.specs.inner.Parts.{part_of}
 use Rattle.gm_arena.proofs.FilledLemmas.{same_maps, get-remove_same, get-remove_other, len-remove_one}
 use Rattle.gm_arena.proofs.InsideLemmas.{nowhere, part_long, dart_at, darts_get, slot_at, get-slots, alpha_at, name_at_in, name_in-get, name_within, apart_names, is_some_at, some_of}
 use Rattle.gm_arena.proofs.ChangeLemmas.{slots_alike, name_alike, dart_alike, other_dart, other_slot}

@@ -9,7 +9,7 @@ use Rattle.gm_model.specs.declared.schema.Schema.{Schema}
 use Rattle.gm_model.specs.declared.value.Value.{Value}
 use Rattle.gm_arena.specs.declared.slot.Slot.{Slot}
 use Rattle.gm_arena.specs.declared.arena.Place.{Place}
-use Rattle.gm_arena.specs.Inside.{no_slot, slot_in, darts_in, slots_in, map_of, FitTogether}
+use Rattle.gm_arena.specs.inner.Inside.{no_slot, slot_in, darts_in, slots_in, map_of, FitTogether}
 use Rattle.gm_arena.proofs.FilledLemmas.{same_maps}
 use Rattle.gm_arena.proofs.InsideLemmas.{nowhere, live_place, is_some_at, links_there, values_there}
 use Rattle.gm_arena.proofs.ChangeLemmas.{name_alike, dart_alike, other_dart}

@@ -17,11 +17,11 @@ use Rattle.gm_model.specs.Maps.{IsEmbedAt}
 use Rattle.gm_model.specs.Values.{kind_of, IsInValueRange, IsValueOf}
 use Rattle.gm_arena.specs.declared.slot.Slot.{Slot}
 use Rattle.gm_arena.specs.declared.arena.Place.{Place}
-use Rattle.gm_arena.specs.ArenaMap.{Dart}
-use Rattle.gm_arena.specs.Edits.{revalued, put_if, with_value}
-use Rattle.gm_arena.specs.Inside.{no_slot, dart_in, darts_in, map_of, IsWritten, FitTogether}
-use Rattle.gm_arena.specs.Parts.{part_of}
-use Rattle.gm_arena.specs.Lawful.{AreGoodValues}
+use Rattle.gm_arena.specs.inner.ArenaMap.{Dart}
+use Rattle.gm_arena.specs.inner.Edits.{revalued, put_if, with_value}
+use Rattle.gm_arena.specs.inner.Inside.{no_slot, dart_in, darts_in, map_of, IsWritten, FitTogether}
+use Rattle.gm_arena.specs.inner.Parts.{part_of}
+use Rattle.gm_arena.specs.inner.Lawful.{AreGoodValues}
 use Rattle.gm_arena.proofs.FilledLemmas.{same_maps, get-insert_same, get-insert_other, len-insert_again}
 use Rattle.gm_arena.proofs.InsideLemmas.{nowhere, dart_at, darts_get, values_there, some_of}
 use Rattle.gm_arena.proofs.ValueLemmas.{length-values}

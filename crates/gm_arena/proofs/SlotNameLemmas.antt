@@ -9,8 +9,8 @@ use Rattle.gm_model.specs.declared.schema.Schema.{Schema}
 use Rattle.gm_model.specs.declared.value.Value.{Value}
 use Rattle.gm_arena.specs.declared.slot.Slot.{Slot}
 use Rattle.gm_arena.specs.declared.arena.Place.{Place}
-use Rattle.gm_arena.specs.ArenaMap.{Dart}
-use Rattle.gm_arena.specs.Inside.{darts_in, slots_in, FitTogether, AreNamesSlots}
+use Rattle.gm_arena.specs.inner.ArenaMap.{Dart}
+use Rattle.gm_arena.specs.inner.Inside.{darts_in, slots_in, FitTogether, AreNamesSlots}
 use Rattle.gm_arena.proofs.AddLemmas.{new_place}
 use Rattle.gm_arena.proofs.DenseLemmas.{all_taken}
 use Rattle.gm_arena.proofs.InsideLemmas.{held, none_of, some_of, slot_at}

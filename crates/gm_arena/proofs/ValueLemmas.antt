@@ -7,9 +7,9 @@ use Rattle.std.proofs.lemmas.List.{drop-take, drop-set-lt, drop-set-add, take-se
 use Rattle.std.proofs.lemmas.Slice.{take-put_mid_below, drop-put_mid, between-put_mid}
 use Rattle.gm_model.specs.declared.schema.Schema.{Schema}
 use Rattle.gm_model.specs.declared.value.Value.{Value}
-use Rattle.gm_arena.specs.Lawful.{AreGoodValues}
-use Rattle.gm_arena.specs.Inside.{written_at, IsWritten}
-use Rattle.gm_arena.specs.Parts.{part_of}
+use Rattle.gm_arena.specs.inner.Lawful.{AreGoodValues}
+use Rattle.gm_arena.specs.inner.Inside.{written_at, IsWritten}
+use Rattle.gm_arena.specs.inner.Parts.{part_of}
 
 -- as many values as embeddings
 pub length-values : (schema : Schema) (values : List Value) → AreGoodValues schema values → length values ≡ length schema.embeds

@@ -1,10 +1,1 @@
-pub mod ArenaMap
-pub mod ArenaAsMap
-pub mod Lawful
-pub mod InOrder
-pub mod Parts
-pub mod Lines
-pub mod Edits
-pub mod Filled
-pub mod Inside
-pub mod Listing
+pub mod inner

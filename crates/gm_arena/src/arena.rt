@@ -5,7 +5,7 @@ ghost use Rattle.slab.specs.Slab.{HasRoomFor, slab_len};
 ghost use Rattle.gm_model.specs.Limits.{most_darts, most_names};
 ghost use Rattle.std.specs.Vec.{vec_capacity};
 ghost use Rattle.slab.specs.Slab as slab;
-ghost use Rattle.gm_arena.specs.Inside.{no_slot, names_in, name_in, linked, slot_numbered, links_in, IsWritten, HasParts, AreNumbered, AreNamesSlots};
+ghost use Rattle.gm_arena.specs.inner.Inside.{no_slot, names_in, name_in, linked, slot_numbered, links_in, IsWritten, HasParts, AreNumbered, AreNamesSlots};
 
 use crate::slot::Slot;
 use crate::steps::Steps;
@@ -61,14 +61,14 @@ pub struct Row<'a> {
 }
 
 impl Model for Arena {
-    ghost use Rattle.gm_arena.specs.ArenaMap.{ArenaMap, arena_code};
+    ghost use Rattle.gm_arena.specs.inner.ArenaMap.{ArenaMap, arena_code};
 
     ghost Value = { ArenaMap };
 
     ghost coded = { arena_code };
 
     ghost use Rattle.std.specs.Vec.{vec_capacity};
-    ghost use Rattle.gm_arena.specs.Inside.{map_of, FitTogether, HasParts, AreNamesSlots};
+    ghost use Rattle.gm_arena.specs.inner.Inside.{map_of, FitTogether, HasParts, AreNamesSlots};
 
     ghost view = { λ a. map_of a.schema a.labels a.width a.places a.neighbours.items a.values.items a.table a.next a.spare a.bound };
 
@@ -76,15 +76,15 @@ impl Model for Arena {
 }
 
 impl Arena {
-    ghost use Rattle.gm_arena.specs.ArenaMap.{IsAt, IsLiveSlot, IsLiveName, name_at, alpha};
-    ghost use Rattle.gm_arena.specs.InOrder.{HasNoneFrom, IsFirstFrom};
+    ghost use Rattle.gm_arena.specs.inner.ArenaMap.{IsAt, IsLiveSlot, IsLiveName, name_at, alpha};
+    ghost use Rattle.gm_arena.specs.inner.InOrder.{HasNoneFrom, IsFirstFrom};
     ghost use Rattle.gm_model.specs.declared.schema.Embed.{Embed};
     ghost use Rattle.gm_model.specs.Maps.{IsSchema, IsEmbedAt};
     ghost use Rattle.gm_model.specs.Values.{IsValueOf};
-    ghost use Rattle.gm_arena.specs.ArenaAsMap.{value};
-    ghost use Rattle.gm_arena.specs.Lawful.{IsLawful, AreGoodValues};
-    ghost use Rattle.gm_arena.specs.Edits.{empty_map, with_dart, with_alpha, with_alphas, with_value, without_dart, IsAlone};
-    ghost use Rattle.gm_arena.specs.Lines.{line_count, AreLines, HoldsLines};
+    ghost use Rattle.gm_arena.specs.inner.ArenaAsMap.{value};
+    ghost use Rattle.gm_arena.specs.inner.Lawful.{IsLawful, AreGoodValues};
+    ghost use Rattle.gm_arena.specs.inner.Edits.{empty_map, with_dart, with_alpha, with_alphas, with_value, without_dart, IsAlone};
+    ghost use Rattle.gm_arena.specs.inner.Lines.{line_count, AreLines, HoldsLines};
 
     /// An arena without darts, whose next name is 0. It takes no memory.
     pub fn new(alloc: Global, schema: Schema) -> Arena

@@ -3,7 +3,7 @@ ghost use Rattle.std.specs.Prelude.{◌≡◌, ℕ, ◌<◌, ◌≤◌, ◌-◌,
 ghost use Rattle.std.specs.List.{range_with_len};
 ghost use Rattle.std.specs.Vec.{vec_capacity};
 ghost use Rattle.gm_model.specs.Limits.{most_names};
-ghost use Rattle.gm_arena.specs.Inside.{no_slot, slot_in, names_in};
+ghost use Rattle.gm_arena.specs.inner.Inside.{no_slot, slot_in, names_in};
 
 use gm_model::OutOfMemory;
 use std::alloc::Global;
@@ -29,7 +29,7 @@ pub(crate) struct Table {
 impl Model for Table {
     ghost use Rattle.std.specs.Prelude.{ℕ, List};
     ghost use Rattle.std.specs.Vec.{vec_capacity};
-    ghost use Rattle.gm_arena.specs.Listing.{listing, IsListed};
+    ghost use Rattle.gm_arena.specs.inner.Listing.{listing, IsListed};
 
     ghost Value = { List ℕ };
 

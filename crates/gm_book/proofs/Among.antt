@@ -7,7 +7,7 @@ use Rattle.std.specs.List.{list_any, position, position_or_len}
 use Rattle.std.specs.Str.{bytes_eq}
 use Rattle.gm_forms.specs.BookText.{Item, NodeItem, LinkItem, with_name, names_of, nodes_in}
 use Rattle.gm_model.specs.Names.{is_among}
-use Rattle.gm_book.specs.FirstNameFault.{with_items}
+use Rattle.gm_book.specs.inner.FirstNameFault.{with_items}
 
 pub same_name : (x y : List ℕ) → bytes_eq x y ≡ true → x ≡ y
 same_name x y = (bytes_eq-Decides x y).0

@@ -8,31 +8,31 @@ use Rattle.gm_model.specs.declared.schema.Schema.{Schema}
 use Rattle.gm_model.specs.Reading.{Part, ArePlaced, IsReadAs, IsWithin, symbols_in, the_end}
 use Rattle.gm_model.specs.Rules.{Rule}
 use Rattle.gm_model.specs.Symbols.{Symbol, Mark, marks_of}
-use Rattle.gm_text.specs.Nested.{Outside, Inside}
-use Rattle.gm_text.specs.Nested as nested
-use Rattle.gm_text.specs.SchemaAnswers.{IsNoToken, AtStray, AtEnd as NoMore}
-use Rattle.gm_text.specs.SchemaReading as schema
+use Rattle.gm_text.specs.inner.Nested.{Outside, Inside}
+use Rattle.gm_text.specs.inner.Nested as nested
+use Rattle.gm_text.specs.inner.SchemaAnswers.{IsNoToken, AtStray, AtEnd as NoMore}
+use Rattle.gm_text.specs.inner.SchemaReading as schema
 use Rattle.gm_text.specs.SchemaText.{schema_of, spell, limit_of as schema_limit}
 use Rattle.gm_text.proofs.AtLeast.{IsAnswered, Read, Ended, Passed, answered}
 use Rattle.gm_text.proofs.Machine.{Along, IsRead}
 use Rattle.gm_text.proofs.SchemaAtLeast.{stands_still}
 use Rattle.gm_text.proofs.SchemaStanding as schemas
 use Rattle.gm_text.proofs.TextMarks.{text_end}
-use Rattle.gm_parse.specs.Reading.{is_whole_spot}
-use Rattle.gm_parse.specs.Reading as exprs
+use Rattle.gm_parse.specs.inner.Reading.{is_whole_spot}
+use Rattle.gm_parse.specs.inner.Reading as exprs
 use Rattle.gm_parse.proofs.Standing.{other_spot}
 use Rattle.gm_parse.proofs.Steps.{no_token}
 use Rattle.gm_forms.specs.BookText.{SetForm, Item, NodeItem, LinkItem, RuleForm, BookForm, Role, Fixed, Count, limit_of, stands_before, no_count, count_after, count_across, counted, spell_items, spell_rules, spell_pre, spelling, assignments_in, IsSentence, IsPlacedAt, IsWritten, BookText, IsNameFault, IsNotAfter, IsFirstNameFault, RulesFault, TwiceAt, UnknownAt, WrongKindAt}
 use Rattle.gm_forms.specs.BookText as text
-use Rattle.gm_forms.specs.Reading.{State, AtRules, AtName, AtLeft, AtParam, AtColon, AtKind, AtComma, AtBody, AtItem, AtSign, AtLetter, AtBehind, AtSet, AtEqual, AtExpr, AtRuleEnd, AtLabel, AtDash, AtTo, AtEnd, Slot, behind_slot, end_move, plain_move, move, AtFormat, AtVersion, InRules, Outer, Whole, in_rules, heading_in, book_nesting, outer_move}
+use Rattle.gm_forms.specs.inner.Reading.{State, AtRules, AtName, AtLeft, AtParam, AtColon, AtKind, AtComma, AtBody, AtItem, AtSign, AtLetter, AtBehind, AtSet, AtEqual, AtExpr, AtRuleEnd, AtLabel, AtDash, AtTo, AtEnd, Slot, behind_slot, end_move, plain_move, move, AtFormat, AtVersion, InRules, Outer, Whole, in_rules, heading_in, book_nesting, outer_move}
 use Rattle.gm_forms.proofs.Grammar.{placed_role}
 use Rattle.gm_forms.proofs.Header.{book_grammar}
 use Rattle.gm_book.specs.declared.fault.BookFault.{BookFault}
 use Rattle.gm_book.specs.declared.fault.BookFault.TheVariants as faults
 use Rattle.gm_book.specs.declared.names.NameFault.{NameFault}
 use Rattle.gm_book.specs.declared.names.NameFault.TheVariants.{Twice, Unknown, WrongKind}
-use Rattle.gm_book.specs.Faults.{IsFaultOf}
-use Rattle.gm_book.specs.FirstNameFault.{fault_of, IsLeast}
+use Rattle.gm_book.specs.inner.Faults.{IsFaultOf}
+use Rattle.gm_book.specs.inner.FirstNameFault.{fault_of, IsLeast}
 use Rattle.gm_book.proofs.BookFound.{rules_meant}
 use Rattle.gm_book.proofs.FaultFound.{IsRuleWithin, IsBookFault, fault_found}
 use Rattle.gm_book.proofs.ValuesWithin.{IsBookWithin, AreSetsWithin, sets_within, letters_within, hook_within, params_within, pre_within, behind_schema, dim_within}

@@ -13,7 +13,7 @@ use Rattle.gm_text.specs.SchemaText.{names_in}
 use Rattle.gm_parse.specs.Meaning.{Names, embed_number, tree_in}
 use Rattle.gm_forms.specs.BookText.{ExprToken, SetForm, Item, NodeItem, LinkItem, RuleForm, IsExpr, IsSet, IsItem, IsPre, IsRule, assignments_in, sets_in, names_for, rule_in, UnknownAt, SetUnknown, MeansTree, MeansSet, MeansPre, MeansRule}
 use Rattle.gm_forms.proofs.Contained.{contains_here, contains_behind}
-use Rattle.gm_book.specs.Building.{HasNoFaultInRules}
+use Rattle.gm_book.specs.inner.Building.{HasNoFaultInRules}
 use Rattle.gm_book.proofs.Among.{position_any}
 use Rattle.gm_book.proofs.Checked.{sets_of_name}
 

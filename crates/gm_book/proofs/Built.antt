@@ -10,8 +10,8 @@ use Rattle.gm_forms.specs.BookText.{IsFaultInRules, IsNotAfter, TwiceAt, Unknown
 use Rattle.gm_forms.specs.BookText as text
 use Rattle.gm_book.specs.declared.names.NameFault.{NameFault}
 use Rattle.gm_book.specs.declared.names.NameFault.TheVariants.{Twice, Unknown, WrongKind}
-use Rattle.gm_book.specs.Building.{HasNoFaultInRules, IsFaultOfNames, book_fault_of}
-use Rattle.gm_book.specs.FirstNameFault.{fault_of, IsLeastFault}
+use Rattle.gm_book.specs.inner.Building.{HasNoFaultInRules, IsFaultOfNames, book_fault_of}
+use Rattle.gm_book.specs.inner.FirstNameFault.{fault_of, IsLeastFault}
 
 module _ (n : ℕ) (embeds : List Embed) (rules : List text.RuleForm) where
   pub no_fault : IsLeastFault n embeds rules None → HasNoFaultInRules n embeds rules

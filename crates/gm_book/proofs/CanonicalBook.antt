@@ -8,13 +8,13 @@ use Rattle.gm_model.specs.Reading.{Part, IsWithin, symbols_in, the_end}
 use Rattle.gm_model.specs.Rules.{Rule}
 use Rattle.gm_text.specs.SchemaText as schemas
 use Rattle.gm_text.specs.SchemaText.{SchemaForm, Passed, schema_of, spell, is_again, passed_of}
-use Rattle.gm_text.specs.SchemaPrinting.{AreParts}
+use Rattle.gm_text.specs.inner.SchemaPrinting.{AreParts}
 use Rattle.gm_text.proofs.Printed.{symbols_from, symbols_of-from, symbols_from-word_blank, symbols_from-decimal_blank}
 use Rattle.gm_text.proofs.SchemaAgain.{form_again}
 use Rattle.gm_text.proofs.SchemaSound.{nothing_passed}
 use Rattle.gm_forms.specs.BookText.{RuleForm, BookForm, BookText, NameFault, IsFaultInRules, IsNameFault, SchemaTwice, RulesFault, MeansRule, spell_rules, Fixed}
 use Rattle.gm_book.specs.Canonical.{rule_lines, canonical}
-use Rattle.gm_forms.specs.Standing.{IsHeaded}
+use Rattle.gm_forms.specs.inner.Standing.{IsHeaded}
 use Rattle.gm_book.proofs.CanonicalForm.{forms_at, AreNew, IsWritable, HasGoodExprs}
 use Rattle.gm_book.proofs.CanonicalText.{rules_symbols}
 use Rattle.gm_book.proofs.CanonicalMeans.{rules_mean}

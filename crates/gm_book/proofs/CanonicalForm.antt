@@ -23,7 +23,7 @@ use Rattle.gm_expr.proofs.Canonical as trees
 use Rattle.gm_expr.proofs.Canonical.{behind, place_in, at}
 use Rattle.gm_expr.proofs.CanonicalLength.{AreWithin}
 use Rattle.gm_expr.specs.ExprText.{embed_name}
-use Rattle.gm_expr.specs.Writable as writable
+use Rattle.gm_expr.specs.inner.Writable as writable
 use Rattle.gm_forms.specs.BookText.{Item, NodeItem, LinkItem, ParamForm, RuleForm, SetForm, ExprToken}
 use Rattle.gm_book.specs.Canonical.{node_line, hook_text, set_text}
 

@@ -11,7 +11,7 @@ use Rattle.gm_model.specs.Rules.{Rule, Assignment}
 use Rattle.gm_model.specs.Symbols.{Mark}
 use Rattle.gm_parse.specs.Meaning.{Names}
 use Rattle.gm_expr.proofs.Canonical.{behind}
-use Rattle.gm_expr.specs.Writable.{left_name_of}
+use Rattle.gm_expr.specs.inner.Writable.{left_name_of}
 use Rattle.gm_forms.specs.BookText.{ParamForm, RuleForm, nodes_of, node_in, name_if_left, names_for}
 use Rattle.gm_book.proofs.CanonicalForm.{AreNew, param_names, params_at, behind_param, form_at, IsWritable}
 use Rattle.gm_book.proofs.CanonicalRule.{assigned, nodes_again}

@@ -18,7 +18,7 @@ use Rattle.gm_model.specs.Trees.{Tree}
 use Rattle.gm_expr.specs.ExprText.{embed_name}
 use Rattle.gm_expr.proofs.Canonical.{behind}
 use Rattle.gm_expr.proofs.CanonicalMeaning.{good_at}
-use Rattle.gm_expr.specs.Writable.{AreGoodNames}
+use Rattle.gm_expr.specs.inner.Writable.{AreGoodNames}
 use Rattle.gm_forms.specs.BookText.{Item, NodeItem, LinkItem, RuleForm, hook_count, nodes_of, hooks_in, Role, Fixed, Count, no_count, count_after, count_across, counted, with_name, limit_of, spell_letters, spell_hook, spell_sets, spell_item, spell_items, spell_pre, spell_more_params, spell_params, spell_rule, spell_rules, IsSet, IsItem, IsParam, IsPre, IsRule, IsSentence}
 use Rattle.gm_model.specs.Names.{is_among}
 use Rattle.gm_book.proofs.CanonicalForm.{Line, NodeLine, LinkLine, behind_word, expr_at, sets_at, behind_set, behind_line, node_lines, line_before, sets_on, tie, hook_on, item_at, items_at, lines_of, pre_at, left_marks, right_marks, pre_marks, behind_rule, form_at, forms_at, node_names, params_at, behind_param, IsGoodName, IsGoodParam, IsGoodLetter, IsGoodLine, IsWritable, IsGoodValue, IsGoodSet, HasGoodExprs}

@@ -17,7 +17,7 @@ use Rattle.gm_expr.specs.ExprText.{embed_name, expr_text}
 use Rattle.gm_expr.proofs.Canonical.{behind}
 use Rattle.gm_expr.proofs.CanonicalMeaning.{good_at}
 use Rattle.gm_expr.proofs.CanonicalSymbols.{IsBehind}
-use Rattle.gm_expr.specs.Writable.{AreGoodNames}
+use Rattle.gm_expr.specs.inner.Writable.{AreGoodNames}
 use Rattle.gm_forms.specs.BookText.{ExprToken, Role, LetterAt, Count, count_after, letter, spell_letters, spell_hook, spell_value, spell_sets, spell_item, spell_items, spell_pre}
 use Rattle.gm_text.proofs.Printed.{Stops, symbols_from, symbols_from-blank, symbols_from-word, symbols_from-word_blank, symbols_from-decimal, symbols_from-gone, symbols_from-sign, IsLexeme-decimal}
 use Rattle.gm_book.specs.Canonical.{letter_text, letters_text, hook_text, set_text, pre_line}

@@ -21,7 +21,7 @@ use Rattle.gm_model.specs.Tokens.{IsLexeme, begins_two_byte_sign, is_name_byte}
 use Rattle.gm_model.specs.Reading.{Part, symbols_in, word, the_end}
 use Rattle.gm_model.specs.Rules.{Rule, RuleNode, Assignment, has_word, word_on, links_on, name_at}
 use Rattle.gm_expr.proofs.Canonical.{behind}
-use Rattle.gm_expr.specs.Writable.{AreGoodNames}
+use Rattle.gm_expr.specs.inner.Writable.{AreGoodNames}
 use Rattle.gm_forms.specs.BookText.{Role, Fixed, no_count, counted, count_across, spell_items, spell_more_params, spell_params, spell_pre, spell_rule, spell_rules}
 use Rattle.gm_book.specs.Canonical.{hook_text, node_line, set_text, left_lines, right_line, right_lines, link_line, param_text, params_text, pre_line, rule_lines}
 use Rattle.gm_text.proofs.Printed.{symbols_from, Stops, symbols_from-end, symbols_from-blank, symbols_from-sign, symbols_from-word, symbols_from-word_blank}

@@ -14,7 +14,7 @@ use Rattle.gm_parse.specs.Meaning.{Names, faults_in, tree_in}
 use Rattle.gm_parse.specs.Spelling.{Counted, limit_in, parts_of}
 use Rattle.gm_expr.proofs.Canonical.{behind}
 use Rattle.gm_expr.proofs.CanonicalMeaning.{tree_good, tree_means, tree_faultless}
-use Rattle.gm_expr.specs.Writable.{AreGoodNames, left_name_of}
+use Rattle.gm_expr.specs.inner.Writable.{AreGoodNames, left_name_of}
 use Rattle.gm_forms.specs.BookText.{ExprToken, Role, IsSentence, IsValue, limit_of, spell_value}
 use Rattle.gm_book.proofs.CanonicalForm.{tokens_from, expr_at, value_at, IsGoodValue}
 use Rattle.gm_book.proofs.OneValue.{AreWithin, no_fault_of_other, one_tree}

@@ -18,8 +18,8 @@ use Rattle.gm_forms.specs.BookText.{SetForm, Item, NodeItem, LinkItem, RuleForm,
 use Rattle.gm_forms.proofs.Contained.{contains_cases, contains_none}
 use Rattle.gm_book.specs.declared.names.NameFault.{NameFault}
 use Rattle.gm_book.specs.declared.names.NameFault.TheVariants.{Twice, Unknown}
-use Rattle.gm_book.specs.Building.{IsSoundSet, IsSoundNode, IsSoundPre, AreSoundValues}
-use Rattle.gm_book.specs.FirstNameFault.{IsLeast, least_of, is_before, with_items, rule_least, IsValueFault, IsSetFault, IsAssignedFault, IsPreFault, IsFaultOfValues, IsFaultInRule}
+use Rattle.gm_book.specs.inner.Building.{IsSoundSet, IsSoundNode, IsSoundPre, AreSoundValues}
+use Rattle.gm_book.specs.inner.FirstNameFault.{IsLeast, least_of, is_before, with_items, rule_least, IsValueFault, IsSetFault, IsAssignedFault, IsPreFault, IsFaultOfValues, IsFaultInRule}
 use Rattle.gm_book.proofs.Among.{own_name, same_name, or_true, among_items}
 use Rattle.gm_book.proofs.CanonicalForm.{AreNew}
 use Rattle.gm_book.proofs.DifferentNames.{new_mentions, not_both, rest_differ}

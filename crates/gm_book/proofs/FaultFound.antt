@@ -15,15 +15,15 @@ use Rattle.gm_text.specs.SchemaText.{names_in, is_again, schema_of, spell}
 use Rattle.gm_text.specs.SchemaText as schemas
 use Rattle.gm_parse.specs.Meaning.{Names, faults_in, tree_in}
 use Rattle.gm_parse.specs.Meaning as meaning
-use Rattle.gm_tree.specs.Building.{noted}
+use Rattle.gm_tree.specs.inner.Building.{noted}
 use Rattle.gm_tree.proofs.ReadForms.{noted_none, first_fault}
 use Rattle.gm_forms.specs.BookText.{ExprToken, SetForm, Item, NodeItem, LinkItem, RuleForm, BookForm, IsExpr, IsSet, IsItem, IsPre, IsRule, assignments_in, kind_of_embed, names_for, param_of, with_name, IsNameFault, SchemaTwice, RulesFault, TwiceAt}
 use Rattle.gm_forms.specs.BookText as text
 use Rattle.gm_forms.proofs.Contained.{contains_cases, contains_here, contains_behind, contains_none}
 use Rattle.gm_book.specs.declared.names.NameFault.{NameFault}
 use Rattle.gm_book.specs.declared.names.NameFault.TheVariants.{Twice, Unknown, WrongKind}
-use Rattle.gm_book.specs.FirstNameFault.{fault_of, IsLeast, IsLeastFault, least_of, again_at, rule_least, IsValueFault, IsSetFault, IsPreFault, IsFaultInRule, IsFaultBehind}
-use Rattle.gm_book.specs.Values.{HasKind}
+use Rattle.gm_book.specs.inner.FirstNameFault.{fault_of, IsLeast, IsLeastFault, least_of, again_at, rule_least, IsValueFault, IsSetFault, IsPreFault, IsFaultInRule, IsFaultBehind}
+use Rattle.gm_book.specs.inner.Values.{HasKind}
 use Rattle.gm_book.proofs.LeastFault.{least_joined, least_alone}
 use Rattle.gm_book.proofs.OneValue.{AreWithin}
 use Rattle.gm_book.proofs.RuleFaults.{least_in_rule, least_of_rule, least_behind, none_behind, least_of_all}

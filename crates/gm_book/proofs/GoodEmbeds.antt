@@ -8,7 +8,7 @@ use Rattle.gm_model.specs.declared.word.Mask.{Mask}
 use Rattle.gm_model.specs.Reading.{Part, IsWithin, word}
 use Rattle.gm_text.specs.SchemaText as schemas
 use Rattle.gm_text.specs.SchemaText.{LabelForm, EmbedForm, SchemaForm, Role, passed_of, is_again, no_labels, with_label, embed_of, schema_of, names_in, spell, spell_labels, spell_embeds}
-use Rattle.gm_text.specs.SchemaPrinting.{AreParts}
+use Rattle.gm_text.specs.inner.SchemaPrinting.{AreParts}
 use Rattle.gm_text.proofs.SchemaSound.{nothing_passed}
 use Rattle.gm_expr.specs.ExprText.{embed_name}
 use Rattle.gm_book.proofs.CanonicalForm.{AreNew, IsGoodName}

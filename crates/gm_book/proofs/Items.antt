@@ -9,8 +9,8 @@ use Rattle.gm_forms.specs.declared.form.Item.TheVariants.{Node, Link}
 use Rattle.gm_forms.specs.declared.form.SetForm.{SetForm}
 use Rattle.gm_forms.specs.BookText as text
 use Rattle.gm_forms.specs.BookText.{number_of, hooks_in, links_in, word_in, sets_in, assignments_in, with_name}
-use Rattle.gm_forms.specs.Forms.{item_of, mention_of, set_form_of}
-use Rattle.gm_book.specs.FirstNameFault.{least_of, with_items, again_at, unknown_at, least_again, least_unknown, least_set, least_assigned}
+use Rattle.gm_forms.specs.inner.Forms.{item_of, mention_of, set_form_of}
+use Rattle.gm_book.specs.inner.FirstNameFault.{least_of, with_items, again_at, unknown_at, least_again, least_unknown, least_set, least_assigned}
 
 module _ (bytes : List ℕ) (items : List text.Item) (item : Item) where
   module _ (name : Token) (word : Word) (hook : Bool) (sets : Vec SetForm Global) (is : item ≡ Node name word hook sets) where

@@ -6,7 +6,7 @@ use Rattle.gm_model.specs.Names.{Mention, is_among}
 use Rattle.gm_forms.specs.BookText.{SetForm, Item, NodeItem, LinkItem, ParamForm, RuleForm, with_name, names_of, params_in, embeds_in, sets_of, nodes_in, ends_in}
 use Rattle.gm_book.specs.declared.names.NameFault.{NameFault}
 use Rattle.gm_book.specs.declared.names.NameFault.TheVariants.{Twice, Unknown}
-use Rattle.gm_book.specs.FirstNameFault.{is_before, IsLeast, IsAgainBehind, least_of, again_at, with_items, least_again, unknown_at, least_unknown, side_least, least_param, least_set, least_assigned, rule_least}
+use Rattle.gm_book.specs.inner.FirstNameFault.{is_before, IsLeast, IsAgainBehind, least_of, again_at, with_items, least_again, unknown_at, least_unknown, side_least, least_param, least_set, least_assigned, rule_least}
 use Rattle.gm_book.proofs.Among.{among_with, or_false, or_regroup}
 use Rattle.gm_book.proofs.LeastOf.{order_of, before_order, in_order, not_after}
 use Rattle.gm_forms.proofs.Contained.{contains_cases, contains_here, contains_behind, contains_none}

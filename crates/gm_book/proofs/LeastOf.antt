@@ -5,7 +5,7 @@ use Rattle.gm_book.proofs.Onward.{left_on}
 use Rattle.gm_forms.specs.BookText.{IsNotAfter, place_of, rank_of}
 use Rattle.gm_book.specs.declared.names.NameFault.{NameFault}
 use Rattle.gm_book.specs.declared.names.NameFault.TheVariants.{Twice, Unknown, WrongKind}
-use Rattle.gm_book.specs.FirstNameFault.{place_at, rank_at, is_before, fault_of, least_of}
+use Rattle.gm_book.specs.inner.FirstNameFault.{place_at, rank_at, is_before, fault_of, least_of}
 
 -- ---- faults in order
 

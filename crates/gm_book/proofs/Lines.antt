@@ -15,7 +15,7 @@ use Rattle.gm_model.specs.declared.schema.Schema.{Schema}
 use Rattle.gm_model.specs.Rules.{Rule, RuleNode, node_of, name_at}
 use Rattle.gm_expr.specs.ExprText.{embed_name}
 use Rattle.gm_book.specs.Canonical.{letter_text, letters_text, left_lines, right_line}
-use Rattle.gm_book.specs.Printing.{left_line}
+use Rattle.gm_book.specs.inner.Printing.{left_line}
 
 -- of a text that goes through a list element by element
 pub line_more : {X : Type 0} (F : List X → List ℕ) → ((xs ys : List X) → F (xs ++ ys) ≡ F xs ++ F ys) → (xs : List X) (k : ℕ) (d : X) (start text after : List ℕ) → k < length xs

@@ -13,23 +13,23 @@ use Rattle.gm_model.specs.Symbols.{Symbol, Word, Numeral, Mark, symbols, marks_o
 use Rattle.gm_model.specs.Reading.{symbols_in, the_end, in_role, ArePlaced}
 use Rattle.gm_model.specs.Reading as reading
 use Rattle.gm_model.specs.Trees.{Tree}
-use Rattle.gm_text.specs.Machine.{Stop, Ends, Passes}
-use Rattle.gm_text.specs.Nested.{Outside, Inside}
-use Rattle.gm_text.specs.Nested as nested
+use Rattle.gm_text.specs.inner.Machine.{Stop, Ends, Passes}
+use Rattle.gm_text.specs.inner.Nested.{Outside, Inside}
+use Rattle.gm_text.specs.inner.Nested as nested
 use Rattle.gm_text.specs.SchemaText as schemas
 use Rattle.gm_text.specs.SchemaText.{SchemaForm, schema_of, spell}
 use Rattle.gm_text.proofs.Machine.{Along, part_at, reading_runs, ends_run, passes_run}
 use Rattle.gm_text.proofs.SchemaSpelled.{same_form}
 use Rattle.gm_parse.specs.Meaning.{Names}
-use Rattle.gm_parse.specs.Reading.{spot_move, spot_role}
+use Rattle.gm_parse.specs.inner.Reading.{spot_move, spot_role}
 use Rattle.gm_forms.specs.BookText.{ExprToken, SetForm, RuleForm, BookForm, Role, Fixed, InSchema, NameAt, ParamName, InExpr, limit_of, stands_before, spell_rules, spelling, IsSentence, IsPlacedAt, IsWritten, nodes_of, sets_in, names_for, node_in, rule_in, MeansTree, MeansSet, MeansPre, MeansRule, BookText, StandsForNoBook, NameFault, TwiceAt, UnknownAt, WrongKindAt, IsNotAfter, IsNameFault, IsFirstNameFault}
 use Rattle.gm_book.specs.declared.fault.BookFault.{BookFault}
 use Rattle.gm_book.specs.declared.fault.BookFault.TheVariants as faults
-use Rattle.gm_book.specs.Faults.{IsFaultOf}
+use Rattle.gm_book.specs.inner.Faults.{IsFaultOf}
 use Rattle.gm_book.proofs.OneValue.{AreWithin, one_tree}
 use Rattle.gm_book.proofs.ValuesWithin.{AreSetsWithin, IsPreWithin, AreValuesWithin, dim_within, values_within}
-use Rattle.gm_forms.specs.Reading.{Spot, State, AtRules, AtName, AtParam, AtItem, AtBehind, AtSet, AtExpr, AtTo, AtEnd, behind_slot, dim_of, heading_at, closing, is_pre_on, is_with_on, is_hook, item_role, behind_role, plain_role, AtFormat, AtVersion, InRules, Whole, in_rules, book_nesting, Held, nothing_held, held_behind, run_whole}
-use Rattle.gm_forms.specs.Reading as rules
+use Rattle.gm_forms.specs.inner.Reading.{Spot, State, AtRules, AtName, AtParam, AtItem, AtBehind, AtSet, AtExpr, AtTo, AtEnd, behind_slot, dim_of, heading_at, closing, is_pre_on, is_with_on, is_hook, item_role, behind_role, plain_role, AtFormat, AtVersion, InRules, Whole, in_rules, book_nesting, Held, nothing_held, held_behind, run_whole}
+use Rattle.gm_forms.specs.inner.Reading as rules
 use Rattle.gm_forms.proofs.Header.{LedWhole, book_grammar}
 use Rattle.gm_forms.proofs.RulesHeld.{marks_for, header_held}
 use Rattle.gm_forms.proofs.SchemaNames as schema_names

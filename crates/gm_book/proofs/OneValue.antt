@@ -9,7 +9,7 @@ use Rattle.gm_parse.specs.Meaning.{Names, NameFault, faults_in, tree_in, IsFirst
 use Rattle.gm_parse.specs.Spelling.{Role, Counted, limit_in, counted_from, spell, IsPlacedAt}
 use Rattle.gm_tree.proofs.Meant.{Fits}
 use Rattle.gm_tree.proofs.OneMeaning.{IsWithinLimits, one_meaning, no_fault_noted, first_noted}
-use Rattle.gm_tree.specs.Building.{noted}
+use Rattle.gm_tree.specs.inner.Building.{noted}
 use Rattle.gm_forms.specs.BookText.{ExprToken, IsTokenPlaced, IsValue, part_of}
 
 -- no token passes a limit

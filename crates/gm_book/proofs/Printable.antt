@@ -12,10 +12,10 @@ use Rattle.gm_model.specs.declared.schema.Schema.{Schema}
 use Rattle.gm_model.specs.Rules.{Rule, RuleNode, has_word, links_on}
 use Rattle.gm_model.specs.Trees.{Tree, Number, Truth, Param as Parameter, Field, Same, Count, Sum, Least, Greatest, Unary, Binary, If, MakeVec2, MakeVec3, MakeRgb}
 use Rattle.gm_expr.specs.ExprText.{IsNamed}
-use Rattle.gm_expr.specs.Writable as trees
+use Rattle.gm_expr.specs.inner.Writable as trees
 use Rattle.gm_expr.proofs.Found.{param_low, embed_low, node_low}
 use Rattle.gm_forms.specs.BookText.{BookText}
-use Rattle.gm_book.specs.Printing.{AreEndsNodes, NamesItsNodes, AreNamed, HasNamedExprs, CanBePrinted}
+use Rattle.gm_book.specs.inner.Printing.{AreEndsNodes, NamesItsNodes, AreNamed, HasNamedExprs, CanBePrinted}
 use Rattle.gm_book.proofs.CanonicalForm.{number_if, numbers_where, hook_on, IsGoodLink, IsWritable, IsGoodSet, HasGoodSets, HasGoodExprs}
 use Rattle.gm_book.proofs.CanonicalText.{each}
 use Rattle.gm_book.proofs.ReadAgain.{exprs_from_text}

@@ -4,7 +4,7 @@ use Rattle.std.specs.List.{AllByRecursion}
 use Rattle.gm_model.specs.declared.schema.Schema.{Schema}
 use Rattle.gm_model.specs.Rules.{Rule}
 use Rattle.gm_text.specs.SchemaText.{SchemaForm, schema_of}
-use Rattle.gm_text.specs.SchemaPrinting.{AreParts}
+use Rattle.gm_text.specs.inner.SchemaPrinting.{AreParts}
 use Rattle.gm_text.proofs.SchemaSound.{form_parts}
 use Rattle.gm_forms.specs.BookText.{BookText}
 use Rattle.gm_book.specs.Canonical.{canonical}

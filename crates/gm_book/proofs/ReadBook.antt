@@ -12,13 +12,13 @@ use Rattle.gm_model.specs.Reading.{Part, IsWithin, symbols_in, the_end, ArePlace
 use Rattle.gm_model.specs.Kinds.{IsTyped}
 use Rattle.gm_model.specs.Structure.{IsInRange, IsWithinLimits}
 use Rattle.gm_model.specs.Symbols.{Mark, marks_of}
-use Rattle.gm_text.specs.Cursor.{Cursor}
-use Rattle.gm_text.specs.Machine.{Stop, Ends, Passes}
-use Rattle.gm_text.specs.Nested.{Outside, Inside}
+use Rattle.gm_text.specs.inner.Cursor.{Cursor}
+use Rattle.gm_text.specs.inner.Machine.{Stop, Ends, Passes}
+use Rattle.gm_text.specs.inner.Nested.{Outside, Inside}
 use Rattle.gm_text.specs.SchemaText.{schema_of, passed_of, limit_of as schema_limit, spell}
-use Rattle.gm_text.specs.SchemaReading as schema
-use Rattle.gm_text.specs.SchemaReading.{Stands}
-use Rattle.gm_text.specs.SchemaAnswers.{marks_left, SkipsSchema, IsSchemaSkipped, IsSchemaRead, Stops, StopsOrLost}
+use Rattle.gm_text.specs.inner.SchemaReading as schema
+use Rattle.gm_text.specs.inner.SchemaReading.{Stands}
+use Rattle.gm_text.specs.inner.SchemaAnswers.{marks_left, SkipsSchema, IsSchemaSkipped, IsSchemaRead, Stops, StopsOrLost}
 use Rattle.gm_text.specs.declared.schema_fault.SchemaFault.{SchemaFault}
 use Rattle.gm_text.specs.declared.schema_fault.SchemaFault.TheVariants as schema_faults
 use Rattle.gm_text.proofs.Lexemes.{IsSound, words_are_lexemes}
@@ -29,12 +29,12 @@ use Rattle.gm_book.specs.declared.fault.BookFault.{BookFault}
 use Rattle.gm_book.specs.declared.fault.BookFault.TheVariants as faults
 use Rattle.gm_forms.specs.declared.form_fault.FormFault.{FormFault}
 use Rattle.gm_forms.specs.declared.form_fault.FormFault.TheVariants as forms
-use Rattle.gm_book.specs.Building.{HasNoFaultInRules, IsFirstInRules, IsFaultOfNames}
-use Rattle.gm_book.specs.Fitting.{IsFitting, HasExprs}
-use Rattle.gm_book.specs.Unsigned.{HasUnsignedExprs}
-use Rattle.gm_book.specs.Faults.{IsFaultOf, book_fault_of_form, book_fault_of_schema}
-use Rattle.gm_forms.specs.Reading.{State, AtRules, AtEnd, heading_at, AtFormat, header_at, Whole, in_rules, Held, book_nesting, role_at, move, run, run_whole}
-use Rattle.gm_forms.specs.Standing.{IsHeaded, IsHeadFault, AreRulesRead, IsRulesFault}
+use Rattle.gm_book.specs.inner.Building.{HasNoFaultInRules, IsFirstInRules, IsFaultOfNames}
+use Rattle.gm_book.specs.inner.Fitting.{IsFitting, HasExprs}
+use Rattle.gm_book.specs.inner.Unsigned.{HasUnsignedExprs}
+use Rattle.gm_book.specs.inner.Faults.{IsFaultOf, book_fault_of_form, book_fault_of_schema}
+use Rattle.gm_forms.specs.inner.Reading.{State, AtRules, AtEnd, heading_at, AtFormat, header_at, Whole, in_rules, Held, book_nesting, role_at, move, run, run_whole}
+use Rattle.gm_forms.specs.inner.Standing.{IsHeaded, IsHeadFault, AreRulesRead, IsRulesFault}
 use Rattle.gm_book.proofs.CanonicalBook.{passes_free, none_again}
 use Rattle.gm_forms.proofs.Grammar.{placed_along}
 use Rattle.gm_forms.proofs.Header.{book_grammar}
@@ -45,7 +45,7 @@ use Rattle.gm_forms.proofs.SchemaNames.{IsFaultOfSchema, schema_fault}
 use Rattle.gm_forms.proofs.Marks.{along_rules}
 use Rattle.gm_forms.proofs.Whole.{head_runs, schema_runs, Answers, schema_stops, IsSame, behind_schema}
 use Rattle.gm_book.proofs.Written.{AreThere, written_from}
-use Rattle.gm_text.specs.Nested as nested
+use Rattle.gm_text.specs.inner.Nested as nested
 
 -- ---- the rules
 

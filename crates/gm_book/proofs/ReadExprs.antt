@@ -21,10 +21,10 @@ use Rattle.gm_parse.specs.Meaning as meaning
 use Rattle.gm_parse.specs.Meaning.{Names, faults_in, tree_in}
 use Rattle.gm_parse.specs.Spelling.{Counted, limit_in, parts_of}
 use Rattle.gm_expr.specs.ExprText.{embed_name}
-use Rattle.gm_expr.specs.Writable as trees
+use Rattle.gm_expr.specs.inner.Writable as trees
 use Rattle.gm_expr.proofs.CanonicalLength.{tree_within}
 use Rattle.gm_expr.proofs.ReadWritable.{can_form}
-use Rattle.gm_expr.specs.Writable.{left_name_of}
+use Rattle.gm_expr.specs.inner.Writable.{left_name_of}
 use Rattle.gm_tree.proofs.ReadForms.{within_small}
 use Rattle.gm_tree.proofs.ReadTrees.{found, mapped}
 use Rattle.gm_forms.specs.BookText.{ExprToken, SetForm, Item, NodeItem, LinkItem, ParamForm, RuleForm, part_of, sets_of, assignments_in, embeds_in, names_of, nodes_of, node_in, word_in, sets_in, names_for, param_of, kind_of_embed, rule_in, IsAgain, IsValueIn, SetValue, PreValue, HasOtherKind, MeansTree, MeansSet, MeansPre, MeansRule, SetTwice, SetUnknown, ValueFault, SetKind, PreKind}
@@ -39,7 +39,7 @@ use Rattle.gm_book.proofs.OneValue.{AreWithin}
 use Rattle.gm_book.proofs.ReadLimits.{IsGoodItem, IsGoodPre, IsGoodSet as IsGoodSetForm, IsReadable}
 use Rattle.gm_book.proofs.ReadRules.{rule_writable}
 use Rattle.gm_book.proofs.ValuesWithin.{AreSetsWithin, IsPreWithin}
-use Rattle.gm_book.specs.Building.{HasNoFaultInRules}
+use Rattle.gm_book.specs.inner.Building.{HasNoFaultInRules}
 
 -- ---- kinds
 

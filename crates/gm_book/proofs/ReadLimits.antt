@@ -22,7 +22,7 @@ use Rattle.gm_book.proofs.CanonicalForm.{IsGoodName, IsGoodLetter, IsGoodWord}
 use Rattle.gm_book.proofs.CanonicalLimits.{AreFew}
 use Rattle.gm_book.proofs.CanonicalRule.{counted_seen}
 use Rattle.gm_book.proofs.OneValue.{AreWithin}
-use Rattle.gm_book.specs.Fitting.{IsLowItem, IsFitting, HasExprs}
+use Rattle.gm_book.specs.inner.Fitting.{IsLowItem, IsFitting, HasExprs}
 use Rattle.gm_model.specs.Structure.{HasLabelsUpTo}
 
 -- ---- parts that are sound, and pass no limit

@@ -21,10 +21,10 @@ use Rattle.gm_model.specs.Structure.{HasLabelsUpTo, IsLinkInRange, IsInRange, Is
 use Rattle.gm_model.specs.Trees.{Tree, Number, Truth, Param as Parameter, Field, Same, Count, Sum, Least, Greatest, Unary, Binary, If, MakeVec2, MakeVec3, MakeRgb}
 use Rattle.gm_parse.specs.Meaning.{IsUnsigned}
 use Rattle.gm_expr.specs.ExprText.{embed_name}
-use Rattle.gm_expr.specs.Writable as trees
+use Rattle.gm_expr.specs.inner.Writable as trees
 use Rattle.gm_expr.proofs.Found.{param_low, embed_low, node_there}
 use Rattle.gm_forms.specs.BookText.{BookText}
-use Rattle.gm_book.specs.Unsigned.{HasUnsignedExprs}
+use Rattle.gm_book.specs.inner.Unsigned.{HasUnsignedExprs}
 use Rattle.gm_book.proofs.CanonicalForm.{IsGoodWordIfAny, IsGoodNode, IsGoodLink, IsWritable, numbers_where, number_if, hook_on, set_names, IsGoodValue, IsGoodSet, HasGoodSets, HasGoodExprs}
 use Rattle.gm_book.proofs.CanonicalText.{element_at, each}
 use Rattle.gm_book.proofs.DifferentNames.{number_there}

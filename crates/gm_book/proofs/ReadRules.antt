@@ -28,7 +28,7 @@ use Rattle.gm_book.proofs.CanonicalText.{each}
 use Rattle.gm_book.proofs.CanonicalRule.{seen_after, counted_seen, seen_new}
 use Rattle.gm_book.proofs.CanonicalNames.{rule_names}
 use Rattle.gm_book.proofs.CanonicalBook.{AreWritable}
-use Rattle.gm_book.specs.Building.{HasNoFaultInRules}
+use Rattle.gm_book.specs.inner.Building.{HasNoFaultInRules}
 use Rattle.gm_book.proofs.Built.{sound_alone}
 use Rattle.gm_forms.proofs.Contained.{contains_here, contains_behind}
 use Rattle.gm_book.proofs.DifferentNames.{among_front, among_last, among_neither, new_append, number_behind, new_mentions}

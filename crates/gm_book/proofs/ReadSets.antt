@@ -19,13 +19,13 @@ use Rattle.gm_model.specs.Names.{Mention, is_among}
 use Rattle.gm_model.specs.Rules.{RuleNode, Assignment}
 use Rattle.gm_model.specs.Trees.{Tree}
 use Rattle.gm_parse.specs.Meaning.{Names, embed_number}
-use Rattle.gm_tree.specs.FirstNames.{first_names}
+use Rattle.gm_tree.specs.inner.FirstNames.{first_names}
 use Rattle.gm_forms.specs.BookText.{SetForm, Item, NodeItem, LinkItem, RuleForm, Count, no_count, count_after, counted, with_name, nodes_of, sets_in, node_in, links_in, hooks_in, names_for, param_of, MeansSet, MeansPre, MeansRule, IsSet, IsItem, assignments_in}
 use Rattle.gm_text.specs.SchemaText.{names_in as names_of_embeds}
 use Rattle.gm_forms.proofs.Contained.{contains_here, contains_behind}
-use Rattle.gm_book.specs.Building.{IsKnownSet, HasKnownSets}
-use Rattle.gm_book.specs.Fitting.{HasExprs}
-use Rattle.gm_book.specs.FirstNameFault.{embed_names}
+use Rattle.gm_book.specs.inner.Building.{IsKnownSet, HasKnownSets}
+use Rattle.gm_book.specs.inner.Fitting.{HasExprs}
+use Rattle.gm_book.specs.inner.FirstNameFault.{embed_names}
 
 -- ---- element by element
 

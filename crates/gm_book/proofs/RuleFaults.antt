@@ -15,7 +15,7 @@ use Rattle.gm_forms.specs.BookText.{ExprToken, SetForm, Item, RuleForm, with_nam
 use Rattle.gm_forms.specs.BookText as text
 use Rattle.gm_book.specs.declared.names.NameFault.{NameFault}
 use Rattle.gm_book.specs.declared.names.NameFault.TheVariants.{Twice, Unknown, WrongKind}
-use Rattle.gm_book.specs.FirstNameFault.{fault_of, IsLeast, IsLeastFault, least_of, again_at, with_items, rule_least, IsAgainBehind, IsFaultOfExpr, IsPreFault, IsFaultOfValues, IsFaultInRule, IsRuleFault, IsFaultBehind}
+use Rattle.gm_book.specs.inner.FirstNameFault.{fault_of, IsLeast, IsLeastFault, least_of, again_at, with_items, rule_least, IsAgainBehind, IsFaultOfExpr, IsPreFault, IsFaultOfValues, IsFaultInRule, IsRuleFault, IsFaultBehind}
 use Rattle.gm_book.proofs.Among.{among_items}
 use Rattle.gm_book.proofs.LeastFault.{least_joined, least_same, AgainFirst, again_first, again_none, again_cases, again_here, again_later, UnknownIn, SideFault, NamesFault, rule_is_least}
 use Rattle.gm_forms.proofs.Contained.{contains_cases, contains_here, contains_behind, contains_none}

@@ -8,9 +8,9 @@ use Rattle.gm_forms.specs.BookText as text
 use Rattle.gm_forms.specs.declared.key.NameKey.{NameKey}
 use Rattle.gm_forms.specs.declared.form.Item.{Item}
 use Rattle.gm_forms.specs.declared.form.Item.TheVariants.{Node, Link}
-use Rattle.gm_forms.specs.Forms.{IsItemIn, item_of}
-use Rattle.gm_book.specs.FirstNameFault.{with_items}
-use Rattle.gm_forms.specs.Held.{names_at}
+use Rattle.gm_forms.specs.inner.Forms.{IsItemIn, item_of}
+use Rattle.gm_book.specs.inner.FirstNameFault.{with_items}
+use Rattle.gm_forms.specs.inner.Held.{names_at}
 
 pub names_counted : (items : List text.Item) (count : Count) → with_items count.nodes items ≡ (counted count items).nodes
 names_counted [] count = refl

@@ -15,7 +15,7 @@ use Rattle.gm_expr.proofs.Canonical as trees
 use Rattle.gm_expr.proofs.CanonicalPlaces.{tree_holds}
 use Rattle.gm_expr.proofs.CanonicalSymbols.{IsBehind, tree_symbols}
 use Rattle.gm_expr.proofs.SpelledBefore.{spell_before}
-use Rattle.gm_expr.specs.Writable.{AreGoodNames, IsWritable}
+use Rattle.gm_expr.specs.inner.Writable.{AreGoodNames, IsWritable}
 use Rattle.gm_forms.specs.BookText.{ExprToken, IsTokenPlaced, part_of}
 use Rattle.gm_book.proofs.CanonicalForm.{tokens_from}
 

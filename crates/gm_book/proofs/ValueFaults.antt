@@ -13,8 +13,8 @@ use Rattle.gm_forms.specs.BookText.{ExprToken, SetForm, Item, RuleForm, IsNotAft
 use Rattle.gm_forms.proofs.Contained.{contains_cases, contains_here, contains_behind, contains_none}
 use Rattle.gm_book.specs.declared.names.NameFault.{NameFault}
 use Rattle.gm_book.specs.declared.names.NameFault.TheVariants.{WrongKind}
-use Rattle.gm_book.specs.FirstNameFault.{fault_of, IsLeast, least_of, IsFaultOfExpr, IsOtherKind, IsValueFault, IsSetFault, IsAssignedFault, IsPreFault, IsFaultOfValues}
-use Rattle.gm_book.specs.Values.{HasKind, IsValueRead, HasFirstFault}
+use Rattle.gm_book.specs.inner.FirstNameFault.{fault_of, IsLeast, least_of, IsFaultOfExpr, IsOtherKind, IsValueFault, IsSetFault, IsAssignedFault, IsPreFault, IsFaultOfValues}
+use Rattle.gm_book.specs.inner.Values.{HasKind, IsValueRead, HasFirstFault}
 use Rattle.gm_book.proofs.LeastFault.{least_joined}
 use Rattle.gm_book.proofs.LeastOf.{not_after, order_of}
 use Rattle.gm_book.proofs.OneValue.{AreWithin, one_tree, no_fault_of_other, first_of_other}

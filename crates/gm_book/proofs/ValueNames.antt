@@ -8,7 +8,7 @@ use Rattle.gm_model.specs.declared.schema.Embed.{Embed}
 use Rattle.gm_model.specs.declared.schema.Schema.{Schema}
 use Rattle.gm_model.specs.Rules.{RuleNode, node_of}
 use Rattle.gm_parse.specs.Meaning.{left_name}
-use Rattle.gm_tree.specs.FirstNames.{first_names}
+use Rattle.gm_tree.specs.inner.FirstNames.{first_names}
 use Rattle.gm_forms.specs.BookText.{ParamForm, RuleForm, nodes_of, node_in, param_of, name_if_left, names_for}
 
 abbrev name_where_left : RuleNode → Option (List ℕ)

@@ -4,12 +4,12 @@ use Rattle.std.specs.List.{AllByRecursion, prefix_len}
 use Rattle.gm_model.specs.Reading.{Part, IsWithin, symbols_in, ArePlaced}
 use Rattle.gm_model.specs.Symbols.{Mark, marks_at}
 use Rattle.gm_model.specs.Trees.{Tree}
-use Rattle.gm_text.specs.Cursor.{Cursor}
-use Rattle.gm_text.specs.SchemaAnswers.{marks_left}
+use Rattle.gm_text.specs.inner.Cursor.{Cursor}
+use Rattle.gm_text.specs.inner.SchemaAnswers.{marks_left}
 use Rattle.gm_parse.specs.Forms.{Form, IsGood}
 use Rattle.gm_parse.specs.Spelling.{Role, Counted, limit_in, counted_from, spell, parts_of, symbols_of, IsSentence, Stands, IsPlacedAt}
-use Rattle.gm_parse.specs.Reading.{Spot, first_spot, spot_move, is_whole_spot}
-use Rattle.gm_parse.specs.Answers.{HasExpr, IsExprRead, HasFirstFault, IsExprFault}
+use Rattle.gm_parse.specs.inner.Reading.{Spot, first_spot, spot_move, is_whole_spot}
+use Rattle.gm_parse.specs.inner.Answers.{HasExpr, IsExprRead, HasFirstFault, IsExprFault}
 use Rattle.gm_parse.specs.declared.fault.ExprFault.{ExprFault}
 use Rattle.gm_parse.specs.declared.fault.ExprFault.TheVariants as faults
 use Rattle.gm_parse.specs.Meaning.{Names, NameFault, UnknownAt, TwiceAt}
@@ -17,10 +17,10 @@ use Rattle.gm_parse.proofs.Counted.{LedSpot, spot_behind, form_leads, form_whole
 use Rattle.gm_parse.proofs.OneReading.{one_stands}
 use Rattle.gm_forms.specs.BookText.{ExprToken, IsValue, IsExpr, part_of, first_place}
 use Rattle.gm_forms.specs.declared.form.Span.{Span}
-use Rattle.gm_forms.specs.Forms.{IsSpanIn, tokens_from, value_of}
+use Rattle.gm_forms.specs.inner.Forms.{IsSpanIn, tokens_from, value_of}
 use Rattle.gm_forms.proofs.ValuesRead.{tokens_stand}
-use Rattle.gm_book.specs.Values as values
-use Rattle.gm_book.specs.Values.{IsValueRead, IsReadFault}
+use Rattle.gm_book.specs.inner.Values as values
+use Rattle.gm_book.specs.inner.Values.{IsValueRead, IsReadFault}
 use Rattle.gm_book.proofs.OneValue.{AreWithin}
 
 -- ---- parts without their counts

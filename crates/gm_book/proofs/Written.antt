@@ -6,9 +6,9 @@ use Rattle.gm_model.specs.Symbols.{Symbol, Word, Numeral, Mark, symbols, marks_o
 use Rattle.gm_model.specs.Reading.{Part, IsWithin, symbols_in, the_end, in_role, ArePlaced}
 use Rattle.gm_text.specs.SchemaText as schemas
 use Rattle.gm_text.specs.SchemaText.{SchemaForm, spell}
-use Rattle.gm_text.specs.SchemaReading.{Stands}
+use Rattle.gm_text.specs.inner.SchemaReading.{Stands}
 use Rattle.gm_forms.specs.BookText.{RuleForm, BookForm, Role, Fixed, InSchema, limit_of, spell_rules, spelling, IsRule, IsForm, IsSentence, IsWritten, IsPlacedAt}
-use Rattle.gm_forms.specs.Standing.{IsHeaded}
+use Rattle.gm_forms.specs.inner.Standing.{IsHeaded}
 use Rattle.gm_forms.proofs.Header.{version_known}
 
 abbrev Parts : Type 0

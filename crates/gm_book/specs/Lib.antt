@@ -1,8 +1,2 @@
-pub mod Faults
-pub mod Building
-pub mod FirstNameFault
-pub mod Printing
-pub mod Fitting
-pub mod Values
 pub mod Canonical
-pub mod Unsigned
+pub mod inner

@@ -5,7 +5,7 @@ ghost use Rattle.gm_model.specs.Rules.{Rule};
 ghost use Rattle.gm_forms.specs.BookText.{BookText};
 ghost use Rattle.gm_book.specs.declared.fault.BookFault.{BookFault};
 ghost use Rattle.gm_book.specs.declared.fault.BookFault.TheVariants.{OutOfMemory};
-ghost use Rattle.gm_book.specs.Faults.{IsFaultOf};
+ghost use Rattle.gm_book.specs.inner.Faults.{IsFaultOf};
 
 /// A text stands for a book, or it has a first fault: by its grammar and limits, or else by its
 /// names and the kinds of its expressions.

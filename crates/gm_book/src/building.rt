@@ -6,11 +6,11 @@ ghost use Rattle.std.specs.Result.{result_err};
 ghost use Rattle.gm_model.specs.Maps.{IsSchema};
 ghost use Rattle.gm_model.specs.Rules.{rule_of};
 ghost use Rattle.gm_forms.specs.BookText.{MeansRule, with_name};
-ghost use Rattle.gm_forms.specs.Forms.{IsRuleIn, AreRulesIn, rule_form_of, forms_of};
-ghost use Rattle.gm_forms.specs.Held.{names_held};
-ghost use Rattle.gm_book.specs.Building.{HasNoFaultInRules, IsFaultOfNames, IsSoundRule};
-ghost use Rattle.gm_book.specs.FirstNameFault.{IsLeast, IsFaultInRule, IsRuleFault, IsFaultBehind};
-ghost use Rattle.gm_book.specs.Fitting.{IsFitting, HasExprs};
+ghost use Rattle.gm_forms.specs.inner.Forms.{IsRuleIn, AreRulesIn, rule_form_of, forms_of};
+ghost use Rattle.gm_forms.specs.inner.Held.{names_held};
+ghost use Rattle.gm_book.specs.inner.Building.{HasNoFaultInRules, IsFaultOfNames, IsSoundRule};
+ghost use Rattle.gm_book.specs.inner.FirstNameFault.{IsLeast, IsFaultInRule, IsRuleFault, IsFaultBehind};
+ghost use Rattle.gm_book.specs.inner.Fitting.{IsFitting, HasExprs};
 
 use crate::fault::BookFault;
 use crate::names::{NameFault, earlier, rule_fault, rule_names_fault, take_in};

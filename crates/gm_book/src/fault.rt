@@ -64,7 +64,7 @@ impl From<OutOfMemory> for BookFault {
 }
 
 impl From<NameFault> for BookFault {
-    ghost use Rattle.gm_book.specs.Building.{book_fault_of};
+    ghost use Rattle.gm_book.specs.inner.Building.{book_fault_of};
 
     ghost from_gives = { λ fault given. given ≡ book_fault_of fault };
 
@@ -78,7 +78,7 @@ impl From<NameFault> for BookFault {
 }
 
 impl From<FormFault> for BookFault {
-    ghost use Rattle.gm_book.specs.Faults.{book_fault_of_form};
+    ghost use Rattle.gm_book.specs.inner.Faults.{book_fault_of_form};
 
     ghost from_gives = { λ fault given. given ≡ book_fault_of_form fault };
 
@@ -92,7 +92,7 @@ impl From<FormFault> for BookFault {
 }
 
 impl From<SchemaFault> for BookFault {
-    ghost use Rattle.gm_book.specs.Faults.{book_fault_of_schema};
+    ghost use Rattle.gm_book.specs.inner.Faults.{book_fault_of_schema};
 
     ghost from_gives = { λ fault given. given ≡ book_fault_of_schema fault };
 

@@ -8,8 +8,8 @@ ghost use Rattle.gm_book.specs.Canonical.{canonical};
 ghost use Rattle.gm_forms.specs.BookText.{BookText, StandsForNoBook, NameFault, IsFirstNameFault};
 ghost use Rattle.gm_book.specs.declared.fault.BookFault.{BookFault};
 ghost use Rattle.gm_book.specs.declared.fault.BookFault.TheVariants.{OutOfMemory};
-ghost use Rattle.gm_book.specs.Faults.{IsFaultOf};
-ghost use Rattle.gm_book.specs.Unsigned.{HasUnsignedExprs};
+ghost use Rattle.gm_book.specs.inner.Faults.{IsFaultOf};
+ghost use Rattle.gm_book.specs.inner.Unsigned.{HasUnsignedExprs};
 
 /// A text has one version and stands for one book at most.
 pub fn one_book_at_most()

@@ -6,10 +6,10 @@ ghost use Rattle.std.specs.List.{AllByRecursion};
 ghost use Rattle.gm_model.specs.Maps.{IsSchema};
 ghost use Rattle.gm_forms.specs.BookText.{with_name};
 ghost use Rattle.gm_model.specs.Tokens.{bytes_of};
-ghost use Rattle.gm_forms.specs.Forms.{IsIn, IsSetIn, set_form_of, IsItemIn, IsParamIn, IsRuleIn, mention_of, item_of, param_form_of, rule_form_of};
-ghost use Rattle.gm_forms.specs.Held.{names_held};
-ghost use Rattle.gm_book.specs.FirstNameFault.{least_of, again_at, place_at, with_items, least_again, unknown_at, least_unknown, side_least, least_param, embed_names, least_set, least_assigned, rank_at, is_before, rule_least, IsLeast, IsFaultInRule};
-ghost use Rattle.gm_book.specs.Fitting.{IsFitting, HasExprs};
+ghost use Rattle.gm_forms.specs.inner.Forms.{IsIn, IsSetIn, set_form_of, IsItemIn, IsParamIn, IsRuleIn, mention_of, item_of, param_form_of, rule_form_of};
+ghost use Rattle.gm_forms.specs.inner.Held.{names_held};
+ghost use Rattle.gm_book.specs.inner.FirstNameFault.{least_of, again_at, place_at, with_items, least_again, unknown_at, least_unknown, side_least, least_param, embed_names, least_set, least_assigned, rank_at, is_before, rule_least, IsLeast, IsFaultInRule};
+ghost use Rattle.gm_book.specs.inner.Fitting.{IsFitting, HasExprs};
 
 use crate::values::{embed_number, values_fault};
 use gm_forms::{Item, NameKey, ParamForm, RuleForm, SetForm};

@@ -4,7 +4,7 @@ ghost use Rattle.std.specs.List.{flat_map, list_any};
 ghost use Rattle.gm_model.specs.Rules.{assignment_of, rule_of, node_of};
 ghost use Rattle.gm_text.specs.SchemaText as schemas;
 ghost use Rattle.gm_book.specs.Canonical.{canonical, param_text, params_text, rule_lines, left_lines, set_text, right_line, pre_line, link_line, letters_text, letter_text};
-ghost use Rattle.gm_book.specs.Printing.{CanBePrinted, NamesItsNodes, HasNamedExprs, AreNamed, AreEndsNodes, left_line, is_left};
+ghost use Rattle.gm_book.specs.inner.Printing.{CanBePrinted, NamesItsNodes, HasNamedExprs, AreNamed, AreEndsNodes, left_line, is_left};
 
 use gm_expr::print_expr;
 use gm_model::{Book, Letter, Link, Name, Node, OutOfMemory, Param, RuleTable, Schema, Set, Word};

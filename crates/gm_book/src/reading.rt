@@ -6,8 +6,8 @@ ghost use Rattle.gm_model.specs.Kinds.{IsTyped};
 ghost use Rattle.gm_model.specs.Maps.{IsSchema};
 ghost use Rattle.gm_model.specs.Rules.{rule_of};
 ghost use Rattle.gm_model.specs.Structure.{IsInRange, IsWithinLimits};
-ghost use Rattle.gm_book.specs.Faults.{IsFaultOf};
-ghost use Rattle.gm_book.specs.Unsigned.{HasUnsignedExprs};
+ghost use Rattle.gm_book.specs.inner.Faults.{IsFaultOf};
+ghost use Rattle.gm_book.specs.inner.Unsigned.{HasUnsignedExprs};
 
 use crate::building::build;
 use crate::fault::BookFault;

@@ -6,7 +6,7 @@ use Rattle.std.proofs.lemmas.List.{get_or_append_left, get_or_push, length_push,
 use Rattle.std.proofs.lemmas.List.Elements.{Contains-append_left, Contains-push, Contains-push_cases}
 use Rattle.gm_theory.proofs.ValuesReach.{IsDecided}
 use Rattle.gm_model.specs.Orbits.{IsListOf}
-use Rattle.gm_cells.specs.Ascending.{IsAscendingOf}
+use Rattle.gm_cells.specs.inner.Ascending.{IsAscendingOf}
 
 module _ (P : ℕ → Type 0) where
   pushed : (n : ℕ) (ds : List ℕ) → P n → IsAscendingOf P n ds → IsAscendingOf P (suc n) (ds ++ n ∷ [])

@@ -6,16 +6,16 @@ use Rattle.std.proofs.Math.Seq.{take-append_seam}
 use Rattle.std.proofs.lemmas.Bool.{cases_eq, false≢true, ne_eqb, eq-eqb}
 use Rattle.gm_model.specs.Maps.{IsGeneralised, IsDart}
 use Rattle.gm_model.specs.Orbits.{HasOrbits}
-use Rattle.gm_arena.specs.ArenaAsMap.{as_map}
-use Rattle.gm_arena.specs.ArenaMap.{ArenaMap, Dart, IsAt, IsLiveSlot, IsLiveName, name_at, alpha}
-use Rattle.gm_arena.specs.Lawful.{IsLawful}
+use Rattle.gm_arena.specs.inner.ArenaAsMap.{as_map}
+use Rattle.gm_arena.specs.inner.ArenaMap.{ArenaMap, Dart, IsAt, IsLiveSlot, IsLiveName, name_at, alpha}
+use Rattle.gm_arena.specs.inner.Lawful.{IsLawful}
 use Rattle.gm_arena.proofs.MapLemmas.{name_at-is, slot_of_name, name_below}
-use Rattle.gm_cells.specs.Ascending.{IsAscendingOf}
+use Rattle.gm_cells.specs.inner.Ascending.{IsAscendingOf}
 use Rattle.gm_cells.specs.Cells.{labels_to}
 use Rattle.gm_cells.specs.Colours.{IsFirstDart, HasColoursAt, AreOfFirstColour, LeadsTo}
-use Rattle.gm_cells.specs.Search.{IsFresh, IsSearched}
-use Rattle.gm_cells.specs.OddStart.{IsOddStart}
-use Rattle.gm_cells.specs.Painted.{colour_in, IsPaintedFrom, HasPaintedLead, IsBeforeOdd, IsOddLead, ArePainted}
+use Rattle.gm_cells.specs.inner.Search.{IsFresh, IsSearched}
+use Rattle.gm_cells.specs.inner.OddStart.{IsOddStart}
+use Rattle.gm_cells.specs.inner.Painted.{colour_in, IsPaintedFrom, HasPaintedLead, IsBeforeOdd, IsOddLead, ArePainted}
 use Rattle.gm_cells.specs.declared.components.Components.{Components}
 use Rattle.gm_cells.proofs.Ascending.{all_of}
 use Rattle.gm_cells.proofs.PaintedLemmas.{one_lead, zero_at}

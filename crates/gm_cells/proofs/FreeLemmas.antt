@@ -3,12 +3,12 @@ use Rattle.std.proofs.Common.{◌≡◌, ◌≢◌, ℕ, ◌+◌, ◌<◌, ◌�
 use Rattle.std.proofs.lemmas.Bool.{cases_eq}
 use Rattle.std.proofs.lemmas.List.{length_push}
 use Rattle.gm_arena.specs.declared.slot.Slot.{Slot}
-use Rattle.gm_arena.specs.ArenaAsMap.{as_map}
-use Rattle.gm_arena.specs.ArenaMap.{ArenaMap, IsAt, IsLiveName, alpha, name_at}
-use Rattle.gm_arena.specs.InOrder.{HasNoneFrom, IsFirstFrom}
-use Rattle.gm_arena.specs.Lawful.{IsLawful}
+use Rattle.gm_arena.specs.inner.ArenaAsMap.{as_map}
+use Rattle.gm_arena.specs.inner.ArenaMap.{ArenaMap, IsAt, IsLiveName, alpha, name_at}
+use Rattle.gm_arena.specs.inner.InOrder.{HasNoneFrom, IsFirstFrom}
+use Rattle.gm_arena.specs.inner.Lawful.{IsLawful}
 use Rattle.gm_arena.proofs.MapLemmas.{name_at-is}
-use Rattle.gm_cells.specs.Ascending.{IsAscendingOf}
+use Rattle.gm_cells.specs.inner.Ascending.{IsAscendingOf}
 use Rattle.gm_cells.specs.Cells.{HasFree}
 use Rattle.gm_cells.proofs.Ascending.{all_of, next_has, next_not, none_below}
 use Rattle.gm_cells.proofs.InOrder.{below_all, name_up, none_between}

@@ -1,8 +1,8 @@
 -- The darts in ascending order of their names, one after another.
 use Rattle.std.proofs.Common.{◌≡◌, ℕ, ◌+◌, ◌<◌, ◌≤◌, ◌⊎◌, Some, is_some, sym, ap, ◌∙◌, inl, inr, arith}
 use Rattle.std.proofs.lemmas.Bool.{cases_lt, false≢true}
-use Rattle.gm_arena.specs.ArenaMap.{ArenaMap, IsAt, IsLiveName}
-use Rattle.gm_arena.specs.InOrder.{HasNoneFrom, IsFirstFrom}
+use Rattle.gm_arena.specs.inner.ArenaMap.{ArenaMap, IsAt, IsLiveName}
+use Rattle.gm_arena.specs.inner.InOrder.{HasNoneFrom, IsFirstFrom}
 
 some_same : (x y : ℕ) → Some x ≡ Some y → x ≡ y
 some_same x y e = cc

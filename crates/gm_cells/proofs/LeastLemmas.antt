@@ -3,13 +3,13 @@ use Rattle.std.proofs.Common.{◌≡◌, ℕ, ◌+◌, ◌-◌, ◌%◌, ◌<◌
 use Rattle.std.proofs.lemmas.Bool.{cases_order}
 use Rattle.std.proofs.lemmas.List.{append-nil, length_push}
 use Rattle.gm_model.specs.Maps.{IsGeneralised}
-use Rattle.gm_arena.specs.ArenaAsMap.{as_map}
-use Rattle.gm_arena.specs.ArenaMap.{ArenaMap, IsAt, IsLiveSlot, IsLiveName, name_at, alpha}
-use Rattle.gm_arena.specs.Lawful.{IsLawful}
+use Rattle.gm_arena.specs.inner.ArenaAsMap.{as_map}
+use Rattle.gm_arena.specs.inner.ArenaMap.{ArenaMap, IsAt, IsLiveSlot, IsLiveName, name_at, alpha}
+use Rattle.gm_arena.specs.inner.Lawful.{IsLawful}
 use Rattle.gm_arena.proofs.MapLemmas.{name_at-is, IsLiveName-name_at, slot_of_name}
 use Rattle.gm_cells.specs.Colours.{IsLower, IsOddWalk, IsLeastOddWalk, IsFirstOdd}
-use Rattle.gm_cells.specs.Search.{mark_of, Leads, IsMarkedBy}
-use Rattle.gm_cells.specs.OddStart.{IsOddStart, IsNearer, IsFirstNearer}
+use Rattle.gm_cells.specs.inner.Search.{mark_of, Leads, IsMarkedBy}
+use Rattle.gm_cells.specs.inner.OddStart.{IsOddStart, IsNearer, IsFirstNearer}
 use Rattle.gm_cells.proofs.SearchLemmas.{mark_parity}
 use Rattle.gm_cells.proofs.WalkLemmas.{step_back, no_colours}
 

@@ -11,7 +11,7 @@ use Rattle.gm_theory.proofs.ValuesFound.{IsLeast, least_below}
 use Rattle.gm_theory.proofs.ValuesReach.{IsDecided}
 use Rattle.gm_walk.proofs.OrbitLemmas.{orbit_join}
 use Rattle.gm_cells.proofs.Ascending.{ascending_below}
-use Rattle.gm_cells.specs.Ascending.{IsAscendingOf}
+use Rattle.gm_cells.specs.inner.Ascending.{IsAscendingOf}
 use Rattle.gm_cells.proofs.CountsFound.{decide_dart, decide_joined, decide_lead}
 use Rattle.gm_cells.proofs.LeastWalkFound.{least_odd_walk}
 use Rattle.gm_cells.proofs.TwoOrOdd.{two_or_odd}

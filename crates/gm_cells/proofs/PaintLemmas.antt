@@ -10,13 +10,13 @@ use Rattle.std.proofs.lemmas.List.Sums.{sum_by-set}
 use Rattle.gm_model.specs.Maps.{IsGeneralised}
 use Rattle.gm_model.specs.Orbits.{IsPairBefore}
 use Rattle.gm_model.specs.declared.value.Value.{Value}
-use Rattle.gm_arena.specs.ArenaAsMap.{as_map}
-use Rattle.gm_arena.specs.ArenaMap.{ArenaMap, Dart, IsAt, IsLiveSlot, IsLiveName, name_at, alpha}
+use Rattle.gm_arena.specs.inner.ArenaAsMap.{as_map}
+use Rattle.gm_arena.specs.inner.ArenaMap.{ArenaMap, Dart, IsAt, IsLiveSlot, IsLiveName, name_at, alpha}
 use Rattle.gm_arena.specs.declared.slot.Slot.{Slot}
-use Rattle.gm_arena.specs.Lawful.{IsLawful}
+use Rattle.gm_arena.specs.inner.Lawful.{IsLawful}
 use Rattle.gm_arena.proofs.MapLemmas.{IsAt-name_at, name_at-is, IsLiveName-name_at}
-use Rattle.gm_cells.specs.Search.{Leads}
-use Rattle.gm_cells.specs.Painted.{colour_in, AreKept, IsPaintedFrom, IsFollowed, HasOddWalk, IsUnpainted, IsPainted, no_place, queued_at, StandsIn, unpainted, IsPainting}
+use Rattle.gm_cells.specs.inner.Search.{Leads}
+use Rattle.gm_cells.specs.inner.Painted.{colour_in, AreKept, IsPaintedFrom, IsFollowed, HasOddWalk, IsUnpainted, IsPainted, no_place, queued_at, StandsIn, unpainted, IsPainting}
 use Rattle.gm_cells.proofs.SearchLemmas.{before_next}
 use Rattle.gm_cells.proofs.WalkLemmas.{step_back, turned}
 

@@ -4,17 +4,17 @@ use Rattle.std.specs.Option.{IsSome}
 use Rattle.std.proofs.lemmas.Bool.{cases_lt, cases_eq, false≢true}
 use Rattle.std.proofs.lemmas.List.{get_or-replicate, get_or_past, length-replicate, length_push}
 use Rattle.gm_model.specs.Maps.{IsGeneralised}
-use Rattle.gm_arena.specs.ArenaAsMap.{as_map}
-use Rattle.gm_arena.specs.ArenaMap.{ArenaMap, IsAt, IsLiveSlot, IsLiveName, name_at, alpha}
-use Rattle.gm_arena.specs.InOrder.{HasNoneFrom, IsFirstFrom}
-use Rattle.gm_arena.specs.Lawful.{IsLawful}
+use Rattle.gm_arena.specs.inner.ArenaAsMap.{as_map}
+use Rattle.gm_arena.specs.inner.ArenaMap.{ArenaMap, IsAt, IsLiveSlot, IsLiveName, name_at, alpha}
+use Rattle.gm_arena.specs.inner.InOrder.{HasNoneFrom, IsFirstFrom}
+use Rattle.gm_arena.specs.inner.Lawful.{IsLawful}
 use Rattle.gm_arena.specs.declared.slot.Slot.{Slot}
 use Rattle.gm_arena.proofs.MapLemmas.{IsAt-name_at, name_at-is, IsLiveName-name_at, slot_of_name}
 use Rattle.gm_walk.proofs.OrbitLemmas.{orbit_join}
 use Rattle.gm_cells.specs.Cells.{labels_to}
 use Rattle.gm_cells.specs.Colours.{IsFirstDart}
-use Rattle.gm_cells.specs.Search.{Leads}
-use Rattle.gm_cells.specs.Painted.{colour_in, IsPaintedFrom, IsFollowed, HasOddWalk, IsUnpainted, IsPainted, IsBeforeOdd, IsOddOrNone, ArePainted}
+use Rattle.gm_cells.specs.inner.Search.{Leads}
+use Rattle.gm_cells.specs.inner.Painted.{colour_in, IsPaintedFrom, IsFollowed, HasOddWalk, IsUnpainted, IsPainted, IsBeforeOdd, IsOddOrNone, ArePainted}
 use Rattle.gm_cells.specs.declared.components.Components.{Components}
 use Rattle.gm_cells.proofs.Ascending.{none_below, gap, next_has, next_not}
 use Rattle.gm_cells.proofs.InOrder.{name_up, none_between, earlier_or_this, below_all}

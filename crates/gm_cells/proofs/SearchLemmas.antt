@@ -5,14 +5,14 @@ use Rattle.std.proofs.lemmas.List.{get_or_append_left, get_or_push, get_or-set_s
 use Rattle.std.proofs.lemmas.List.Sums.{sum_by-set, count_by-le-length}
 use Rattle.gm_model.specs.Maps.{IsGeneralised}
 use Rattle.gm_model.specs.Orbits.{IsPairBefore}
-use Rattle.gm_arena.specs.ArenaAsMap.{as_map}
-use Rattle.gm_arena.specs.ArenaMap.{ArenaMap, IsAt, IsLiveSlot, IsLiveName, name_at, alpha}
+use Rattle.gm_arena.specs.inner.ArenaAsMap.{as_map}
+use Rattle.gm_arena.specs.inner.ArenaMap.{ArenaMap, IsAt, IsLiveSlot, IsLiveName, name_at, alpha}
 use Rattle.gm_arena.specs.declared.slot.Slot.{Slot}
-use Rattle.gm_arena.specs.Lawful.{IsLawful}
+use Rattle.gm_arena.specs.inner.Lawful.{IsLawful}
 use Rattle.gm_arena.proofs.MapLemmas.{IsAt-name_at, name_at-is, IsLiveName-name_at}
 use Rattle.gm_cells.specs.declared.search.Visit.{Visit}
-use Rattle.gm_cells.specs.Search.{mark_of, Leads, IsFresh, IsSearched, Reaches, nowhere, slot_in, length_in, dart_in, unmarked, IsQueued, IsInQueue, IsFound, IsSearching}
-use Rattle.gm_cells.specs.Search.Reaches.{Known, Added}
+use Rattle.gm_cells.specs.inner.Search.{mark_of, Leads, IsFresh, IsSearched, Reaches, nowhere, slot_in, length_in, dart_in, unmarked, IsQueued, IsInQueue, IsFound, IsSearching}
+use Rattle.gm_cells.specs.inner.Search.Reaches.{Known, Added}
 use Rattle.gm_cells.proofs.WalkLemmas.{step_back}
 
 -- the mark goes by the parity

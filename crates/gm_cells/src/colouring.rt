@@ -1,10 +1,10 @@
 //! Whether the darts of a map have two colours, by the colours of all components.
 
 ghost use Rattle.std.specs.Prelude.{◌≡◌, ℕ, ◌*◌, ◌<◌, ◌≤◌, length, replicate, None, IfOk};
-ghost use Rattle.gm_arena.specs.ArenaAsMap.{as_map};
-ghost use Rattle.gm_arena.specs.ArenaMap.{name_at};
+ghost use Rattle.gm_arena.specs.inner.ArenaAsMap.{as_map};
+ghost use Rattle.gm_arena.specs.inner.ArenaMap.{name_at};
 ghost use Rattle.gm_cells.specs.Colours.{AreOfFirstColour, HasColoursAt, IsFirstDart, IsOrientation};
-ghost use Rattle.gm_cells.specs.Painted.{ArePainted, IsOddLead};
+ghost use Rattle.gm_cells.specs.inner.Painted.{ArePainted, IsOddLead};
 ghost use Rattle.gm_model.specs.Maps.{IsGeneralised};
 
 use crate::components::{Components, no_colours, paint_components};

@@ -1,11 +1,11 @@
 //! The components of a map, each with two colours for its darts or with none that fit.
 
 ghost use Rattle.std.specs.Prelude.{◌≡◌, ℕ, ◌+◌, ◌<◌, length, replicate, Some, None, IfOk, IsSome, IsTrue, false};
-ghost use Rattle.gm_arena.specs.ArenaAsMap.{as_map};
-ghost use Rattle.gm_arena.specs.ArenaMap.{IsLiveSlot, name_at};
-ghost use Rattle.gm_arena.specs.InOrder.{IsFirstFrom};
-ghost use Rattle.gm_arena.specs.Lawful.{IsLawful};
-ghost use Rattle.gm_cells.specs.Painted.{ArePainted, IsUnpainted};
+ghost use Rattle.gm_arena.specs.inner.ArenaAsMap.{as_map};
+ghost use Rattle.gm_arena.specs.inner.ArenaMap.{IsLiveSlot, name_at};
+ghost use Rattle.gm_arena.specs.inner.InOrder.{IsFirstFrom};
+ghost use Rattle.gm_arena.specs.inner.Lawful.{IsLawful};
+ghost use Rattle.gm_cells.specs.inner.Painted.{ArePainted, IsUnpainted};
 ghost use Rattle.gm_model.specs.Maps.{IsGeneralised};
 
 use crate::painting::{NONE, paint};

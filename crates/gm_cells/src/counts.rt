@@ -1,7 +1,7 @@
 //! How many cells, components and free darts a map has.
 
 ghost use Rattle.std.specs.Prelude.{◌+◌, ◌*◌, ◌≤◌, IfOk};
-ghost use Rattle.gm_arena.specs.ArenaAsMap.{as_map};
+ghost use Rattle.gm_arena.specs.inner.ArenaAsMap.{as_map};
 ghost use Rattle.gm_cells.specs.Cells.{AreCounts, HasCells, labels_to};
 ghost use Rattle.gm_cells.specs.Colours.{IsOrientation};
 ghost use Rattle.gm_model.specs.Maps.{IsDart, IsGeneralised};

@@ -1,10 +1,10 @@
 //! Counting the darts that have no neighbour along a label.
 
 ghost use Rattle.std.specs.Prelude.{◌≡◌, ◌≢◌, ℕ, ◌+◌, ◌<◌, length, replicate, slice_index, IfOk};
-ghost use Rattle.gm_arena.specs.ArenaAsMap.{as_map};
-ghost use Rattle.gm_arena.specs.Lawful.{IsLawful};
+ghost use Rattle.gm_arena.specs.inner.ArenaAsMap.{as_map};
+ghost use Rattle.gm_arena.specs.inner.Lawful.{IsLawful};
 ghost use Rattle.gm_cells.specs.Cells.{HasFreeDarts};
-ghost use Rattle.gm_cells.specs.Painted.{queued_at};
+ghost use Rattle.gm_cells.specs.inner.Painted.{queued_at};
 
 use gm_arena::{Arena, Slot, Steps};
 use gm_model::OutOfMemory;

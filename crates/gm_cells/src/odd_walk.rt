@@ -1,10 +1,10 @@
 //! The least odd walk from a dart, by the marks of its search.
 
 ghost use Rattle.std.specs.Prelude.{◌≡◌, ℕ, ◌*◌, ◌<◌, length, IfOk, MatchOption};
-ghost use Rattle.gm_arena.specs.ArenaAsMap.{as_map};
-ghost use Rattle.gm_arena.specs.ArenaMap.{IsLiveSlot, alpha, name_at};
+ghost use Rattle.gm_arena.specs.inner.ArenaAsMap.{as_map};
+ghost use Rattle.gm_arena.specs.inner.ArenaMap.{IsLiveSlot, alpha, name_at};
 ghost use Rattle.gm_cells.specs.Colours.{IsLeastOddWalk};
-ghost use Rattle.gm_cells.specs.OddStart.{IsFirstNearer, IsNearer, IsOddStart};
+ghost use Rattle.gm_cells.specs.inner.OddStart.{IsFirstNearer, IsNearer, IsOddStart};
 ghost use Rattle.gm_model.specs.Maps.{IsGeneralised};
 
 use gm_arena::{Arena, Slot, Steps};

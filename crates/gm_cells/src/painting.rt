@@ -1,10 +1,10 @@
 //! Two colours for the darts of one component, by a search that takes a byte for each slot.
 
 ghost use Rattle.std.specs.Prelude.{◌≡◌, ℕ, ◌+◌, ◌<◌, ◌≤◌, List, length, IfOk};
-ghost use Rattle.gm_arena.specs.ArenaAsMap.{as_map};
-ghost use Rattle.gm_arena.specs.ArenaMap.{IsLiveSlot, name_at};
-ghost use Rattle.gm_arena.specs.Lawful.{IsLawful};
-ghost use Rattle.gm_cells.specs.Painted.{IsPainted, IsPainting, IsUnpainted, colour_in, queued_at};
+ghost use Rattle.gm_arena.specs.inner.ArenaAsMap.{as_map};
+ghost use Rattle.gm_arena.specs.inner.ArenaMap.{IsLiveSlot, name_at};
+ghost use Rattle.gm_arena.specs.inner.Lawful.{IsLawful};
+ghost use Rattle.gm_cells.specs.inner.Painted.{IsPainted, IsPainting, IsUnpainted, colour_in, queued_at};
 ghost use Rattle.gm_model.specs.Maps.{IsGeneralised};
 
 use gm_arena::{Arena, Slot, Steps};

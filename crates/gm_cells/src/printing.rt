@@ -2,7 +2,7 @@
 
 ghost use Rattle.std.specs.Prelude.{◌≡◌, ◌*◌, ◌≤◌, ◌++◌, length, drop, IfOk, OnErr, OnOk, decimal, codes};
 ghost use Rattle.gm_cells.specs.CellsText.{numbered, listed, counts_text, orientation_text};
-ghost use Rattle.gm_text.specs.SchemaPrinting.{IsCut};
+ghost use Rattle.gm_text.specs.inner.SchemaPrinting.{IsCut};
 
 use crate::counts::Counts;
 use crate::orientation::Orientation;

@@ -1,10 +1,10 @@
 //! A breadth-first search over the darts of a component, each with the parity of its distance.
 
 ghost use Rattle.std.specs.Prelude.{◌≡◌, ℕ, ◌+◌, ◌*◌, ◌<◌, ◌≤◌, List, [], length, replicate, IfOk, OnOk};
-ghost use Rattle.gm_arena.specs.ArenaAsMap.{as_map};
-ghost use Rattle.gm_arena.specs.ArenaMap.{IsLiveSlot, name_at};
-ghost use Rattle.gm_arena.specs.Lawful.{IsLawful};
-ghost use Rattle.gm_cells.specs.Search.{IsFresh, IsSearched, IsSearching, Reaches, length_in, slot_in};
+ghost use Rattle.gm_arena.specs.inner.ArenaAsMap.{as_map};
+ghost use Rattle.gm_arena.specs.inner.ArenaMap.{IsLiveSlot, name_at};
+ghost use Rattle.gm_arena.specs.inner.Lawful.{IsLawful};
+ghost use Rattle.gm_cells.specs.inner.Search.{IsFresh, IsSearched, IsSearching, Reaches, length_in, slot_in};
 ghost use Rattle.gm_model.specs.Maps.{IsGeneralised};
 
 use gm_arena::{Arena, Slot, Steps};

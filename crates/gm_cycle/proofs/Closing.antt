@@ -6,8 +6,8 @@ use Rattle.gm_model.specs.declared.step.Step.{Step}
 use Rattle.gm_model.specs.declared.step.Step.TheVariants.{Absent, Exp, Imp}
 use Rattle.gm_model.specs.Rules.{Rule, has_word, step, hook_label}
 use Rattle.gm_model.specs.Squares.{ClosesBy, Closes, ClosesRight, IsSquareGood}
-use Rattle.gm_cycle.specs.NodeSquares.{TellsStays}
-use Rattle.gm_cycle.specs.StepRows.{step_of, HasEnds, HasRows}
+use Rattle.gm_cycle.specs.inner.NodeSquares.{TellsStays}
+use Rattle.gm_cycle.specs.inner.StepRows.{step_of, HasEnds, HasRows}
 
 module _ (f g : ℕ → ℕ → Step) (label : ℕ → ℕ) (i j : ℕ) where
   closes_by-same : (s t : Step) → ((y : ℕ) → s ≡ Exp y → f y j ≡ g y j) → ((z : ℕ) → t ≡ Exp z → f z i ≡ g z i) → ClosesBy f label i j s t → ClosesBy g label i j s t

@@ -11,7 +11,7 @@ use Rattle.gm_model.specs.declared.step.Step.TheVariants.{Exp}
 use Rattle.gm_model.specs.Rules.{Rule, letters, links_on, is_end, is_label, other_end, step_by}
 use Rattle.gm_model.specs.Structure.{IsInRange, IsLinkInRange}
 use Rattle.gm_model.proofs.Nodes.{node_below}
-use Rattle.gm_cycle.specs.StepRows.{HasEnds, HasRows}
+use Rattle.gm_cycle.specs.inner.StepRows.{HasEnds, HasRows}
 
 module _ (n : ℕ) (rule : Rule) (side : Side) (x i : ℕ) where
   end_below : (link : Link) → IsLinkInRange n rule side link → other_end x link < length rule.nodes

@@ -3,7 +3,7 @@ use Rattle.std.proofs.Common.{ℕ, ◌+◌, ◌<◌, ◌≤◌, inl, inr, sym, s
 use Rattle.gm_model.specs.declared.rule.RuleFault.{RuleFault}
 use Rattle.gm_model.specs.Rules.{Rule}
 use Rattle.gm_model.specs.Squares.{IsSquareGood, IsSquareBefore, IsSquareFault, OpenSquare}
-use Rattle.gm_cycle.specs.NodeSquares.{HasNodeSquares, IsNodeFault}
+use Rattle.gm_cycle.specs.inner.NodeSquares.{HasNodeSquares, IsNodeFault}
 
 -- the squares at x of labels up to n are good
 abbrev pub HasSquaresAt : ℕ → Rule → ℕ → Type 0

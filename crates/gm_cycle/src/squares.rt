@@ -2,8 +2,8 @@ ghost use Rattle.std.specs.Prelude.{◌≡◌, ◌↔◌, ◌+◌, ◌<◌, ◌�
 ghost use Rattle.gm_model.specs.declared.rule.Side.TheVariants.{Right};
 ghost use Rattle.gm_model.specs.Rules.{rule_of, has_word};
 ghost use Rattle.gm_model.specs.Squares.{IsSquareGood};
-ghost use Rattle.gm_cycle.specs.NodeSquares.{TellsStays, HasLabelSquares, HasNodeSquares, IsLabelFault, IsNodeFault};
-ghost use Rattle.gm_cycle.specs.StepRows.{HasRows, HasEnds};
+ghost use Rattle.gm_cycle.specs.inner.NodeSquares.{TellsStays, HasLabelSquares, HasNodeSquares, IsLabelFault, IsNodeFault};
+ghost use Rattle.gm_cycle.specs.inner.StepRows.{HasRows, HasEnds};
 
 use crate::steps::{StepRows, closes, step_at};
 use gm_model::{MOST_LABELS, RuleFault, RuleTable, Side};

@@ -1,7 +1,7 @@
 ghost use Rattle.std.specs.Prelude.{◌≡◌, ◌<◌, ◌≤◌, ◌↔◌, ℕ, length, IsTrue};
 ghost use Rattle.gm_model.specs.Rules.{rule_of, hook_label};
 ghost use Rattle.gm_model.specs.Squares.{Closes, IsApart};
-ghost use Rattle.gm_cycle.specs.StepRows.{step_of, HasEnds, HasRows};
+ghost use Rattle.gm_cycle.specs.inner.StepRows.{step_of, HasEnds, HasRows};
 
 use gm_model::{Letter, MOST_LABELS, MOST_NODES, RuleTable, Side, Step};
 

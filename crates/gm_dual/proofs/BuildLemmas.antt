@@ -10,13 +10,13 @@ use Rattle.gm_model.specs.declared.schema.Embed.{Embed}
 use Rattle.gm_model.specs.declared.schema.Schema.{Schema}
 use Rattle.gm_model.specs.declared.value.Value.{Value}
 use Rattle.gm_model.specs.declared.value.Value.TheVariants as values
-use Rattle.gm_arena.specs.ArenaAsMap.{as_map, value}
-use Rattle.gm_arena.specs.ArenaMap.{ArenaMap, Dart, IsLiveName, alpha}
-use Rattle.gm_arena.specs.Edits.{empty_map, free_dart, turned, with_alpha, with_dart}
-use Rattle.gm_arena.specs.Lawful.{AreGoodValues, IsLawful}
+use Rattle.gm_arena.specs.inner.ArenaAsMap.{as_map, value}
+use Rattle.gm_arena.specs.inner.ArenaMap.{ArenaMap, Dart, IsLiveName, alpha}
+use Rattle.gm_arena.specs.inner.Edits.{empty_map, free_dart, turned, with_alpha, with_dart}
+use Rattle.gm_arena.specs.inner.Lawful.{AreGoodValues, IsLawful}
 use Rattle.gm_arena.proofs.MapLemmas.{get-with_alpha_other, get-with_dart_other, get-with_dart_same}
 use Rattle.gm_walk.proofs.CountLemmas.{is_live, is_named, rises}
-use Rattle.gm_dual.specs.Building.{AreAdded, AreLinked, IsAllBut, IsLinkedTo, dual_of, free_of}
+use Rattle.gm_dual.specs.inner.Building.{AreAdded, AreLinked, IsAllBut, IsLinkedTo, dual_of, free_of}
 use Rattle.gm_dual.specs.Duals.{dual_embed, dual_label, dual_map, dual_schema}
 use Rattle.gm_dual.proofs.LabelLemmas.{turned_neighbour}
 

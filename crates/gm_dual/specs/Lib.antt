@@ -1,2 +1,2 @@
 pub mod Duals
-pub mod Building
+pub mod inner

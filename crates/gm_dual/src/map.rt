@@ -3,10 +3,10 @@
 ghost use Rattle.std.specs.Prelude.{◌≡◌, ◌≢◌, ℕ, ◌+◌, ◌*◌, ◌<◌, ◌≤◌, length, Some, IfOk};
 ghost use Rattle.std.specs.FinMap.{get, keys};
 ghost use Rattle.gm_model.specs.Maps.{IsSound};
-ghost use Rattle.gm_arena.specs.ArenaAsMap.{as_map};
-ghost use Rattle.gm_arena.specs.ArenaMap.{Dart, IsAt, IsLiveName, IsLiveSlot, name_at};
-ghost use Rattle.gm_arena.specs.Lawful.{IsLawful};
-ghost use Rattle.gm_dual.specs.Building.{AreAdded, AreLinked, IsAllBut, IsLinkedTo, dual_of, free_of};
+ghost use Rattle.gm_arena.specs.inner.ArenaAsMap.{as_map};
+ghost use Rattle.gm_arena.specs.inner.ArenaMap.{Dart, IsAt, IsLiveName, IsLiveSlot, name_at};
+ghost use Rattle.gm_arena.specs.inner.Lawful.{IsLawful};
+ghost use Rattle.gm_dual.specs.inner.Building.{AreAdded, AreLinked, IsAllBut, IsLinkedTo, dual_of, free_of};
 ghost use Rattle.gm_dual.specs.Duals as duals;
 
 use crate::schema::dual_schema;

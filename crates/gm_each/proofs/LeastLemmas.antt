@@ -8,9 +8,9 @@ use Rattle.std.proofs.lemmas.List.{get_or_append_left, get_or_push, length_push}
 use Rattle.gm_model.specs.declared.word.Letter.{Letter}
 use Rattle.gm_model.specs.Maps.{IsGeneralised}
 use Rattle.gm_model.specs.Orbits.{Labels, IsInOrbit, IsLead, IsListOf}
-use Rattle.gm_arena.specs.ArenaAsMap.{as_map}
-use Rattle.gm_arena.specs.ArenaMap.{ArenaMap, IsLiveName, alpha}
-use Rattle.gm_walk.specs.Seen.{HasGrownBy, HasLettersOf, IsClosed}
+use Rattle.gm_arena.specs.inner.ArenaAsMap.{as_map}
+use Rattle.gm_arena.specs.inner.ArenaMap.{ArenaMap, IsLiveName, alpha}
+use Rattle.gm_walk.specs.inner.Seen.{HasGrownBy, HasLettersOf, IsClosed}
 use Rattle.gm_walk.proofs.CountLemmas.{IsEarly, is_live, is_named, less_than_next, listed_all, listed_no, listed_none, listed_yes, rises}
 use Rattle.gm_walk.proofs.GrowLemmas.{contains_on, grown_closed, grown_only}
 use Rattle.gm_walk.proofs.LeadLemmas.{has_orbit}

@@ -7,9 +7,9 @@ ghost use Rattle.gm_model.specs.declared.word.Letter.TheVariants.{At};
 ghost use Rattle.gm_model.specs.Labels.{has};
 ghost use Rattle.gm_model.specs.Maps.{IsGeneralised};
 ghost use Rattle.gm_model.specs.Runs.{AreLeads};
-ghost use Rattle.gm_arena.specs.ArenaAsMap.{as_map};
-ghost use Rattle.gm_walk.specs.Room.{Fits};
-ghost use Rattle.gm_walk.specs.Walks.{letters_of};
+ghost use Rattle.gm_arena.specs.inner.ArenaAsMap.{as_map};
+ghost use Rattle.gm_walk.specs.inner.Room.{Fits};
+ghost use Rattle.gm_walk.specs.inner.Walks.{letters_of};
 
 use gm_arena::{Arena, Steps};
 use gm_model::{Mask, OutOfMemory};

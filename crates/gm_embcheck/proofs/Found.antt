@@ -8,10 +8,10 @@ use Rattle.gm_model.specs.Components.{IsTogether, WereTogether, IsAssigned, IsLe
 use Rattle.gm_model.specs.Orbits.{Labels}
 use Rattle.gm_model.specs.Rules.{Rule, has_word, width}
 use Rattle.gm_model.specs.Structure.{AreGood, IsFirstBad, IsJoined}
-use Rattle.gm_embcheck.specs.Bounds.{HasBounds}
-use Rattle.gm_embcheck.specs.Faults.{IsSecondAssigned}
-use Rattle.gm_embcheck.specs.Firsts.{HasNoneFrom, IsFirstFrom}
-use Rattle.gm_embcheck.specs.NodeSets.{is_in, IsIn, IsAssignedIn, IsPreservedOutside, IsCovered}
+use Rattle.gm_embcheck.specs.inner.Bounds.{HasBounds}
+use Rattle.gm_embcheck.specs.inner.Faults.{IsSecondAssigned}
+use Rattle.gm_embcheck.specs.inner.Firsts.{HasNoneFrom, IsFirstFrom}
+use Rattle.gm_embcheck.specs.inner.NodeSets.{is_in, IsIn, IsAssignedIn, IsPreservedOutside, IsCovered}
 
 first_true : (a b : Bool) → (a && b) ≡ true → a ≡ true
 first_true true b h = refl

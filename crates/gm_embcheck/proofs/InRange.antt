@@ -12,7 +12,7 @@ use Rattle.gm_model.specs.declared.word.Letter.TheVariants.{At}
 use Rattle.gm_model.specs.Rules.{Rule, has_word, word_at, letters, links_on}
 use Rattle.gm_model.specs.Structure.{IsInRange, IsWithinLimits, IsLinkInRange, HasIncidence}
 use Rattle.gm_model.proofs.Nodes.{node_below}
-use Rattle.gm_embcheck.specs.Bounds.{HasBounds}
+use Rattle.gm_embcheck.specs.inner.Bounds.{HasBounds}
 
 -- a node with a letter has a word
 word_here : (rule : Rule) (side : Side) (x m i : ℕ) → slice_get (letters rule side x) m ≡ Some (At i) → has_word rule side x ≡ true

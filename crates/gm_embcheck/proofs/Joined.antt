@@ -6,7 +6,7 @@ use Rattle.gm_model.specs.declared.rule.Side.{Side}
 use Rattle.gm_model.specs.Orbits.{Labels, IsPathIn}
 use Rattle.gm_model.specs.Rules.{Rule, has_word, IsLinked, link_from, links_on}
 use Rattle.gm_model.specs.Structure.{Leads, IsJoined}
-use Rattle.gm_embcheck.specs.Bounds.{HasBounds}
+use Rattle.gm_embcheck.specs.inner.Bounds.{HasBounds}
 
 module _ (links : List Link) (o : Labels) where
   pub linked_back : (x i y : ℕ) → IsLinked links x i y → IsLinked links y i x

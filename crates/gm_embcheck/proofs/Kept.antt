@@ -7,9 +7,9 @@ use Rattle.gm_model.specs.Orbits.{Labels}
 use Rattle.gm_model.specs.Rules.{Rule, has_word, is_preserved}
 use Rattle.gm_model.specs.Structure.{IsJoined}
 use Rattle.gm_model.proofs.Nodes.{node_below}
-use Rattle.gm_embcheck.specs.Bounds.{HasBounds}
-use Rattle.gm_embcheck.specs.Keepers.{AreFirstPreserved, IsFirstOf, IsPreservedOf}
-use Rattle.gm_embcheck.specs.Leaders.{leader_in, AreLeaders}
+use Rattle.gm_embcheck.specs.inner.Bounds.{HasBounds}
+use Rattle.gm_embcheck.specs.inner.Keepers.{AreFirstPreserved, IsFirstOf, IsPreservedOf}
+use Rattle.gm_embcheck.specs.inner.Leaders.{leader_in, AreLeaders}
 use Rattle.gm_embcheck.proofs.Joined.{joined_same, joined_word}
 use Rattle.gm_embcheck.proofs.Leaders.{same_leader, led_joined}
 

@@ -7,9 +7,9 @@ use Rattle.gm_model.specs.declared.rule.Link.{Link}
 use Rattle.gm_model.specs.Orbits.{Labels, IsPathIn}
 use Rattle.gm_model.specs.Rules.{IsLinked, link_from}
 use Rattle.gm_model.specs.Structure.{Leads, IsJoined}
-use Rattle.gm_embcheck.specs.Bounds.{HasLinkBounds}
-use Rattle.gm_embcheck.specs.Leaders.{leader_in, AreLeaders, HasJoined}
-use Rattle.gm_embcheck.specs.NodeSets.{IsIn}
+use Rattle.gm_embcheck.specs.inner.Bounds.{HasLinkBounds}
+use Rattle.gm_embcheck.specs.inner.Leaders.{leader_in, AreLeaders, HasJoined}
+use Rattle.gm_embcheck.specs.inner.NodeSets.{IsIn}
 use Rattle.gm_embcheck.proofs.Joined.{joined_all, joined_back, joined_one, joined_same}
 
 pub equal_or_not : (a b : ℕ) → (a ≡ b) ⊎ (a ≢ b)

@@ -4,8 +4,8 @@ use Rattle.gm_model.specs.declared.rule.Side.TheVariants.{Right}
 use Rattle.gm_model.specs.Components.{HasSource, IsLeader}
 use Rattle.gm_model.specs.Orbits.{Labels}
 use Rattle.gm_model.specs.Rules.{Rule, has_word}
-use Rattle.gm_embcheck.specs.Bounds.{HasBounds}
-use Rattle.gm_embcheck.specs.Leaders.{leader_in, AreLeaders}
+use Rattle.gm_embcheck.specs.inner.Bounds.{HasBounds}
+use Rattle.gm_embcheck.specs.inner.Leaders.{leader_in, AreLeaders}
 use Rattle.gm_embcheck.proofs.Joined.{joined_back, joined_same, joined_word}
 use Rattle.gm_embcheck.proofs.Transfer.{same_source}
 

@@ -8,7 +8,7 @@ use Rattle.gm_model.specs.Components.{HasSource, IsTogether, IsEmbedFault, First
 use Rattle.gm_model.specs.Maps.{IsEmbedAt, type_of}
 use Rattle.gm_model.specs.Orbits.{Labels}
 use Rattle.gm_model.specs.Rules.{Rule, has_word}
-use Rattle.gm_embcheck.specs.Faults.{IsFirstComponentFault}
+use Rattle.gm_embcheck.specs.inner.Faults.{IsFirstComponentFault}
 use Rattle.gm_embcheck.proofs.Joined.{joined_all, joined_back}
 
 -- what the components owe over the embedding e

@@ -1,6 +1,1 @@
-pub mod Bounds
-pub mod Faults
-pub mod Firsts
-pub mod Keepers
-pub mod Leaders
-pub mod NodeSets
+pub mod inner

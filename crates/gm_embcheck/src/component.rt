@@ -3,9 +3,9 @@
 //! labels up to 7, as a rule in range has them on each side.
 ghost use Rattle.std.specs.Prelude.{◌≡◌, ◌<◌, ℕ, ◌↔◌, length, slice_get};
 ghost use Rattle.gm_model.specs.Labels.{has};
-ghost use Rattle.gm_embcheck.specs.Bounds.{HasLinkBounds};
-ghost use Rattle.gm_embcheck.specs.Leaders.{leader_in, AreLeaders, HasJoined, replaced};
-ghost use Rattle.gm_embcheck.specs.NodeSets.{IsIn};
+ghost use Rattle.gm_embcheck.specs.inner.Bounds.{HasLinkBounds};
+ghost use Rattle.gm_embcheck.specs.inner.Leaders.{leader_in, AreLeaders, HasJoined, replaced};
+ghost use Rattle.gm_embcheck.specs.inner.NodeSets.{IsIn};
 
 use gm_model::{Link, MOST_NODES, Mask};
 

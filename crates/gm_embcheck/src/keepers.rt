@@ -3,9 +3,9 @@
 ghost use Rattle.std.specs.Prelude.{◌≡◌, ℕ, ◌<◌, ◌≤◌, length};
 ghost use Rattle.gm_model.specs.Orbits.{Labels};
 ghost use Rattle.gm_model.specs.Rules.{rule_of, is_preserved};
-ghost use Rattle.gm_embcheck.specs.Bounds.{HasBounds};
-ghost use Rattle.gm_embcheck.specs.Keepers.{AreKeepers, AreFirstPreserved};
-ghost use Rattle.gm_embcheck.specs.Leaders.{leader_in, AreLeaders};
+ghost use Rattle.gm_embcheck.specs.inner.Bounds.{HasBounds};
+ghost use Rattle.gm_embcheck.specs.inner.Keepers.{AreKeepers, AreFirstPreserved};
+ghost use Rattle.gm_embcheck.specs.inner.Leaders.{leader_in, AreLeaders};
 
 use crate::component::Leaders;
 use gm_model::{MOST_NODES, RuleTable, Side};

@@ -8,8 +8,8 @@ ghost use Rattle.gm_model.specs.Components.{HasSource, HasSources, IsEmbedFault}
 ghost use Rattle.gm_model.specs.Labels.{has};
 ghost use Rattle.gm_model.specs.Rules.{rule_of, has_word};
 ghost use Rattle.gm_model.specs.Structure.{IsInRange, IsWithinLimits, HasIncidence};
-ghost use Rattle.gm_embcheck.specs.Bounds.{HasBounds};
-ghost use Rattle.gm_embcheck.specs.Faults.{IsFirstComponentFault};
+ghost use Rattle.gm_embcheck.specs.inner.Bounds.{HasBounds};
+ghost use Rattle.gm_embcheck.specs.inner.Faults.{IsFirstComponentFault};
 
 mod assignments;
 mod component;

@@ -1,8 +1,8 @@
 //! The first node of a component with an assignment, or preserved outside a set.
 ghost use Rattle.std.specs.Prelude.{◌<◌, ◌≤◌, ◌↔◌, length, IsTrue, IfSome, MatchOption};
 ghost use Rattle.gm_model.specs.Rules.{rule_of};
-ghost use Rattle.gm_embcheck.specs.Firsts.{HasNoneFrom, IsFirstFrom};
-ghost use Rattle.gm_embcheck.specs.NodeSets.{IsAssignedIn, IsPreservedOutside};
+ghost use Rattle.gm_embcheck.specs.inner.Firsts.{HasNoneFrom, IsFirstFrom};
+ghost use Rattle.gm_embcheck.specs.inner.NodeSets.{IsAssignedIn, IsPreservedOutside};
 
 use crate::assignments::assigns;
 use crate::component::NodeSet;

@@ -4,8 +4,8 @@ ghost use Rattle.gm_model.specs.Components.{HasLetterIn};
 ghost use Rattle.gm_model.specs.Labels.{has};
 ghost use Rattle.gm_model.specs.Rules.{rule_of, width as width_of};
 ghost use Rattle.gm_model.specs.Structure.{AreGood, IsFirstBad};
-ghost use Rattle.gm_embcheck.specs.Bounds.{HasBounds};
-ghost use Rattle.gm_embcheck.specs.NodeSets.{HasLetterAmong, IsCovered};
+ghost use Rattle.gm_embcheck.specs.inner.Bounds.{HasBounds};
+ghost use Rattle.gm_embcheck.specs.inner.NodeSets.{HasLetterAmong, IsCovered};
 
 use crate::component::NodeSet;
 use gm_model::{Letter, Mask, RuleTable, Side};

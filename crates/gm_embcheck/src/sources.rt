@@ -3,11 +3,11 @@ ghost use Rattle.std.specs.Prelude.{◌+◌, ◌<◌, ◌≤◌, ℕ, ◌↔◌,
 ghost use Rattle.gm_model.specs.Components.{IsTogether, IsKeeper, IsNew, IsUnassigned, IsInherited, HasSource, IsComponentFault};
 ghost use Rattle.gm_model.specs.Labels.{has};
 ghost use Rattle.gm_model.specs.Rules.{rule_of};
-ghost use Rattle.gm_embcheck.specs.Bounds.{HasBounds};
-ghost use Rattle.gm_embcheck.specs.Faults.{IsSecondAssigned};
-ghost use Rattle.gm_embcheck.specs.Firsts.{HasNoneFrom};
-ghost use Rattle.gm_embcheck.specs.Leaders.{AreLeaders};
-ghost use Rattle.gm_embcheck.specs.NodeSets.{IsIn, IsAssignedIn};
+ghost use Rattle.gm_embcheck.specs.inner.Bounds.{HasBounds};
+ghost use Rattle.gm_embcheck.specs.inner.Faults.{IsSecondAssigned};
+ghost use Rattle.gm_embcheck.specs.inner.Firsts.{HasNoneFrom};
+ghost use Rattle.gm_embcheck.specs.inner.Leaders.{AreLeaders};
+ghost use Rattle.gm_embcheck.specs.inner.NodeSets.{IsIn, IsAssignedIn};
 
 use crate::component::{Leaders, NodeSet, nodes_of};
 use crate::nodes::{first_assigned, first_outside};

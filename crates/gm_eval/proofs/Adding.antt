@@ -14,8 +14,8 @@ use Rattle.gm_theory.proofs.ValuesLists.{IsIn, contains_in, in_contained}
 use Rattle.gm_eval.specs.declared.kept.Collector.{Collector}
 use Rattle.gm_eval.specs.declared.kept.Entry.{Entry}
 use Rattle.gm_eval.specs.declared.kept.Form.{Form}
-use Rattle.gm_eval.specs.Readers.{AddsOnly}
-use Rattle.gm_eval.specs.Sharing.{AreKeptOnce, HasEachOnce, HasRoom, IsAtHand, collectors_of, own_collector, where_empty}
+use Rattle.gm_eval.specs.inner.Readers.{AddsOnly}
+use Rattle.gm_eval.specs.inner.Sharing.{AreKeptOnce, HasEachOnce, HasRoom, IsAtHand, collectors_of, own_collector, where_empty}
 
 -- ---- what is added by parts of an expression
 

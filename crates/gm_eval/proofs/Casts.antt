@@ -1,7 +1,7 @@
 -- What a number of 64 bits, or one computed from such, is after its casts: itself.
 use Rattle.std.proofs.Common.{◌≡◌, ◌≢◌, ◌≤◌, ◌^◌, unsigned_abs, ℤ, pos, negsuc, ◌*ℤ◌, ◌-ℤ◌, ◌<ℤ◌, ◌≤ℤ◌, neg_ℤ, int_lt, false, true, FitsSigned, Option, sym, subst, ap, ap₂, ◌∙◌, arith, w64, to_z, of_z}
 use Rattle.std.specs.Int.{w128}
-use Rattle.gm_eval.specs.Made.{IsExact}
+use Rattle.gm_eval.specs.inner.Made.{IsExact}
 use Rattle.std.proofs.lemmas.Int.{fits_signed_mul, ints, to_z-of_z}
 
 -- as the code passes a number of 64 bits to a function, as it widens one, and as it negates that

@@ -19,16 +19,16 @@ use Rattle.gm_model.specs.Orbits.{HasCount, IsWalk}
 use Rattle.gm_model.specs.Trees.{Count, Sum, Least, Greatest}
 use Rattle.gm_model.specs.Values.{kind_of}
 use Rattle.gm_arena.specs.declared.slot.Slot.{Slot}
-use Rattle.gm_arena.specs.ArenaAsMap.{value}
-use Rattle.gm_arena.specs.ArenaMap.{ArenaMap, IsAt, name_at}
+use Rattle.gm_arena.specs.inner.ArenaAsMap.{value}
+use Rattle.gm_arena.specs.inner.ArenaMap.{ArenaMap, IsAt, name_at}
 use Rattle.gm_arena.proofs.MapLemmas.{name_at-is}
-use Rattle.gm_walk.specs.Walks.{AreLive, along, letters_of, names_of}
+use Rattle.gm_walk.specs.inner.Walks.{AreLive, along, letters_of, names_of}
 use Rattle.gm_theory.proofs.Lists.{none_some, some_same}
 use Rattle.gm_theory.proofs.ValuesLists.{IsIn, in_contained, contains_in, one_total}
 use Rattle.gm_theory.proofs.ValuesUnique.{one_count}
 use Rattle.gm_eval.specs.declared.reader.Reader.{Reader}
-use Rattle.gm_eval.specs.Readers.{IsOrbit, reading_of}
-use Rattle.gm_eval.specs.Sums.{part, part_at, parts_at, parts_for, sum_of}
+use Rattle.gm_eval.specs.inner.Readers.{IsOrbit, reading_of}
+use Rattle.gm_eval.specs.inner.Sums.{part, part_at, parts_at, parts_for, sum_of}
 use Rattle.gm_eval.proofs.Costs.{walk_within}
 use Rattle.gm_eval.proofs.Operated.{Found, found_as}
 use Rattle.gm_eval.proofs.OrbitWalks.{walk_lists}

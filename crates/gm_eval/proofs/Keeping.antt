@@ -18,11 +18,11 @@ use Rattle.gm_model.specs.Values.{kind_of}
 use Rattle.gm_theory.proofs.Lists.{none_some, some_same}
 use Rattle.gm_theory.proofs.ValuesLists.{IsIn, contains_in, in_contained}
 use Rattle.gm_arena.specs.declared.slot.Slot.{Slot}
-use Rattle.gm_arena.specs.ArenaAsMap.{as_map, value}
-use Rattle.gm_arena.specs.ArenaMap.{ArenaMap, IsAt, IsLiveSlot, alpha, name_at}
+use Rattle.gm_arena.specs.inner.ArenaAsMap.{as_map, value}
+use Rattle.gm_arena.specs.inner.ArenaMap.{ArenaMap, IsAt, IsLiveSlot, alpha, name_at}
 use Rattle.gm_arena.proofs.MapLemmas.{IsAt-name_at, IsLiveName-name_at}
-use Rattle.gm_plan.specs.InArena.{slot_number}
-use Rattle.gm_plan.specs.Placed.{Placed, slot_at}
+use Rattle.gm_plan.specs.inner.InArena.{slot_number}
+use Rattle.gm_plan.specs.inner.Placed.{Placed, slot_at}
 use Rattle.gm_walk.proofs.MarkLemmas.{same_slot}
 use Rattle.gm_walk.proofs.OrbitLemmas.{orbit_back, orbit_join}
 use Rattle.gm_eval.specs.declared.kept.Collector.{Collector}
@@ -30,10 +30,10 @@ use Rattle.gm_eval.specs.declared.kept.Entry.{Entry}
 use Rattle.gm_eval.specs.declared.kept.Form.{Form}
 use Rattle.gm_eval.specs.declared.kept.Form.TheVariants as forms
 use Rattle.gm_eval.specs.declared.reader.Reader.{Reader}
-use Rattle.gm_eval.specs.Keeping.{AreKept, IsEverywhere, collector_at, own_term, tree_of_collector}
-use Rattle.gm_eval.specs.Places.{reading_in}
-use Rattle.gm_eval.specs.Sharing.{IsShared}
-use Rattle.gm_eval.specs.Readers.{IsHere, IsOrbit, IsReady, IsValueThere, reading_of}
+use Rattle.gm_eval.specs.inner.Keeping.{AreKept, IsEverywhere, collector_at, own_term, tree_of_collector}
+use Rattle.gm_eval.specs.inner.Places.{reading_in}
+use Rattle.gm_eval.specs.inner.Sharing.{IsShared}
+use Rattle.gm_eval.specs.inner.Readers.{IsHere, IsOrbit, IsReady, IsValueThere, reading_of}
 use Rattle.gm_eval.proofs.Collected.{all_in, collected, slot_in as walked_at}
 use Rattle.gm_eval.proofs.Operated.{found_as}
 use Rattle.gm_eval.proofs.Ready.{count_ready, kinds_at, term_here, value_of_kind}

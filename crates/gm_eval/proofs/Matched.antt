@@ -5,10 +5,10 @@ use Rattle.gm_model.specs.declared.value.Value.{Value}
 use Rattle.gm_model.specs.Kinds.{HasKind, AreGoodParams}
 use Rattle.gm_model.specs.Rules.{Rule}
 use Rattle.gm_model.specs.Trees.{Tree}
-use Rattle.gm_arena.specs.ArenaMap.{ArenaMap}
-use Rattle.gm_plan.specs.InArena.{AreMatched}
-use Rattle.gm_plan.specs.Placed.{Placed}
-use Rattle.gm_eval.specs.Places.{AreLiveAt, IsTypedFor}
+use Rattle.gm_arena.specs.inner.ArenaMap.{ArenaMap}
+use Rattle.gm_plan.specs.inner.InArena.{AreMatched}
+use Rattle.gm_plan.specs.inner.Placed.{Placed}
+use Rattle.gm_eval.specs.inner.Places.{AreLiveAt, IsTypedFor}
 
 module _ (m : ArenaMap) (rule : Rule) (hooks : List ℕ) (placed : Placed) (matched : AreMatched m rule hooks placed) where
   pub live_there : (position : ℕ) → position < placed.positions → AreLiveAt m placed position

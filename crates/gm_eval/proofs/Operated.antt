@@ -11,7 +11,7 @@ use Rattle.gm_model.specs.Expressions.{IsUnary, IsBinary, IsTest, IsMade, IsQuot
 use Rattle.gm_model.specs.Kinds.{numeric, product_kind}
 use Rattle.gm_model.specs.Values.{kind_of}
 use Rattle.gm_theory.proofs.ValuesUnique.{int_same}
-use Rattle.gm_eval.specs.Made.{IsNone}
+use Rattle.gm_eval.specs.inner.Made.{IsNone}
 
 abbrev pub Found : (Value → Type 0) → Option Value → Type 0
 Found P o = MatchOption o (IsNone P) P

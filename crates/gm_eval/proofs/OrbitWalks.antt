@@ -9,8 +9,8 @@ use Rattle.gm_model.specs.declared.word.Letter.TheVariants.{At}
 use Rattle.gm_model.specs.declared.word.Mask.{Mask}
 use Rattle.gm_model.specs.Labels.{has}
 use Rattle.gm_model.specs.Orbits.{IsPathIn, IsInOrbit, IsListOf, IsWalk, follow}
-use Rattle.gm_arena.specs.ArenaMap.{ArenaMap, alpha}
-use Rattle.gm_walk.specs.Walks.{along, label_at, labels_of, letters_of}
+use Rattle.gm_arena.specs.inner.ArenaMap.{ArenaMap, alpha}
+use Rattle.gm_walk.specs.inner.Walks.{along, label_at, labels_of, letters_of}
 use Rattle.gm_theory.proofs.ValuesLists.{IsIn, contains_in}
 
 -- ---- the labels of a mask

@@ -20,7 +20,7 @@ use Rattle.gm_theory.proofs.ReadingsTyped.{then_some, of_two, of_three, typed}
 use Rattle.gm_theory.proofs.ValuesUnique.{one_value, int_same}
 use Rattle.gm_eval.specs.declared.kept.Entry.{Entry}
 use Rattle.gm_eval.specs.declared.reader.Reader.{Reader}
-use Rattle.gm_eval.specs.Readers.{AreLeft, AreNumbersThere, AreValuesThere, IsRead, IsReady, IsInt, IsValueThere, IsWithin, Read, UnitsBeside, reading_of}
+use Rattle.gm_eval.specs.inner.Readers.{AreLeft, AreNumbersThere, AreValuesThere, IsRead, IsReady, IsInt, IsValueThere, IsWithin, Read, UnitsBeside, reading_of}
 use Rattle.gm_eval.proofs.Operated.{Found, found_as}
 use Rattle.gm_eval.proofs.Ready.{is_reading}
 

@@ -12,19 +12,19 @@ use Rattle.gm_model.specs.Kinds.{IsTermInRange, IsMaskInRange, embed_kind, only_
 use Rattle.gm_model.specs.Labels.{has}
 use Rattle.gm_model.specs.Trees.{Tree, Count, Sum, Least}
 use Rattle.gm_model.specs.Values.{IsValueOf, kind_of}
-use Rattle.gm_arena.specs.ArenaAsMap.{value}
-use Rattle.gm_arena.specs.ArenaMap.{IsLiveSlot, name_at}
+use Rattle.gm_arena.specs.inner.ArenaAsMap.{value}
+use Rattle.gm_arena.specs.inner.ArenaMap.{IsLiveSlot, name_at}
 use Rattle.gm_arena.proofs.ArenaIsMap.{is_map}
 use Rattle.gm_arena.proofs.MapLemmas.{IsLiveName-alpha, IsLiveName-name_at}
 use Rattle.gm_arena.specs.declared.slot.Slot.{Slot}
-use Rattle.gm_walk.specs.Walks.{AreLive}
+use Rattle.gm_walk.specs.inner.Walks.{AreLive}
 use Rattle.gm_theory.proofs.ReadingsTyped.{then_some}
 use Rattle.gm_theory.proofs.ValuesLists.{IsIn}
 use Rattle.gm_eval.proofs.Collected.{all_in}
 use Rattle.gm_theory.proofs.Lists.{some_same, none_some}
-use Rattle.gm_theory.specs.Readings.{IsReadingOf}
+use Rattle.gm_theory.specs.inner.Readings.{IsReadingOf}
 use Rattle.gm_eval.specs.declared.reader.Reader.{Reader}
-use Rattle.gm_eval.specs.Readers.{IsHere, IsTermHere, IsReady, reading_of}
+use Rattle.gm_eval.specs.inner.Readers.{IsHere, IsTermHere, IsReady, reading_of}
 
 module _ (reader : Reader) (tree : Tree) (ready : IsReady reader tree) where
   pub is_reading : IsReadingOf ready.typed.rule (reading_of reader)

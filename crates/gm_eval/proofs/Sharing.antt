@@ -12,16 +12,16 @@ use Rattle.gm_model.specs.Expressions.{Reading, HasValue, HasNoValue, HasUnits}
 use Rattle.gm_model.specs.Trees.{Tree, Number, Truth, Param, Field, Same, Count, Sum, Least, Greatest, Unary, Binary, If, MakeVec2, MakeVec3, MakeRgb}
 use Rattle.gm_theory.proofs.Lists.{none_some, some_same}
 use Rattle.gm_theory.proofs.ReadingsDecided.{not_both_truths}
-use Rattle.gm_plan.specs.Collecting.{collects}
+use Rattle.gm_plan.specs.inner.Collecting.{collects}
 use Rattle.gm_eval.specs.declared.kept.Collector.{Collector}
 use Rattle.gm_eval.specs.declared.kept.Entry.{Entry}
 use Rattle.gm_eval.specs.declared.kept.Form.{Form}
 use Rattle.gm_eval.specs.declared.kept.Form.TheVariants as forms
 use Rattle.gm_eval.specs.declared.reader.Reader.{Reader}
-use Rattle.gm_eval.specs.Keeping.{collector_at}
-use Rattle.gm_eval.specs.Places.{IsWithinUnits}
-use Rattle.gm_eval.specs.Readers.{AreLeft, IsOfMean, IsWithin, MeanUnits, OwnUnits, Read, UnitsBeside, reading_of}
-use Rattle.gm_eval.specs.Sharing.{HasOwnUnits, HasRoom, HasUnitsBeside, IsAtHand, IsOwn, Reads, StillKept}
+use Rattle.gm_eval.specs.inner.Keeping.{collector_at}
+use Rattle.gm_eval.specs.inner.Places.{IsWithinUnits}
+use Rattle.gm_eval.specs.inner.Readers.{AreLeft, IsOfMean, IsWithin, MeanUnits, OwnUnits, Read, UnitsBeside, reading_of}
+use Rattle.gm_eval.specs.inner.Sharing.{HasOwnUnits, HasRoom, HasUnitsBeside, IsAtHand, IsOwn, Reads, StillKept}
 use Rattle.gm_eval.proofs.Costs.{both_within, one_within}
 
 -- ---- what was kept still is

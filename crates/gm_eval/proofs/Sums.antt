@@ -11,7 +11,7 @@ use Rattle.gm_model.specs.declared.value.Value.{Value}
 use Rattle.gm_model.specs.declared.value.Value.TheVariants as values
 use Rattle.gm_model.specs.Expressions.{components, total, by_component}
 use Rattle.gm_model.specs.Values.{kind_of}
-use Rattle.gm_eval.specs.Sums.{part, parts_for, sum_of}
+use Rattle.gm_eval.specs.inner.Sums.{part, parts_for, sum_of}
 
 -- one more number
 pub sum_push : (xs : List ℤ) (x : ℤ) → sum_of (xs ++ x ∷ []) ≡ sum_of xs +ℤ x

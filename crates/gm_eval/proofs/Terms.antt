@@ -6,12 +6,12 @@ use Rattle.gm_model.specs.declared.expr.DartTerm.{DartTerm}
 use Rattle.gm_model.specs.Expressions.{dart_at}
 use Rattle.gm_model.specs.Orbits.{follow}
 use Rattle.gm_arena.specs.declared.slot.Slot.{Slot}
-use Rattle.gm_arena.specs.ArenaMap.{IsAt, alpha, name_at}
+use Rattle.gm_arena.specs.inner.ArenaMap.{IsAt, alpha, name_at}
 use Rattle.gm_arena.proofs.MapLemmas.{IsAt-name_at, name_at-is}
-use Rattle.gm_plan.specs.InArena.{slot_number}
-use Rattle.gm_plan.specs.Placed.{Placed, slot_at}
+use Rattle.gm_plan.specs.inner.InArena.{slot_number}
+use Rattle.gm_plan.specs.inner.Placed.{Placed, slot_at}
 use Rattle.gm_eval.specs.declared.reader.Reader.{Reader}
-use Rattle.gm_eval.specs.Readers.{IsHere, reading_of}
+use Rattle.gm_eval.specs.inner.Readers.{IsHere, reading_of}
 
 follow_more : (alphas : ℕ → ℕ → ℕ) (path : List ℕ) (i d : ℕ) → follow alphas (path ++ i ∷ []) d ≡ alphas i (follow alphas path d)
 follow_more alphas [] i d = refl

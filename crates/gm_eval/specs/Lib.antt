@@ -1,6 +1,1 @@
-pub mod Keeping
-pub mod Made
-pub mod Places
-pub mod Readers
-pub mod Sharing
-pub mod Sums
+pub mod inner

@@ -2,14 +2,14 @@
 
 ghost use Rattle.std.specs.Prelude.{◌≡◌, ◌+◌, ◌*◌, ◌<◌, ◌≤◌, ◌⊎◌, ℕ, IsSome, MatchOption};
 ghost use Rattle.std.specs.List.{Contains};
-ghost use Rattle.gm_arena.specs.ArenaAsMap.{as_map};
+ghost use Rattle.gm_arena.specs.inner.ArenaAsMap.{as_map};
 ghost use Rattle.gm_model.specs.Expressions.{HasValue, HasNoValue, HasUnits};
 ghost use Rattle.gm_model.specs.Trees.{tree_of};
-ghost use Rattle.gm_walk.specs.Room.{Fits};
-ghost use Rattle.gm_eval.specs.Keeping.{AreKept};
+ghost use Rattle.gm_walk.specs.inner.Room.{Fits};
+ghost use Rattle.gm_eval.specs.inner.Keeping.{AreKept};
 ghost use Rattle.gm_eval.specs.declared.kept.Collector.{Collector as CollectorOf};
-ghost use Rattle.gm_eval.specs.Places.{AreLiveAt, IsTypedFor, reading_in};
-ghost use Rattle.gm_eval.specs.Sharing.{AreKeptOnce, HasRoom, HasUnitsBeside, IsAtHand, IsShared, Reads, StillKept, collectors_of};
+ghost use Rattle.gm_eval.specs.inner.Places.{AreLiveAt, IsTypedFor, reading_in};
+ghost use Rattle.gm_eval.specs.inner.Sharing.{AreKeptOnce, HasRoom, HasUnitsBeside, IsAtHand, IsShared, Reads, StillKept, collectors_of};
 
 use crate::kept::Kept;
 use crate::reader::Reader;

@@ -8,11 +8,11 @@ ghost use Rattle.gm_model.specs.declared.expr.DartTerm.{DartTerm as TermOf};
 ghost use Rattle.gm_model.specs.declared.expr.Expr.TheVariants.{Int as IntOf, Param as ParamOf, Field as FieldOf};
 ghost use Rattle.gm_model.specs.declared.value.Kind.TheVariants.{Vec3, Rgb};
 ghost use Rattle.gm_model.specs.declared.value.Value.TheVariants.{Int, Bool as Truth};
-ghost use Rattle.gm_walk.specs.Room.{Fits};
-ghost use Rattle.gm_eval.specs.Keeping.{AreKept};
-ghost use Rattle.gm_eval.specs.Made.{IsNone};
-ghost use Rattle.gm_eval.specs.Places.{IsWithinUnits};
-ghost use Rattle.gm_eval.specs.Readers.{AreNumbersThere, AreValuesThere, IsRead, IsReady, IsValueThere, reading_of};
+ghost use Rattle.gm_walk.specs.inner.Room.{Fits};
+ghost use Rattle.gm_eval.specs.inner.Keeping.{AreKept};
+ghost use Rattle.gm_eval.specs.inner.Made.{IsNone};
+ghost use Rattle.gm_eval.specs.inner.Places.{IsWithinUnits};
+ghost use Rattle.gm_eval.specs.inner.Readers.{AreNumbersThere, AreValuesThere, IsRead, IsReady, IsValueThere, reading_of};
 
 use crate::kept::{Entries, Form};
 use crate::numbers::{rgb, vec2, vec3};

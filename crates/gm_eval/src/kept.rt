@@ -4,11 +4,11 @@ ghost use Rattle.std.specs.Prelude.{◌≡◌, ◌≢◌, ◌≤◌, [], ◌∷�
 ghost use Rattle.std.specs.List.{Contains};
 ghost use Rattle.gm_model.specs.declared.value.Value.{Value as ValueOf};
 ghost use Rattle.gm_model.specs.Maps.{IsGeneralised};
-ghost use Rattle.gm_arena.specs.ArenaAsMap.{as_map};
-ghost use Rattle.gm_arena.specs.ArenaMap.{ArenaMap};
-ghost use Rattle.gm_plan.specs.Placed.{Placed};
-ghost use Rattle.gm_eval.specs.Keeping.{AreKept};
-ghost use Rattle.gm_eval.specs.Sharing.{HasRoom, IsAtHand, StillKept};
+ghost use Rattle.gm_arena.specs.inner.ArenaAsMap.{as_map};
+ghost use Rattle.gm_arena.specs.inner.ArenaMap.{ArenaMap};
+ghost use Rattle.gm_plan.specs.inner.Placed.{Placed};
+ghost use Rattle.gm_eval.specs.inner.Keeping.{AreKept};
+ghost use Rattle.gm_eval.specs.inner.Sharing.{HasRoom, IsAtHand, StillKept};
 ghost use Rattle.gm_eval.specs.declared.kept.Entry.{Entry as EntryOf};
 
 use gm_model::{Mask, OutOfMemory, Value};
@@ -76,7 +76,7 @@ pub struct Kept {
 }
 
 impl Model for Kept {
-    ghost use Rattle.gm_eval.specs.Keeping.{KeptOf};
+    ghost use Rattle.gm_eval.specs.inner.Keeping.{KeptOf};
 
     ghost Value = { KeptOf };
 

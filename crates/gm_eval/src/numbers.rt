@@ -3,7 +3,7 @@
 ghost use Rattle.std.specs.Prelude.{◌≡◌, ◌≢◌, ℤ, neg_ℤ, ◌+ℤ◌, ◌-ℤ◌, ◌*ℤ◌, ◌<ℤ◌, pos, [], ◌∷◌, MatchOption};
 ghost use Rattle.gm_model.specs.Expressions.{IsMade, floor};
 ghost use Rattle.gm_model.specs.declared.value.Kind.TheVariants.{Int, Vec2, Vec3, Rgb};
-ghost use Rattle.gm_eval.specs.Made.{IsExact, IsNone};
+ghost use Rattle.gm_eval.specs.inner.Made.{IsExact, IsNone};
 
 use gm_model::Value;
 

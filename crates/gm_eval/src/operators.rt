@@ -6,7 +6,7 @@ ghost use Rattle.gm_model.specs.declared.expr.UnOp.TheVariants.{Neg, Not};
 ghost use Rattle.gm_model.specs.declared.expr.BinOp.TheVariants.{Add, Sub, Mul, Div};
 ghost use Rattle.gm_model.specs.Kinds.{numeric, unary_kind, binary_kind};
 ghost use Rattle.gm_model.specs.Values.{kind_of};
-ghost use Rattle.gm_eval.specs.Made.{IsNone};
+ghost use Rattle.gm_eval.specs.inner.Made.{IsNone};
 
 use crate::numbers::{
     difference, int, int_of, opposite, product, quotient, remainder, sum, vec2, vec2_of, vec3,

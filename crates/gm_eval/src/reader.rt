@@ -1,12 +1,12 @@
 //! Where expressions are read, and the darts that they name there.
 
 ghost use Rattle.std.specs.Prelude.{◌≡◌, ◌+◌, ◌≤◌, length};
-ghost use Rattle.gm_arena.specs.ArenaMap.{IsAt};
+ghost use Rattle.gm_arena.specs.inner.ArenaMap.{IsAt};
 ghost use Rattle.gm_model.specs.Expressions.{HasValue, dart_at};
 ghost use Rattle.gm_model.specs.Trees.{Field, Same};
 ghost use Rattle.gm_model.specs.declared.value.Value.TheVariants.{Bool as Truth};
-ghost use Rattle.gm_eval.specs.Places.{IsWithinUnits};
-ghost use Rattle.gm_eval.specs.Readers.{IsHere, IsReady, IsTermHere, reading_of};
+ghost use Rattle.gm_eval.specs.inner.Places.{IsWithinUnits};
+ghost use Rattle.gm_eval.specs.inner.Readers.{IsHere, IsReady, IsTermHere, reading_of};
 
 use gm_arena::{Arena, Slot, Steps};
 use gm_model::{DartTerm, Value};

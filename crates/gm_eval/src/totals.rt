@@ -6,9 +6,9 @@ ghost use Rattle.std.specs.List.{fold};
 ghost use Rattle.gm_model.specs.Expressions.{IsMade};
 ghost use Rattle.gm_model.specs.Kinds.{sum_kind};
 ghost use Rattle.gm_model.specs.declared.value.Kind.{Kind as KindOf};
-ghost use Rattle.gm_walk.specs.Walks.{AreLive};
-ghost use Rattle.gm_eval.specs.Made.{IsNone};
-ghost use Rattle.gm_eval.specs.Sums.{first_at, part, parts_at, parts_for, sum_of};
+ghost use Rattle.gm_walk.specs.inner.Walks.{AreLive};
+ghost use Rattle.gm_eval.specs.inner.Made.{IsNone};
+ghost use Rattle.gm_eval.specs.inner.Sums.{first_at, part, parts_at, parts_for, sum_of};
 
 use crate::numbers::{int, vec2, vec3};
 use gm_arena::{Arena, Slot, Steps};

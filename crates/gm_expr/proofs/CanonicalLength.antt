@@ -29,7 +29,7 @@ use Rattle.gm_parse.specs.Levels.{unary_level, least_of_part, least_on_left, lea
 use Rattle.gm_parse.specs.Meaning.{Names, function_named, call_of, tree_in, trees_in}
 use Rattle.gm_parse.specs.Spelling.{Role, Fixed, NameAt, Counted, greatest, limit_of, passed_by, limit_in, operator, spell_labels, spell_orbit, spell_path, spell_term, spell_field, spell, spell_arguments, counted_from, parts_of}
 use Rattle.gm_expr.specs.ExprText.{level, param_name, embed_name}
-use Rattle.gm_expr.specs.Writable.{AreGoodNames, IsGoodEmbed, IsGoodTerm, IsGoodMask, IsWritable}
+use Rattle.gm_expr.specs.inner.Writable.{AreGoodNames, IsGoodEmbed, IsGoodTerm, IsGoodMask, IsWritable}
 use Rattle.gm_expr.proofs.Found.{param_low, embed_low, node_low}
 use Rattle.gm_expr.proofs.Canonical.{behind, place_in, at, labels_at, behind_orbit, orbit_at, behind_term, written, function_name, unary_form, within_unary, is_wrapped, enclosed, within, behind_tree, term_at, embed_at, collect_at, form_at}
 use Rattle.gm_expr.proofs.CanonicalMeaning.{good_at}

@@ -24,7 +24,7 @@ use Rattle.gm_parse.specs.Levels.{unary_level, least_of_part, least_on_left, lea
 use Rattle.gm_parse.specs.Meaning.{Names, NameFault, is_named, node_number, embed_number, param_number, unknown, term_faults, field_faults, faults_in, mask_of, term_in, embed_in, tree_in}
 use Rattle.gm_text.specs.SchemaText.{labels_in}
 use Rattle.gm_expr.specs.ExprText.{level, param_name, embed_name}
-use Rattle.gm_expr.specs.Writable.{IsGoodName, AreGoodNames, IsGoodParam, IsGoodEmbed, IsGoodTerm, IsGoodMask, IsWritable, left_name_of}
+use Rattle.gm_expr.specs.inner.Writable.{IsGoodName, AreGoodNames, IsGoodParam, IsGoodEmbed, IsGoodTerm, IsGoodMask, IsWritable, left_name_of}
 use Rattle.gm_expr.proofs.Found.{param_low, embed_low, node_low}
 use Rattle.gm_expr.proofs.Canonical.{behind, at, labels_at, behind_orbit, behind_term, written, function_name, unary_form, within_unary, is_wrapped, enclosed, within, behind_tree, term_at, embed_at, collect_at, form_at}
 use Rattle.gm_expr.proofs.MaskLabels.{mask_again, labels_faultless}

@@ -13,19 +13,19 @@ use Rattle.gm_model.specs.Rules.{RuleNode, node_of, rule_of}
 use Rattle.gm_model.specs.Symbols.{Symbol, Stray, End, symbol_of_kind, Mark, mark_of, marks_at, marks_of, symbols}
 use Rattle.gm_model.specs.Tokens.{StrayAt, EndAt, Front, Gap, Lexeme, Stray as StrayFront, front_of, size_of, item_before, items_from}
 use Rattle.gm_model.specs.Trees.{Tree}
-use Rattle.gm_text.specs.Cursor.{Cursor}
+use Rattle.gm_text.specs.inner.Cursor.{Cursor}
 use Rattle.gm_text.proofs.Items.{items_at-end}
 use Rattle.gm_text.proofs.Marks.{marks_at-end}
 use Rattle.gm_text.proofs.Printed.{symbols_from, symbols_from-end, symbols_of-from}
-use Rattle.gm_parse.specs.Answers.{IsExprRead}
+use Rattle.gm_parse.specs.inner.Answers.{IsExprRead}
 use Rattle.gm_parse.specs.Forms.{Form}
 use Rattle.gm_parse.specs.Meaning.{Names, left_name, names_in}
 use Rattle.gm_parse.specs.Spelling.{Role, Fixed, spell, parts_of, Stands, IsPlacedAt}
 use Rattle.gm_parse.proofs.Counted.{spot_behind, no_longer}
 use Rattle.gm_parse.proofs.Standing.{other_spot}
 use Rattle.gm_expr.specs.ExprText.{tree_text}
-use Rattle.gm_expr.specs.Whole.{IsReadWhole}
-use Rattle.gm_expr.specs.Writable.{left_name_of, names_of, AreGoodNames, IsWritable}
+use Rattle.gm_expr.specs.inner.Whole.{IsReadWhole}
+use Rattle.gm_expr.specs.inner.Writable.{left_name_of, names_of, AreGoodNames, IsWritable}
 use Rattle.gm_expr.proofs.Canonical.{form_at, behind_tree}
 use Rattle.gm_expr.proofs.CanonicalLength.{AreWithin, short_within, tree_within}
 use Rattle.gm_expr.proofs.CanonicalMeaning.{tree_good, tree_means, tree_faultless}

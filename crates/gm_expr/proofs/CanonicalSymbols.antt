@@ -27,7 +27,7 @@ use Rattle.gm_parse.specs.Levels.{least_of_part, least_on_left, least_on_right}
 use Rattle.gm_parse.specs.Spelling.{Role, greatest, collector_word, operator, spell, spell_labels, spell_orbit, spell_path, spell_term, spell_field}
 use Rattle.gm_text.specs.SchemaText.{labels_in, labels_text}
 use Rattle.gm_expr.specs.ExprText.{orbit_text, path_text, term_text, field_text, param_name, embed_name, wrapped, sign_of, head_of, tail_of, same_text, collector_text, triple_text, tree_text}
-use Rattle.gm_expr.specs.Writable.{IsGoodEmbed, IsGoodTerm, IsGoodMask, IsWritable, AreGoodNames}
+use Rattle.gm_expr.specs.inner.Writable.{IsGoodEmbed, IsGoodTerm, IsGoodMask, IsWritable, AreGoodNames}
 use Rattle.gm_expr.proofs.Found.{param_low, embed_low, node_low}
 use Rattle.gm_expr.proofs.Canonical.{behind, place_in, at, function_name, unary_form, within_unary, labels_at, orbit_at, term_at, embed_at, behind_term, behind_orbit, behind_tree, collect_at, enclosed, within, is_wrapped, form_at}
 use Rattle.gm_expr.proofs.CanonicalMeaning.{good_at}

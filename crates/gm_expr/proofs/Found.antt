@@ -13,7 +13,7 @@ use Rattle.gm_model.specs.declared.schema.Embed.{Embed}
 use Rattle.gm_model.specs.Rules.{RuleNode, name_at}
 use Rattle.gm_parse.specs.Meaning.{is_named}
 use Rattle.gm_expr.specs.ExprText.{param_name, embed_name}
-use Rattle.gm_expr.specs.Writable.{left_name_of, IsGoodParam, IsGoodEmbed, IsGoodTerm}
+use Rattle.gm_expr.specs.inner.Writable.{left_name_of, IsGoodParam, IsGoodEmbed, IsGoodTerm}
 
 pub found : {A : Type 0} (test : A → Bool) (xs : List A) (k : ℕ) → position test xs ≡ Some k → (x : A) × (slice_get xs k ≡ Some x) × (test x ≡ true)
 found test [] k e = absurd cc

@@ -6,15 +6,15 @@ use Rattle.gm_model.specs.Reading.{Part, symbols_in}
 use Rattle.gm_model.specs.Rules.{Rule}
 use Rattle.gm_model.specs.Symbols.{Symbol, End, Mark, marks_of, symbols, symbols_of}
 use Rattle.gm_model.specs.Trees.{Tree}
-use Rattle.gm_text.specs.Cursor.{Cursor}
-use Rattle.gm_text.specs.SchemaAnswers.{marks_left}
+use Rattle.gm_text.specs.inner.Cursor.{Cursor}
+use Rattle.gm_text.specs.inner.SchemaAnswers.{marks_left}
 use Rattle.gm_text.proofs.Printed.{symbols_from, symbols_from-end, symbols_of-from}
-use Rattle.gm_parse.specs.Answers.{IsExprRead}
+use Rattle.gm_parse.specs.inner.Answers.{IsExprRead}
 use Rattle.gm_parse.specs.Forms.{Form}
 use Rattle.gm_parse.specs.Meaning.{Names}
 use Rattle.gm_parse.specs.Spelling.{Role, Fixed, spell}
 use Rattle.gm_expr.specs.ExprText.{expr_text}
-use Rattle.gm_expr.specs.Writable.{AreGoodNames, IsWritable}
+use Rattle.gm_expr.specs.inner.Writable.{AreGoodNames, IsWritable}
 use Rattle.gm_expr.proofs.Canonical.{form_at}
 use Rattle.gm_expr.proofs.CanonicalLength.{spell_length, no_form_is_shorter}
 use Rattle.gm_expr.proofs.CanonicalSymbols.{behind_none, tree_symbols}

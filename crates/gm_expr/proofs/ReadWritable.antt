@@ -10,19 +10,19 @@ use Rattle.gm_model.specs.declared.schema.Embed.{Embed}
 use Rattle.gm_model.specs.Names.{Mention}
 use Rattle.gm_model.specs.Rules.{RuleNode, name_at}
 use Rattle.gm_model.specs.Trees.{Tree}
-use Rattle.gm_text.specs.Cursor.{Cursor}
+use Rattle.gm_text.specs.inner.Cursor.{Cursor}
 use Rattle.gm_text.specs.SchemaText.{LabelForm}
-use Rattle.gm_text.specs.SchemaAnswers.{marks_left}
+use Rattle.gm_text.specs.inner.SchemaAnswers.{marks_left}
 use Rattle.gm_parse.specs.declared.function.Function.{Function}
 use Rattle.gm_parse.specs.declared.function.Function.TheVariants as functions
 use Rattle.gm_parse.specs.declared.key.Collector.{Collector}
 use Rattle.gm_parse.specs.declared.key.Collector.TheVariants as collectors
-use Rattle.gm_parse.specs.Answers.{IsExprRead}
+use Rattle.gm_parse.specs.inner.Answers.{IsExprRead}
 use Rattle.gm_parse.specs.Forms.{TermForm, Form, NumberForm, TruthForm, ParamForm, FieldForm, SameForm, CountForm, CollectForm, CallForm, ParenForm, MinusForm, NotForm, BinaryForm, IfForm, Arguments, First, Further, count_of}
 use Rattle.gm_parse.specs.Meaning.{Names, NameFault, is_named, number_of, node_number, embed_number, param_number, unknown, function_named, function_of, orbit_faults, term_faults, field_faults, faults_in, argument_faults, mask_of, collect, call_of, term_in, embed_in, tree_in, trees_in}
-use Rattle.gm_tree.specs.Small.{IsSmall, AreSmall, IsSmallPath, IsSmallOrbit}
+use Rattle.gm_tree.specs.inner.Small.{IsSmall, AreSmall, IsSmallPath, IsSmallOrbit}
 use Rattle.gm_tree.proofs.ReadForms.{stands_small}
-use Rattle.gm_expr.specs.Writable.{left_name_of, IsGoodParam, IsGoodEmbed, IsGoodTerm, IsWritable}
+use Rattle.gm_expr.specs.inner.Writable.{left_name_of, IsGoodParam, IsGoodEmbed, IsGoodTerm, IsWritable}
 use Rattle.gm_expr.proofs.Found.{found, mapped}
 use Rattle.gm_expr.proofs.MaskLabels.{low_labels}
 

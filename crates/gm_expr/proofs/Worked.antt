@@ -16,8 +16,8 @@ use Rattle.gm_model.specs.Trees.{Tree, Number, Param as Parameter, Field, Same, 
 use Rattle.gm_parse.specs.Meaning.{Names}
 use Rattle.gm_text.specs.SchemaText.{labels_in}
 use Rattle.gm_expr.specs.ExprText.{tree_text}
-use Rattle.gm_expr.specs.Whole.{IsReadWhole}
-use Rattle.gm_expr.specs.Writable.{AreGoodNames, names_of}
+use Rattle.gm_expr.specs.inner.Whole.{IsReadWhole}
+use Rattle.gm_expr.specs.inner.Writable.{AreGoodNames, names_of}
 use Rattle.gm_expr.proofs.CanonicalRead.{short_read}
 
 abbrev face : Mask

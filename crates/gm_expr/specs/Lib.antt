@@ -1,3 +1,2 @@
 pub mod ExprText
-pub mod Whole
-pub mod Writable
+pub mod inner

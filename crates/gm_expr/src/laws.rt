@@ -5,13 +5,13 @@ ghost use Rattle.gm_model.specs.declared.schema.Schema.{Schema};
 ghost use Rattle.gm_model.specs.Rules.{Rule, rule_of};
 ghost use Rattle.gm_model.specs.Symbols.{marks_of};
 ghost use Rattle.gm_model.specs.Trees.{Tree};
-ghost use Rattle.gm_text.specs.Cursor.{Cursor};
-ghost use Rattle.gm_text.specs.SchemaAnswers.{marks_left};
-ghost use Rattle.gm_parse.specs.Answers.{IsExprRead};
+ghost use Rattle.gm_text.specs.inner.Cursor.{Cursor};
+ghost use Rattle.gm_text.specs.inner.SchemaAnswers.{marks_left};
+ghost use Rattle.gm_parse.specs.inner.Answers.{IsExprRead};
 ghost use Rattle.gm_parse.specs.Meaning.{names_in};
 ghost use Rattle.gm_expr.specs.ExprText.{expr_text};
-ghost use Rattle.gm_expr.specs.Whole.{IsReadWhole};
-ghost use Rattle.gm_expr.specs.Writable.{AreGoodNames, IsWritable, names_of};
+ghost use Rattle.gm_expr.specs.inner.Whole.{IsReadWhole};
+ghost use Rattle.gm_expr.specs.inner.Writable.{AreGoodNames, IsWritable, names_of};
 
 /// Where a tree was read under the names of a schema and a rule, its canonical text has no more
 /// tokens than were gone past, and so no more than an expression can have. A text has a mark for each

@@ -2,7 +2,7 @@
 ghost use Rattle.std.specs.Prelude.{◌≡◌, ◌++◌, ◌<◌, ℕ, codes, length, OnOk, OnErr};
 ghost use Rattle.gm_model.specs.Rules.{rule_of};
 ghost use Rattle.gm_model.specs.Trees.{tree_of, Unary, Binary, If, MakeVec2};
-ghost use Rattle.gm_text.specs.SchemaPrinting.{IsCut};
+ghost use Rattle.gm_text.specs.inner.SchemaPrinting.{IsCut};
 ghost use Rattle.gm_expr.specs.ExprText.{expr_text, param_name, triple_text, wrapped, IsNamed};
 
 use crate::levels::{head, least_left, least_within, level_of, sign, tail, truth};

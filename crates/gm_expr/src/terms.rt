@@ -1,7 +1,7 @@
 //! The canonical text of orbits, of dart terms and of what is read at them.
 ghost use Rattle.std.specs.Prelude.{◌≡◌, ◌++◌, ◌<◌, codes, decimal, length, IfOk, OnOk, OnErr};
 ghost use Rattle.gm_model.specs.Rules.{name_at, rule_of};
-ghost use Rattle.gm_text.specs.SchemaPrinting.{IsCut};
+ghost use Rattle.gm_text.specs.inner.SchemaPrinting.{IsCut};
 ghost use Rattle.gm_expr.specs.ExprText.{collector_text, count_text, embed_name, field_text, IsFieldNamed, orbit_text, path_text, same_text, term_text};
 
 use gm_model::{DartTerm, Mask, OutOfMemory, RuleTable, Schema};

@@ -15,12 +15,12 @@ use Rattle.gm_parse.specs.declared.place.Bracket.{Bracket}
 use Rattle.gm_parse.specs.declared.place.Ending.TheVariants as endings
 use Rattle.gm_parse.specs.declared.place.Place.{Place}
 use Rattle.gm_parse.specs.declared.place.Place.TheVariants as places
-use Rattle.gm_parse.specs.Reading as exprs
-use Rattle.gm_parse.specs.Reading.{first_spot, state_at, spot_at, spot_move, spot_role, is_whole_spot, key_of, key_role, number_role, move_by}
+use Rattle.gm_parse.specs.inner.Reading as exprs
+use Rattle.gm_parse.specs.inner.Reading.{first_spot, state_at, spot_at, spot_move, spot_role, is_whole_spot, key_of, key_role, number_role, move_by}
 use Rattle.gm_parse.specs.Spelling.{Counted, limit_in}
 use Rattle.gm_parse.specs.Spelling as spelling
 use Rattle.gm_parse.proofs.Keys.{key_name}
-use Rattle.gm_forms.specs.Reading.{Spot, State, AtName, AtSign, AtSet, AtExpr, closed, Slot, SetSlot, PreSlot, behind_slot, on_right, expect, unless_reserved, item_move, behind_move, plain_move}
+use Rattle.gm_forms.specs.inner.Reading.{Spot, State, AtName, AtSign, AtSet, AtExpr, closed, Slot, SetSlot, PreSlot, behind_slot, on_right, expect, unless_reserved, item_move, behind_move, plain_move}
 
 -- ---- what no expression goes on with
 

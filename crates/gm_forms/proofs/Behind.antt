@@ -11,16 +11,16 @@ use Rattle.gm_model.specs.Names.{reserved, Mention, is_among}
 use Rattle.gm_model.specs.Tokens.{bytes_of}
 use Rattle.gm_model.specs.Symbols.{Word, End, Mark}
 use Rattle.gm_forms.specs.BookText.{Item, NodeItem, LinkItem, RuleForm, limit_of, stands_before}
-use Rattle.gm_text.specs.Machine as machine
+use Rattle.gm_text.specs.inner.Machine as machine
 use Rattle.gm_forms.specs.declared.draft.Draft.{Draft}
 use Rattle.gm_forms.specs.declared.form_fault.FormFault.{FormFault}
 use Rattle.gm_forms.specs.declared.state.Spot.{Spot as CodeSpot}
 use Rattle.gm_forms.specs.declared.state.State.{State as CodeState}
 use Rattle.gm_forms.specs.declared.state.State.TheVariants as code
-use Rattle.gm_forms.specs.Forms.{mention_of}
+use Rattle.gm_forms.specs.inner.Forms.{mention_of}
 use Rattle.gm_forms.specs.declared.state.Heading.{Heading}
-use Rattle.gm_forms.specs.Reading.{State, role_at, move, AtItem, AtBehind, listed, takes_hook, is_hook_on, is_hook, is_with_on, Spot, with_item, hooked, hook_last}
-use Rattle.gm_forms.specs.Standing.{StaysIn, KeepsIn, IsStateIn, IsDraftIn, Leads, Moves, MovesFrom, EndsFrom, Gives, end_stand, stand_of, stepped, settled, stand_in, spot_of, rules_of, current_of}
+use Rattle.gm_forms.specs.inner.Reading.{State, role_at, move, AtItem, AtBehind, listed, takes_hook, is_hook_on, is_hook, is_with_on, Spot, with_item, hooked, hook_last}
+use Rattle.gm_forms.specs.inner.Standing.{StaysIn, KeepsIn, IsStateIn, IsDraftIn, Leads, Moves, MovesFrom, EndsFrom, Gives, end_stand, stand_of, stepped, settled, stand_in, spot_of, rules_of, current_of}
 
 pub leads_at : (text : List ℕ) (mark : Mark) (result : Result CodeState FormFault) {state known : CodeState} → state ≡ known → Leads text known mark result → Leads text state mark result
 leads_at text mark result is leads = subst (λ (s : CodeState). Leads text s mark result) (sym is) leads

@@ -4,8 +4,8 @@ use Rattle.std.proofs.lemmas.List.{map-append}
 use Rattle.std.specs.List.{AllByRecursion}
 use Rattle.gm_forms.specs.BookText.{Item, SetForm}
 use Rattle.gm_forms.specs.declared.form.Item.{Item as CodeItem}
-use Rattle.gm_forms.specs.Forms.{item_of}
-use Rattle.gm_forms.specs.Reading.{assigned, with_set}
+use Rattle.gm_forms.specs.inner.Forms.{item_of}
+use Rattle.gm_forms.specs.inner.Reading.{assigned, with_set}
 
 kept : {X : Type 0} (P : X → Type 0) (front : List X) (x y : X) → (P x → P y) → AllByRecursion P (front ++ x ∷ []) → AllByRecursion P (front ++ y ∷ [])
 kept P [] x y to all = (to all.0, tt)

@@ -6,12 +6,12 @@ use Rattle.gm_model.specs.declared.rule.Side.TheVariants.{Left, Right}
 use Rattle.gm_model.specs.Symbols.{Symbol, Word, Numeral, Sign, Gone, Stray, End, Mark}
 use Rattle.gm_model.specs.Reading.{Part, ArePlaced}
 use Rattle.std.specs.Prelude.{is_some}
-use Rattle.gm_parse.specs.Reading.{spot_move}
+use Rattle.gm_parse.specs.inner.Reading.{spot_move}
 use Rattle.gm_forms.proofs.Apart.{expr_limit}
 use Rattle.gm_forms.proofs.Values.{item_before, behind_before, expr_before}
 use Rattle.gm_forms.specs.BookText.{Role, Fixed, NameAt, ParamName, limit_of, stands_before, IsPlacedAt}
 use Rattle.gm_text.proofs.Machine.{Along}
-use Rattle.gm_forms.specs.Reading.{Spot, State, AtRules, AtName, AtLeft, AtParam, AtColon, AtKind, AtComma, AtBody, AtItem, AtSign, AtLetter, AtBehind, AtSet, AtEqual, AtExpr, AtRuleEnd, AtLabel, AtDash, AtTo, AtEnd, Slot, SetSlot, PreSlot, behind_slot, dim_of, on_right, closing, closing_role, is_hook, is_pre_on, is_with_on, item_role, behind_role, end_role, plain_role, role_at, move}
+use Rattle.gm_forms.specs.inner.Reading.{Spot, State, AtRules, AtName, AtLeft, AtParam, AtColon, AtKind, AtComma, AtBody, AtItem, AtSign, AtLetter, AtBehind, AtSet, AtEqual, AtExpr, AtRuleEnd, AtLabel, AtDash, AtTo, AtEnd, Slot, SetSlot, PreSlot, behind_slot, dim_of, on_right, closing, closing_role, is_hook, is_pre_on, is_with_on, item_role, behind_role, end_role, plain_role, role_at, move}
 use Rattle.gm_forms.proofs.Leading.{Led}
 
 -- ---- where a symbol stands

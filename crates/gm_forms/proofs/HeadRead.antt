@@ -8,13 +8,13 @@ use Rattle.gm_model.specs.declared.token.TokenKind.{TokenKind}
 use Rattle.gm_model.specs.declared.token.TokenKind.TheVariants as kinds
 use Rattle.gm_model.specs.Symbols.{Symbol, Word, Numeral, Stray, End, Mark, symbol_of_kind, value_of}
 use Rattle.gm_model.specs.Tokens.{bytes_of}
-use Rattle.gm_text.specs.Cursor.{Cursor}
-use Rattle.gm_text.specs.Nested.{Outside}
+use Rattle.gm_text.specs.inner.Cursor.{Cursor}
+use Rattle.gm_text.specs.inner.Nested.{Outside}
 use Rattle.gm_forms.specs.declared.form_fault.FormFault.{FormFault}
 use Rattle.gm_forms.specs.declared.form_fault.FormFault.TheVariants as faults
-use Rattle.gm_forms.specs.Reading.{Outer, AtFormat, AtVersion, is_version, outer_move, run_whole}
-use Rattle.gm_text.specs.SchemaAnswers.{marks_left}
-use Rattle.gm_forms.specs.Standing.{IsNext, IsHeaded, BeginsBook, IsVersioned, EndsAt, IsHeadFault, mark_of}
+use Rattle.gm_forms.specs.inner.Reading.{Outer, AtFormat, AtVersion, is_version, outer_move, run_whole}
+use Rattle.gm_text.specs.inner.SchemaAnswers.{marks_left}
+use Rattle.gm_forms.specs.inner.Standing.{IsNext, IsHeaded, BeginsBook, IsVersioned, EndsAt, IsHeadFault, mark_of}
 
 -- ---- no text of a book goes on
 

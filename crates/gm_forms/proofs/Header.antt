@@ -10,12 +10,12 @@ use Rattle.gm_model.specs.declared.limit.LimitKind.{LimitKind}
 use Rattle.gm_model.specs.declared.schema.Embed.{Embed}
 use Rattle.gm_model.specs.Symbols.{Symbol, Word, Numeral, Sign, Gone, Stray, End}
 use Rattle.gm_model.specs.Reading.{Part, word, number, the_end, in_role}
-use Rattle.gm_text.specs.Machine.{Leads, IsGrammar}
-use Rattle.gm_text.specs.Nested.{Outside, Inside, IsApart, HasPieces, IsNestedSentence, LeadsNested, LeadsInside}
-use Rattle.gm_text.specs.Nested as nested
+use Rattle.gm_text.specs.inner.Machine.{Leads, IsGrammar}
+use Rattle.gm_text.specs.inner.Nested.{Outside, Inside, IsApart, HasPieces, IsNestedSentence, LeadsNested, LeadsInside}
+use Rattle.gm_text.specs.inner.Nested as nested
 use Rattle.gm_text.specs.SchemaText as schemas
 use Rattle.gm_text.specs.SchemaText.{SchemaForm, embed_of, spell}
-use Rattle.gm_text.specs.SchemaReading as schema
+use Rattle.gm_text.specs.inner.SchemaReading as schema
 use Rattle.gm_text.proofs.Carried.{leads_carried, leads_within}
 use Rattle.gm_text.proofs.Nested.{nested_grammar}
 use Rattle.gm_text.proofs.SchemaGrammar as schema_grammar
@@ -23,7 +23,7 @@ use Rattle.gm_text.proofs.SchemaStanding.{limit_placeless}
 use Rattle.gm_text.proofs.SchemaStanding as schema_standing
 use Rattle.gm_forms.specs.declared.state.Heading.{Heading}
 use Rattle.gm_forms.specs.BookText.{BookForm, Role, Fixed, InSchema, limit_of, stands_before, spell_rules, spelling, IsSentence}
-use Rattle.gm_forms.specs.Reading.{State, AtRules, AtName, AtEnd, heading_at, Outer, AtFormat, AtVersion, InRules, Header, header_at, Whole, is_version, outer_role, in_rules, outer_move, heading_in, book_nesting, role_at, move}
+use Rattle.gm_forms.specs.inner.Reading.{State, AtRules, AtName, AtEnd, heading_at, Outer, AtFormat, AtVersion, InRules, Header, header_at, Whole, is_version, outer_role, in_rules, outer_move, heading_in, book_nesting, role_at, move}
 use Rattle.gm_forms.proofs.Grammar.{same_limit, same_before, has_marks}
 use Rattle.gm_forms.proofs.Leading.{at_header, led_rules, goes_on}
 use Rattle.gm_forms.proofs.Marks.{along_rules}

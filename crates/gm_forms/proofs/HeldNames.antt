@@ -10,7 +10,7 @@ use Rattle.indexmap.specs.IndexSet.{insert_key}
 use Rattle.gm_model.specs.Names.{is_among}
 use Rattle.gm_forms.specs.BookText.{with_name}
 use Rattle.gm_forms.specs.declared.key.NameKey.{NameKey}
-use Rattle.gm_forms.specs.Held.{names_at}
+use Rattle.gm_forms.specs.inner.Held.{names_at}
 
 abbrev pub same_bytes : NameKey → NameKey → Bool
 same_bytes x y = bytes_eq x.bytes.now y.bytes.now

@@ -17,16 +17,16 @@ use Rattle.gm_model.specs.Reading.{Part, word, sign, the_end}
 use Rattle.gm_forms.specs.BookText.{Item, NodeItem, LinkItem, ParamForm, ExprToken, SetForm, RuleForm, Count, no_count, count_after, counted, count_across, with_name, hook_count, Role, Fixed, RuleWord, NameAt, InExpr, NodeSign, limit_of, stands_before, named, spell_letters, part_of, in_expr, spell_value, spell_sets, spell_hook, spell_item, spell_items, spell_pre, spell_param, spell_more_params, spell_params, spell_rules, IsTokenPlaced, IsExpr, IsSet, IsPre, IsItem, IsParam, IsRule}
 use Rattle.std.specs.Option.{option_map}
 use Rattle.std.specs.Prelude.{IsTrue}
-use Rattle.gm_parse.specs.Reading as exprs
-use Rattle.gm_parse.specs.Reading.{first_spot, spot_move, spot_role, is_whole_spot}
+use Rattle.gm_parse.specs.inner.Reading as exprs
+use Rattle.gm_parse.specs.inner.Reading.{first_spot, spot_move, spot_role, is_whole_spot}
 use Rattle.gm_parse.specs.Spelling as exprs_spelling
 use Rattle.gm_parse.specs.Spelling.{Counted}
 use Rattle.gm_parse.proofs.Counted.{LedSpot, spot_behind, form_leads, form_whole, spot_goes_on}
 use Rattle.gm_forms.proofs.Apart.{apart, expr_moved}
-use Rattle.gm_text.specs.Machine.{Leads}
+use Rattle.gm_text.specs.inner.Machine.{Leads}
 use Rattle.gm_text.specs.SchemaText.{kind_word}
 use Rattle.gm_forms.specs.declared.state.Heading.{Heading}
-use Rattle.gm_forms.specs.Reading.{Spot, State, AtRules, AtName, AtLeft, AtParam, AtColon, AtKind, AtComma, AtBody, AtItem, AtSign, AtLetter, AtBehind, AtSet, AtEqual, AtExpr, AtRuleEnd, AtLabel, AtDash, AtTo, AtEnd, Slot, SetSlot, PreSlot, behind_slot, dim_of, on_right, left_spot, with_node, with_link, with_hook, closing, takes_hook, is_hook_on, is_hook, is_pre_on, is_with_on, item_role, plain_role, role_at, param_kind, item_move, plain_move, move}
+use Rattle.gm_forms.specs.inner.Reading.{Spot, State, AtRules, AtName, AtLeft, AtParam, AtColon, AtKind, AtComma, AtBody, AtItem, AtSign, AtLetter, AtBehind, AtSet, AtEqual, AtExpr, AtRuleEnd, AtLabel, AtDash, AtTo, AtEnd, Slot, SetSlot, PreSlot, behind_slot, dim_of, on_right, left_spot, with_node, with_link, with_hook, closing, takes_hook, is_hook_on, is_hook, is_pre_on, is_with_on, item_role, plain_role, role_at, param_kind, item_move, plain_move, move}
 
 abbrev pub Led : State → List (Part Role) → Type 0
 Led state parts = Leads limit_of stands_before role_at move state parts AtEnd

@@ -19,16 +19,16 @@ use Rattle.gm_model.specs.Reading.{word, number, sign}
 use Rattle.gm_forms.specs.BookText.{Item, NodeItem, LinkItem, ParamForm, ExprToken, SetForm, RuleForm, Count, with_name, Role, Fixed, RuleWord, NameAt, ParamName, LetterAt, NodeSign, LinkSign, LabelAt, limit_of, stands_before, named, part_of, in_expr, spell_sets, spell_hook, IsExpr, IsSet, IsItem, IsRule}
 use Rattle.std.specs.Option.{option_map}
 use Rattle.gm_text.specs.SchemaText.{kind_word}
-use Rattle.gm_text.specs.SchemaReading.{kind_named}
+use Rattle.gm_text.specs.inner.SchemaReading.{kind_named}
 use Rattle.gm_text.proofs.SchemaGrammar.{kind_spelled}
 use Rattle.std.specs.Prelude.{IsTrue}
-use Rattle.gm_parse.specs.Reading as exprs
-use Rattle.gm_parse.specs.Reading.{first_spot, spot_move, spot_role, is_whole_spot}
+use Rattle.gm_parse.specs.inner.Reading as exprs
+use Rattle.gm_parse.specs.inner.Reading.{first_spot, spot_move, spot_role, is_whole_spot}
 use Rattle.gm_parse.proofs.Counted.{path_form}
 use Rattle.gm_forms.proofs.Apart.{expr_placed}
 use Rattle.gm_text.proofs.Machine.{Along}
 use Rattle.gm_forms.specs.declared.state.Heading.{Heading}
-use Rattle.gm_forms.specs.Reading.{Spot, State, AtRules, AtName, AtLeft, AtParam, AtColon, AtKind, AtComma, AtBody, AtItem, AtSign, AtLetter, AtBehind, AtSet, AtEqual, AtExpr, AtRuleEnd, AtLabel, AtDash, AtTo, AtEnd, SetSlot, PreSlot, on_right, left_spot, right_spot, with_node, with_link, closing, takes_hook, is_hook, is_pre_on, is_with_on, role_at, expect, item_move, behind_move, plain_move, unless_reserved, end_move, closed, comma_move, param_kind, expr_move, move, Nothing, Assigned, Required, assign_last, require, Held, mention_at, with_param, hook_last, held_behind}
+use Rattle.gm_forms.specs.inner.Reading.{Spot, State, AtRules, AtName, AtLeft, AtParam, AtColon, AtKind, AtComma, AtBody, AtItem, AtSign, AtLetter, AtBehind, AtSet, AtEqual, AtExpr, AtRuleEnd, AtLabel, AtDash, AtTo, AtEnd, SetSlot, PreSlot, on_right, left_spot, right_spot, with_node, with_link, closing, takes_hook, is_hook, is_pre_on, is_with_on, role_at, expect, item_move, behind_move, plain_move, unless_reserved, end_move, closed, comma_move, param_kind, expr_move, move, Nothing, Assigned, Required, assign_last, require, Held, mention_at, with_param, hook_last, held_behind}
 use Rattle.gm_forms.proofs.Leading.{spot_at, taken_left}
 use Rattle.gm_forms.proofs.Spelling.{Parts, within, behind, either, grown, Items, ItemsAt, spelled, hooked_at, all, put, assign_all, finish, AreOn, AfterHeader, Rest, After, expected, free_word, mark_at, part_in, add, spelled_add, all_put, finish_put, all_behind, declared_none, declared_more}
 

@@ -9,14 +9,14 @@ use Rattle.gm_model.specs.declared.token.TokenKind.{TokenKind}
 use Rattle.gm_model.specs.declared.token.TokenKind.TheVariants.{Name}
 use Rattle.gm_model.specs.Names.{reserved, is_among}
 use Rattle.gm_model.specs.Tokens.{IsLexeme, bytes_of}
-use Rattle.gm_text.specs.SchemaAnswers.{IsToken}
+use Rattle.gm_text.specs.inner.SchemaAnswers.{IsToken}
 use Rattle.gm_forms.specs.declared.draft.Draft.{Draft}
 use Rattle.gm_forms.specs.declared.form_fault.FormFault.TheVariants as faults
 use Rattle.gm_forms.specs.declared.state.Heading.{Heading}
 use Rattle.gm_forms.specs.declared.state.Spot.{Spot}
 use Rattle.gm_forms.specs.declared.state.State.TheVariants as code
-use Rattle.gm_forms.specs.Forms.{IsIn, mention_of}
-use Rattle.gm_forms.specs.Standing.{Leads, stepped, rules_of, current_of, Moves, word_mark}
+use Rattle.gm_forms.specs.inner.Forms.{IsIn, mention_of}
+use Rattle.gm_forms.specs.inner.Standing.{Leads, stepped, rules_of, current_of, Moves, word_mark}
 
 -- ---- what the code tests, of the token's bytes
 

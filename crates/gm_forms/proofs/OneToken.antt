@@ -15,7 +15,7 @@ use Rattle.gm_forms.specs.declared.form_fault.FormFault.TheVariants as faults
 use Rattle.gm_forms.specs.declared.state.Heading.{Heading}
 use Rattle.gm_forms.specs.declared.state.Spot.{Spot}
 use Rattle.gm_forms.specs.declared.state.State.TheVariants as code
-use Rattle.gm_forms.specs.Standing.{Leads, stand_in, stepped, word_mark, number_mark, sign_mark}
+use Rattle.gm_forms.specs.inner.Standing.{Leads, stand_in, stepped, word_mark, number_mark, sign_mark}
 
 module _ (text : List ℕ) (token : Token) where
   pub no_bracket : (heading : Heading) (so_far : ℕ) → bytes_eq (bytes_of text token) (codes "(") ≡ false → Leads text (code.Left heading so_far) (sign_mark text token) (Err (faults.Text token.start))

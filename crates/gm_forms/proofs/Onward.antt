@@ -2,21 +2,21 @@
 use Rattle.std.proofs.Common.{arith, ◌≡◌, ℕ, Bool, true, false, cond, List, ◌∷◌, Option, Some, None, Result, Ok, Err, refl, sym, ap, subst, ◌∙◌}
 use Rattle.gm_model.specs.declared.token.Token.{Token}
 use Rattle.gm_model.specs.Symbols.{Stray, Mark}
-use Rattle.gm_text.specs.Cursor.{Cursor}
-use Rattle.gm_text.specs.Lexing.{rest_of, items_read, after, IsInText, IsLongestThere}
+use Rattle.gm_text.specs.inner.Cursor.{Cursor}
+use Rattle.gm_text.specs.inner.Lexing.{rest_of, items_read, after, IsInText, IsLongestThere}
 use Rattle.gm_text.proofs.Marks.{marks_at-token, marks_at-end}
 use Rattle.gm_forms.specs.declared.draft.Draft.{Draft}
 use Rattle.gm_forms.specs.declared.form_fault.FormFault.{FormFault}
 use Rattle.gm_forms.specs.declared.form_fault.FormFault.TheVariants as faults
 use Rattle.gm_forms.specs.declared.state.State.{State as CodeState}
-use Rattle.gm_text.specs.Machine as machines
-use Rattle.gm_parse.specs.Reading.{is_whole_spot}
+use Rattle.gm_text.specs.inner.Machine as machines
+use Rattle.gm_parse.specs.inner.Reading.{is_whole_spot}
 use Rattle.gm_forms.specs.BookText.{limit_of, stands_before}
 use Rattle.gm_forms.proofs.Apart.{other_stuck}
 use Rattle.gm_forms.proofs.Values.{plain_before}
-use Rattle.gm_forms.specs.Reading.{Slot, SetSlot, PreSlot, behind_slot, plain_role, plain_move, role_at, move, State, AtRules, AtName, AtLeft, AtParam, AtColon, AtKind, AtComma, AtBody, AtItem, AtSign, AtLetter, AtBehind, AtSet, AtEqual, AtExpr, AtRuleEnd, AtLabel, AtDash, AtTo, AtEnd, Held}
-use Rattle.gm_text.specs.SchemaAnswers.{marks_left}
-use Rattle.gm_forms.specs.Standing.{Stand, settled, stepped, read_on, ◌>>=◌, Fails, IsNext, IsStateIn, IsDraftIn, MovesFrom, stand_of, mark_of}
+use Rattle.gm_forms.specs.inner.Reading.{Slot, SetSlot, PreSlot, behind_slot, plain_role, plain_move, role_at, move, State, AtRules, AtName, AtLeft, AtParam, AtColon, AtKind, AtComma, AtBody, AtItem, AtSign, AtLetter, AtBehind, AtSet, AtEqual, AtExpr, AtRuleEnd, AtLabel, AtDash, AtTo, AtEnd, Held}
+use Rattle.gm_text.specs.inner.SchemaAnswers.{marks_left}
+use Rattle.gm_forms.specs.inner.Standing.{Stand, settled, stepped, read_on, ◌>>=◌, Fails, IsNext, IsStateIn, IsDraftIn, MovesFrom, stand_of, mark_of}
 
 -- ---- tokens
 

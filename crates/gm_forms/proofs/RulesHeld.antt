@@ -14,13 +14,13 @@ use Rattle.gm_model.specs.Names.{Mention, IsFree, reserved, is_among}
 use Rattle.gm_model.specs.Reading.{word, sign, the_end}
 use Rattle.gm_forms.specs.BookText.{ExprToken, SetForm, Item, NodeItem, LinkItem, ParamForm, RuleForm, Count, no_count, count_after, counted, count_across, Role, Fixed, NameAt, ParamName, InExpr, named, part_of, in_expr, spell_value, spell_sets, spell_pre, spell_letters, spell_hook, spell_item, spell_items, spell_more_params, spell_params, spell_rules, IsTokenPlaced, IsExpr, IsSet, IsPre, IsItem, IsParam, IsRule}
 use Rattle.gm_forms.specs.declared.state.Heading.{Heading}
-use Rattle.gm_forms.specs.Reading.{Spot, State, AtRules, AtName, AtLeft, AtComma, AtBody, AtItem, AtSign, AtSet, closed, AtExpr, AtRuleEnd, AtEnd, Slot, SetSlot, PreSlot, behind_slot, dim_of, on_right, left_spot, AtLetter, AtBehind, with_node, with_hook, takes_hook, is_hook_on, is_with_on, plain_move, Part, Nothing, Assigned, Required, Lettered, Held, put_expr, with_token, assign_last, with_param, hook_last, held_behind}
+use Rattle.gm_forms.specs.inner.Reading.{Spot, State, AtRules, AtName, AtLeft, AtComma, AtBody, AtItem, AtSign, AtSet, closed, AtExpr, AtRuleEnd, AtEnd, Slot, SetSlot, PreSlot, behind_slot, dim_of, on_right, left_spot, AtLetter, AtBehind, with_node, with_hook, takes_hook, is_hook_on, is_with_on, plain_move, Part, Nothing, Assigned, Required, Lettered, Held, put_expr, with_token, assign_last, with_param, hook_last, held_behind}
 use Rattle.gm_forms.proofs.Leading.{spot_at, hooked_by, hooked_in, IsTaken, AreTaken, left_taken, right_taken, kind_again, free_closes, free_pre, free_with, free_hook, hook_side, link_free}
 use Rattle.gm_forms.proofs.Spelling.{Parts, within, behind, declared, put, assign_all, hook_put, finish_put}
 use Rattle.gm_forms.proofs.Apart.{apart, expr_moved}
 use Rattle.gm_forms.proofs.Values.{holding, with_tokens, assigned_tokens, required_tokens}
-use Rattle.gm_parse.specs.Reading as exprs
-use Rattle.gm_parse.specs.Reading.{first_spot, spot_move, spot_role, is_whole_spot}
+use Rattle.gm_parse.specs.inner.Reading as exprs
+use Rattle.gm_parse.specs.inner.Reading.{first_spot, spot_move, spot_role, is_whole_spot}
 use Rattle.gm_parse.specs.Spelling as spelling
 use Rattle.gm_parse.specs.Spelling.{Counted}
 use Rattle.gm_parse.proofs.Counted.{LedSpot, spot_behind, form_leads, form_whole}

@@ -3,12 +3,12 @@ use Rattle.std.proofs.Common.{◌≡◌, ℕ, List, [], ◌∷◌, Option, Some,
 use Rattle.gm_model.specs.declared.limit.LimitKind.{LimitKind}
 use Rattle.gm_model.specs.Symbols.{Mark}
 use Rattle.gm_forms.specs.BookText.{RuleForm, limit_of, stands_before}
-use Rattle.gm_text.specs.Machine as machine
+use Rattle.gm_text.specs.inner.Machine as machine
 use Rattle.gm_forms.specs.declared.form_fault.FormFault.{FormFault}
 use Rattle.gm_forms.specs.declared.form_fault.FormFault.TheVariants as faults
 use Rattle.gm_forms.specs.declared.state.Heading.{Heading}
-use Rattle.gm_forms.specs.Reading.{State, AtRules, AtEnd, role_at, move, step, run, Nothing, Held, hold, held_behind}
-use Rattle.gm_forms.specs.Standing.{Stand, rules_stand, fault_of, settled, stepped, read_on, ◌>>=◌, AreRulesRead, IsRulesFault, Fails}
+use Rattle.gm_forms.specs.inner.Reading.{State, AtRules, AtEnd, role_at, move, step, run, Nothing, Held, hold, held_behind}
+use Rattle.gm_forms.specs.inner.Standing.{Stand, rules_stand, fault_of, settled, stepped, read_on, ◌>>=◌, AreRulesRead, IsRulesFault, Fails}
 
 abbrev taken : State → Mark → ℕ → Option State → Option LimitKind → Result State (machine.Stop State LimitKind)
 taken state mark place next limit = machine.taken limit_of stands_before role_at move state mark place next limit

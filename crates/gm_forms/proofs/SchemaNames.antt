@@ -8,11 +8,11 @@ use Rattle.gm_model.specs.declared.schema.Embed.{Embed}
 use Rattle.gm_model.specs.declared.word.Mask.{Mask}
 use Rattle.gm_model.specs.Symbols.{Symbol, Word, Numeral, Sign, Gone, Stray, End, Mark, symbols}
 use Rattle.gm_model.specs.Reading.{Part, IsWithin, symbols_in, ArePlaced}
-use Rattle.gm_text.specs.Cursor.{Cursor}
-use Rattle.gm_text.specs.Machine.{Stop, Ends, Passes, Leads}
+use Rattle.gm_text.specs.inner.Cursor.{Cursor}
+use Rattle.gm_text.specs.inner.Machine.{Stop, Ends, Passes, Leads}
 use Rattle.gm_text.specs.SchemaText.{SchemaForm, Role, NameAt, LabelAt, Passed, LimitOf, Again, limit_of, is_again, embed_of, names_in, spell, IsSentence, IsPlacedAt}
-use Rattle.gm_text.specs.SchemaReading.{State, AtDim, AtTop, AtEmbeds, AtName, AtOrbit, AtLabel, AtKind, role_at, label_role, move, is_whole, never, Stands}
-use Rattle.gm_text.specs.SchemaAnswers.{marks_left, run_in, StopsOrLost}
+use Rattle.gm_text.specs.inner.SchemaReading.{State, AtDim, AtTop, AtEmbeds, AtName, AtOrbit, AtLabel, AtKind, role_at, label_role, move, is_whole, never, Stands}
+use Rattle.gm_text.specs.inner.SchemaAnswers.{marks_left, run_in, StopsOrLost}
 use Rattle.gm_text.specs.declared.schema_fault.SchemaFault.{SchemaFault}
 use Rattle.gm_text.specs.declared.schema_fault.SchemaFault.TheVariants as faults
 use Rattle.gm_text.proofs.Machine.{Along, part_at}

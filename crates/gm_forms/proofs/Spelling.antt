@@ -15,11 +15,11 @@ use Rattle.gm_model.specs.Reading.{word, number, sign, the_end}
 use Rattle.gm_forms.specs.BookText.{Item, NodeItem, LinkItem, ParamForm, ExprToken, SetForm, RuleForm, Count, count_after, counted, count_across, Role, Fixed, RuleWord, LabelAt, named, part_of, spell_value, spell_sets, spell_pre, spell_letters, spell_hook, spell_item, spell_items, spell_param, spell_more_params, spell_params, spell_rule, spell_rules, IsTokenPlaced, IsExpr, IsSet, IsPre, IsItem, IsParam, IsRule}
 use Rattle.gm_text.specs.SchemaText.{kind_word}
 use Rattle.std.specs.Prelude.{IsTrue}
-use Rattle.gm_parse.specs.Reading as exprs
-use Rattle.gm_parse.specs.Reading.{is_whole_spot}
+use Rattle.gm_parse.specs.inner.Reading as exprs
+use Rattle.gm_parse.specs.inner.Reading.{is_whole_spot}
 use Rattle.gm_parse.proofs.Counted.{LedSpot}
 use Rattle.gm_forms.specs.declared.state.Heading.{Heading}
-use Rattle.gm_forms.specs.Reading.{Spot, State, AtRules, AtName, AtLeft, AtParam, AtColon, AtKind, AtComma, AtBody, AtItem, AtSign, AtLetter, AtBehind, AtSet, AtEqual, AtExpr, AtRuleEnd, AtLabel, AtDash, AtTo, AtEnd, SetSlot, PreSlot, on_right, left_spot, takes_hook, role_at, expect, unless_reserved, Part, Nothing, Declared, Named, Lettered, Linked, Labelled, Assigned, Required, assigned, assign_last, require, Held, nothing_held, with_param, with_item, hooked, hook_last, held_behind}
+use Rattle.gm_forms.specs.inner.Reading.{Spot, State, AtRules, AtName, AtLeft, AtParam, AtColon, AtKind, AtComma, AtBody, AtItem, AtSign, AtLetter, AtBehind, AtSet, AtEqual, AtExpr, AtRuleEnd, AtLabel, AtDash, AtTo, AtEnd, SetSlot, PreSlot, on_right, left_spot, takes_hook, role_at, expect, unless_reserved, Part, Nothing, Declared, Named, Lettered, Linked, Labelled, Assigned, Required, assigned, assign_last, require, Held, nothing_held, with_param, with_item, hooked, hook_last, held_behind}
 use Rattle.gm_forms.proofs.Leading.{spot_at, hooked_by, IsTaken, AreTaken}
 
 abbrev pub Parts : Type 0

@@ -10,7 +10,7 @@ use Rattle.gm_forms.specs.declared.state.Heading.{Heading}
 use Rattle.gm_forms.specs.declared.state.Spot.{Spot}
 use Rattle.gm_forms.specs.declared.state.State.{State as CodeState}
 use Rattle.gm_forms.specs.declared.state.State.TheVariants as code
-use Rattle.gm_forms.specs.Standing.{Gives, IsOutside, Moves, stepped, word_mark, sign_mark}
+use Rattle.gm_forms.specs.inner.Standing.{Gives, IsOutside, Moves, stepped, word_mark, sign_mark}
 
 -- nothing is said where memory was wanting
 pub memory_wanting : {X Y : Type 0} (view : X → Y) (result : Result X FormFault) (found : Result Y FormFault) → IsErrAnd result (λ fault. fault ≡ faults.OutOfMemory) → Gives view result found

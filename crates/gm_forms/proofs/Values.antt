@@ -6,15 +6,15 @@ use Rattle.std.specs.Prelude.{IsTrue}
 use Rattle.gm_model.specs.declared.limit.LimitKind.{LimitKind}
 use Rattle.gm_model.specs.Names.{Mention}
 use Rattle.gm_model.specs.Symbols.{Symbol, Word, Numeral, Sign, Gone, Stray, End, Mark}
-use Rattle.gm_text.specs.Cursor.{Cursor}
-use Rattle.gm_text.specs.Machine.{Stop, Ends, Passes}
-use Rattle.gm_text.specs.SchemaAnswers.{marks_left}
+use Rattle.gm_text.specs.inner.Cursor.{Cursor}
+use Rattle.gm_text.specs.inner.Machine.{Stop, Ends, Passes}
+use Rattle.gm_text.specs.inner.SchemaAnswers.{marks_left}
 use Rattle.gm_text.proofs.Machine.{last_of, Refused, Limited, Moved}
 use Rattle.gm_text.proofs.Machine as machine
-use Rattle.gm_text.specs.Machine as machines
-use Rattle.gm_parse.specs.Answers.{run_in}
-use Rattle.gm_parse.specs.Reading as exprs
-use Rattle.gm_parse.specs.Reading.{first_spot, spot_move, spot_role, is_whole_spot, never}
+use Rattle.gm_text.specs.inner.Machine as machines
+use Rattle.gm_parse.specs.inner.Answers.{run_in}
+use Rattle.gm_parse.specs.inner.Reading as exprs
+use Rattle.gm_parse.specs.inner.Reading.{first_spot, spot_move, spot_role, is_whole_spot, never}
 use Rattle.gm_parse.specs.Spelling.{limit_in}
 use Rattle.gm_forms.specs.BookText.{ExprToken, RuleForm, limit_of, stands_before}
 use Rattle.gm_forms.specs.declared.draft.Draft.{Draft}
@@ -25,13 +25,13 @@ use Rattle.gm_forms.specs.declared.state.Heading.{Heading}
 use Rattle.gm_forms.specs.declared.state.Spot.{Spot as CodeSpot}
 use Rattle.gm_forms.specs.declared.state.State.TheVariants as code
 use Rattle.gm_model.specs.declared.token.Token.{Token}
-use Rattle.gm_forms.specs.Forms.{mention_of, tokens_from, marks_in, value_of}
+use Rattle.gm_forms.specs.inner.Forms.{mention_of, tokens_from, marks_in, value_of}
 use Rattle.std.specs.Str.{bytes_eq}
 use Rattle.gm_model.specs.declared.rule.Side.{Side}
 use Rattle.gm_model.specs.declared.rule.Side.TheVariants.{Left, Right}
-use Rattle.gm_forms.specs.Reading.{Spot, State, AtExpr, AtRuleEnd, closing, is_hook, is_pre_on, is_with_on, item_role, behind_role, end_role, on_right, Slot, SetSlot, PreSlot, behind_slot, dim_of, plain_role, role_at, move, Part, Nothing, Assigned, Required, Held, put_expr, with_token, token_at, assign_last, require}
-use Rattle.gm_forms.specs.Standing.{Stand, settled, stepped, read_on, ◌>>=◌, Fails, stand_of, spot_of, rules_of, current_of}
-use Rattle.gm_forms.specs.Values.{IsGoneOver, IsValueFault}
+use Rattle.gm_forms.specs.inner.Reading.{Spot, State, AtExpr, AtRuleEnd, closing, is_hook, is_pre_on, is_with_on, item_role, behind_role, end_role, on_right, Slot, SetSlot, PreSlot, behind_slot, dim_of, plain_role, role_at, move, Part, Nothing, Assigned, Required, Held, put_expr, with_token, token_at, assign_last, require}
+use Rattle.gm_forms.specs.inner.Standing.{Stand, settled, stepped, read_on, ◌>>=◌, Fails, stand_of, spot_of, rules_of, current_of}
+use Rattle.gm_forms.specs.inner.Values.{IsGoneOver, IsValueFault}
 
 abbrev at_expr : Slot → exprs.Spot → ℕ → Held → Stand
 at_expr slot spot last held = record { state = AtExpr slot spot; last = last; held = held }

@@ -5,19 +5,19 @@ use Rattle.std.specs.List.{AllByRecursion, prefix_len}
 use Rattle.gm_model.specs.declared.token.Token.{Token}
 use Rattle.gm_model.specs.Symbols.{Symbol, Mark, symbols, marks_at}
 use Rattle.gm_model.specs.Reading.{Part, symbols_in, ArePlaced}
-use Rattle.gm_text.specs.Cursor.{Cursor}
-use Rattle.gm_text.specs.SchemaAnswers.{marks_left, mark_at, IsNext, IsNoneNext}
-use Rattle.gm_parse.specs.Answers.{IsExprSkipped, SkipsExpr, run_in}
-use Rattle.gm_parse.specs.Reading as exprs
-use Rattle.gm_parse.specs.Reading.{first_spot, spot_role, spot_move}
+use Rattle.gm_text.specs.inner.Cursor.{Cursor}
+use Rattle.gm_text.specs.inner.SchemaAnswers.{marks_left, mark_at, IsNext, IsNoneNext}
+use Rattle.gm_parse.specs.inner.Answers.{IsExprSkipped, SkipsExpr, run_in}
+use Rattle.gm_parse.specs.inner.Reading as exprs
+use Rattle.gm_parse.specs.inner.Reading.{first_spot, spot_role, spot_move}
 use Rattle.gm_parse.specs.Spelling as spelling
 use Rattle.gm_parse.specs.Spelling.{Role, Counted, counted_from, parts_of, spell}
 use Rattle.gm_parse.specs.Forms.{Form}
 use Rattle.gm_parse.proofs.Counted.{LedSpot, spot_behind, form_leads, parts_symbols}
 use Rattle.gm_forms.specs.BookText.{IsValue, IsTokenPlaced, part_of}
 use Rattle.gm_forms.specs.declared.form.Span.{Span}
-use Rattle.gm_forms.specs.Forms.{tokens_from, marks_in, IsSpanIn}
-use Rattle.gm_forms.specs.Values.{IsGoneOver}
+use Rattle.gm_forms.specs.inner.Forms.{tokens_from, marks_in, IsSpanIn}
+use Rattle.gm_forms.specs.inner.Values.{IsGoneOver}
 use Rattle.gm_forms.proofs.Apart.{expr_moved}
 use Rattle.gm_forms.proofs.NamePlaces.{MarksRise, items_rise}
 

@@ -3,13 +3,13 @@ use Rattle.std.proofs.Common.{◌≡◌, ◌≢◌, ℕ, Bool, false, cond, List
 use Rattle.gm_model.specs.declared.limit.LimitKind.{LimitKind}
 use Rattle.gm_model.specs.declared.schema.Embed.{Embed}
 use Rattle.gm_model.specs.Symbols.{Symbol, Word, Numeral, Sign, Gone, Stray, End, Mark}
-use Rattle.gm_text.specs.Cursor.{Cursor}
-use Rattle.gm_text.specs.Machine.{Stop, Ends, Passes, limit_place}
-use Rattle.gm_text.specs.Machine as machine
-use Rattle.gm_text.specs.Nested.{Outside, Inside}
-use Rattle.gm_text.specs.Nested as nested
-use Rattle.gm_text.specs.SchemaReading as schema
-use Rattle.gm_text.specs.SchemaAnswers.{marks_left, SkipsSchema, Stops}
+use Rattle.gm_text.specs.inner.Cursor.{Cursor}
+use Rattle.gm_text.specs.inner.Machine.{Stop, Ends, Passes, limit_place}
+use Rattle.gm_text.specs.inner.Machine as machine
+use Rattle.gm_text.specs.inner.Nested.{Outside, Inside}
+use Rattle.gm_text.specs.inner.Nested as nested
+use Rattle.gm_text.specs.inner.SchemaReading as schema
+use Rattle.gm_text.specs.inner.SchemaAnswers.{marks_left, SkipsSchema, Stops}
 use Rattle.gm_text.specs.declared.schema_fault.SchemaFault.{SchemaFault}
 use Rattle.gm_text.specs.declared.schema_fault.SchemaFault.TheVariants as faults
 use Rattle.gm_text.proofs.Carried.{carried, run_carried}
@@ -17,8 +17,8 @@ use Rattle.gm_text.proofs.Machine.{last_of}
 use Rattle.gm_text.proofs.Nested.{run_inside, run_inside_ends, run_inside_passes}
 use Rattle.gm_text.proofs.SchemaWhole.{run_limits, limits_run, limits_ok, limits_end, limits_pass, never_again}
 use Rattle.gm_forms.specs.BookText.{Role, InSchema, limit_of, stands_before}
-use Rattle.gm_forms.specs.Reading.{State, AtRules, AtFormat, Header, header_at, Whole, in_rules, heading_at, book_nesting, rules_role, role_at, move, run, run_whole}
-use Rattle.gm_forms.specs.Standing.{IsHeaded}
+use Rattle.gm_forms.specs.inner.Reading.{State, AtRules, AtFormat, Header, header_at, Whole, in_rules, heading_at, book_nesting, rules_role, role_at, move, run, run_whole}
+use Rattle.gm_forms.specs.inner.Standing.{IsHeaded}
 use Rattle.gm_forms.proofs.SchemaNames.{no_embed}
 
 -- ---- the version

@@ -1,6 +1,2 @@
 pub mod BookText
-pub mod Forms
-pub mod Reading
-pub mod Standing
-pub mod Held
-pub mod Values
+pub mod inner

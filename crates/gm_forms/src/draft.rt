@@ -2,10 +2,10 @@
 ghost use Rattle.std.specs.Prelude.{◌≡◌, List, ℕ, [], Some, IfOk, IfErr, OnOk, ◌++◌, None};
 ghost use Rattle.std.specs.Option.{option_map};
 ghost use Rattle.gm_forms.specs.declared.form_fault.FormFault.TheVariants as faults;
-ghost use Rattle.gm_forms.specs.Forms.{mention_of, value_of, set_form_of, item_of, param_form_of, rule_form_of, IsIn, IsSpanIn, IsSetIn, IsItemIn, IsParamIn, IsRuleIn};
-ghost use Rattle.gm_forms.specs.Reading.{with_item, with_param, with_set, assign_last, require, listed};
+ghost use Rattle.gm_forms.specs.inner.Forms.{mention_of, value_of, set_form_of, item_of, param_form_of, rule_form_of, IsIn, IsSpanIn, IsSetIn, IsItemIn, IsParamIn, IsRuleIn};
+ghost use Rattle.gm_forms.specs.inner.Reading.{with_item, with_param, with_set, assign_last, require, listed};
 ghost use Rattle.gm_forms.specs.BookText.{NodeItem};
-ghost use Rattle.gm_forms.specs.Standing.{rules_of, current_of, IsDraftIn};
+ghost use Rattle.gm_forms.specs.inner.Standing.{rules_of, current_of, IsDraftIn};
 
 use crate::form::{Item, ParamForm, RuleForm, SetForm, Span};
 use crate::form_fault::FormFault;

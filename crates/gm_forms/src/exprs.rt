@@ -3,11 +3,11 @@ ghost use Rattle.std.specs.Prelude.{◌≡◌, ◌≤◌, ℕ, List, ◌∷◌, 
 ghost use Rattle.gm_model.specs.Symbols.{Mark};
 ghost use Rattle.gm_model.specs.declared.rule.Side.TheVariants.{Right};
 ghost use Rattle.gm_model.specs.declared.token.TokenKind.TheVariants.{Name};
-ghost use Rattle.gm_text.specs.SchemaAnswers.{IsToken, marks_left};
+ghost use Rattle.gm_text.specs.inner.SchemaAnswers.{IsToken, marks_left};
 ghost use Rattle.gm_forms.specs.declared.state.State.TheVariants as states;
-ghost use Rattle.gm_forms.specs.Forms.{IsIn, IsSpanIn};
-ghost use Rattle.gm_forms.specs.Standing.{Leads, StaysIn, KeepsIn, IsOutside, GoesPast, read_on, stand_of, word_mark, sign_mark};
-ghost use Rattle.gm_forms.specs.Values.{IsGoneOver, IsValueFault};
+ghost use Rattle.gm_forms.specs.inner.Forms.{IsIn, IsSpanIn};
+ghost use Rattle.gm_forms.specs.inner.Standing.{Leads, StaysIn, KeepsIn, IsOutside, GoesPast, read_on, stand_of, word_mark, sign_mark};
+ghost use Rattle.gm_forms.specs.inner.Values.{IsGoneOver, IsValueFault};
 
 use crate::draft::Draft;
 use crate::form::{SetForm, Span};

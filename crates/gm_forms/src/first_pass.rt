@@ -1,8 +1,8 @@
 //! A book's rules read from left to right up to the first fault of their grammar and limits.
 ghost use Rattle.std.specs.Prelude.{◌≡◌, [], None, length, IfOk, IfErr};
-ghost use Rattle.gm_forms.specs.Forms.{forms_of, AreRulesIn};
-ghost use Rattle.gm_text.specs.SchemaAnswers.{marks_left};
-ghost use Rattle.gm_forms.specs.Standing.{Gives, rules_stand, end_stand, read_on, AreRulesRead, IsRulesFault};
+ghost use Rattle.gm_forms.specs.inner.Forms.{forms_of, AreRulesIn};
+ghost use Rattle.gm_text.specs.inner.SchemaAnswers.{marks_left};
+ghost use Rattle.gm_forms.specs.inner.Standing.{Gives, rules_stand, end_stand, read_on, AreRulesRead, IsRulesFault};
 
 use crate::form::RuleForm;
 use crate::form_fault::FormFault;

@@ -36,7 +36,7 @@ impl<T: Drop> From<AllocFailed<T>> for FormFault {
 
 impl From<SyntaxFault> for FormFault {
     ghost use Rattle.std.specs.Prelude.{◌≡◌};
-    ghost use Rattle.gm_forms.specs.Values.{form_fault_of_syntax};
+    ghost use Rattle.gm_forms.specs.inner.Values.{form_fault_of_syntax};
 
     ghost from_gives = { λ fault given. given ≡ form_fault_of_syntax fault };
 

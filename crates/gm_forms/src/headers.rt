@@ -1,9 +1,9 @@
 //! The word `book` and the version, with which a book begins.
 ghost use Rattle.std.specs.Prelude.{◌≡◌, IfOk, IfErr};
-ghost use Rattle.gm_text.specs.Nested.{Outside};
-ghost use Rattle.gm_forms.specs.Reading.{AtFormat, AtVersion};
-ghost use Rattle.gm_text.specs.SchemaAnswers.{marks_left};
-ghost use Rattle.gm_forms.specs.Standing.{IsNext, IsHeaded, BeginsBook, IsVersioned, IsHeadFault};
+ghost use Rattle.gm_text.specs.inner.Nested.{Outside};
+ghost use Rattle.gm_forms.specs.inner.Reading.{AtFormat, AtVersion};
+ghost use Rattle.gm_text.specs.inner.SchemaAnswers.{marks_left};
+ghost use Rattle.gm_forms.specs.inner.Standing.{IsNext, IsHeaded, BeginsBook, IsVersioned, IsHeadFault};
 
 use crate::form_fault::FormFault;
 use crate::words::reads;

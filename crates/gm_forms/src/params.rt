@@ -1,9 +1,9 @@
 //! Moves among the parameters of a rule.
 ghost use Rattle.std.specs.Prelude.{◌≡◌, List, ℕ};
 ghost use Rattle.gm_model.specs.declared.token.TokenKind.TheVariants.{Name};
-ghost use Rattle.gm_text.specs.SchemaAnswers.{IsToken};
+ghost use Rattle.gm_text.specs.inner.SchemaAnswers.{IsToken};
 ghost use Rattle.gm_forms.specs.declared.state.State.TheVariants as states;
-ghost use Rattle.gm_forms.specs.Standing.{Leads, StaysIn, Moves, KeepsIn, word_mark, sign_mark};
+ghost use Rattle.gm_forms.specs.inner.Standing.{Leads, StaysIn, Moves, KeepsIn, word_mark, sign_mark};
 
 use crate::draft::Draft;
 use crate::form::ParamForm;

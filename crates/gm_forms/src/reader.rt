@@ -4,9 +4,9 @@ ghost use Rattle.std.specs.List.{AllByRecursion};
 ghost use Rattle.gm_model.specs.declared.rule.Side.TheVariants.{Left, Right};
 ghost use Rattle.gm_model.specs.declared.token.TokenKind.TheVariants.{Name};
 ghost use Rattle.gm_forms.specs.declared.state.State.TheVariants as states;
-ghost use Rattle.gm_forms.specs.Forms.{IsIn, IsRuleIn};
-ghost use Rattle.gm_text.specs.SchemaAnswers.{IsToken, marks_left};
-ghost use Rattle.gm_forms.specs.Standing.{IsStateIn, IsDraftIn, IsOutside, Leads, StaysIn, Moves, KeepsIn, MovesFrom, EndsFrom, GoesPast, read_on, stand_of, mark_of, word_mark, sign_mark};
+ghost use Rattle.gm_forms.specs.inner.Forms.{IsIn, IsRuleIn};
+ghost use Rattle.gm_text.specs.inner.SchemaAnswers.{IsToken, marks_left};
+ghost use Rattle.gm_forms.specs.inner.Standing.{IsStateIn, IsDraftIn, IsOutside, Leads, StaysIn, Moves, KeepsIn, MovesFrom, EndsFrom, GoesPast, read_on, stand_of, mark_of, word_mark, sign_mark};
 
 use crate::draft::Draft;
 use crate::exprs::{at_equal, at_set, on_right, past_pre_value, past_set_value};

@@ -5,9 +5,9 @@ ghost use Rattle.gm_forms.specs.BookText.{RuleForm};
 ghost use Rattle.gm_model.specs.Symbols.{Gone};
 ghost use Rattle.gm_model.specs.Tokens.{bytes_of};
 ghost use Rattle.gm_forms.specs.declared.state.State.TheVariants as states;
-ghost use Rattle.gm_forms.specs.Forms.{IsIn};
-ghost use Rattle.gm_text.specs.SchemaAnswers.{IsToken};
-ghost use Rattle.gm_forms.specs.Standing.{Leads, StaysIn, IsOutside, Gives, stand_in, stepped, number_mark, sign_mark};
+ghost use Rattle.gm_forms.specs.inner.Forms.{IsIn};
+ghost use Rattle.gm_text.specs.inner.SchemaAnswers.{IsToken};
+ghost use Rattle.gm_forms.specs.inner.Standing.{Leads, StaysIn, IsOutside, Gives, stand_in, stepped, number_mark, sign_mark};
 
 use crate::form_fault::FormFault;
 use crate::letters::{no_letters, with_letter};

@@ -1,6 +1,6 @@
 //! Where in a book's rules reading is, and what of an item is read so far.
 ghost use Rattle.std.specs.Prelude.{◌≡◌, ◌≤◌};
-ghost use Rattle.gm_forms.specs.Reading.{takes_hook};
+ghost use Rattle.gm_forms.specs.inner.Reading.{takes_hook};
 
 use crate::tally::Tally;
 use gm_model::{Dim, Side, Word};

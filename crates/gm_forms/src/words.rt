@@ -1,8 +1,8 @@
 //! Words and signs of the formats.
 ghost use Rattle.std.specs.Prelude.{◌≡◌, bytes_eq};
 ghost use Rattle.gm_model.specs.Tokens.{bytes_of};
-ghost use Rattle.gm_text.specs.SchemaAnswers.{IsToken};
-ghost use Rattle.gm_forms.specs.Reading.{param_kind};
+ghost use Rattle.gm_text.specs.inner.SchemaAnswers.{IsToken};
+ghost use Rattle.gm_forms.specs.inner.Reading.{param_kind};
 
 use gm_model::Kind;
 use gm_parse::meaning_or;

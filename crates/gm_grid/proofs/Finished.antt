@@ -6,10 +6,10 @@ use Rattle.std.specs.FinMap.{get}
 use Rattle.std.proofs.lemmas.Bool.{cases_lt, false≢true}
 use Rattle.std.proofs.lemmas.Nat.{div-mul-add, mod-mul-add, mul-add-lt}
 use Rattle.gm_model.specs.declared.value.Value.TheVariants.{Int}
-use Rattle.gm_arena.specs.ArenaAsMap.{as_map}
-use Rattle.gm_arena.specs.ArenaMap.{ArenaMap, Dart}
+use Rattle.gm_arena.specs.inner.ArenaAsMap.{as_map}
+use Rattle.gm_arena.specs.inner.ArenaMap.{ArenaMap, Dart}
 use Rattle.gm_grid.specs.GridMap.{dart, dart_count, neighbour, point, IsGridMap}
-use Rattle.gm_grid.specs.Building.{row_of, column_of, number_of, neighbour_of, point_of, linked_of, AreLinked}
+use Rattle.gm_grid.specs.inner.Building.{row_of, column_of, number_of, neighbour_of, point_of, linked_of, AreLinked}
 
 module _ (m row column k : ℕ) (row_low : row < m) (column_low : column < m) (k_low : k < 8) where
   square : dart m row column k / 8 ≡ row * m + column

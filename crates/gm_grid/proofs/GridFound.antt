@@ -3,7 +3,7 @@ use Rattle.std.proofs.Common.{◌≡◌, ℕ, ◌<◌, true, refl, sym, arith}
 use Rattle.std.specs.Prelude.{nat_lt}
 use Rattle.std.proofs.lemmas.Bool.Decides.{nat_tests}
 use Rattle.gm_model.specs.Maps.{Map}
-use Rattle.gm_grid.specs.Building.{neighbour_of, point_of}
+use Rattle.gm_grid.specs.inner.Building.{neighbour_of, point_of}
 use Rattle.gm_grid.specs.GridMap.{dart_count, grid_schema, IsGridMap}
 use Rattle.gm_grid.proofs.Finished.{neighbour_is, point_named}
 use Rattle.gm_grid.proofs.GridSound.{below_from}

@@ -12,7 +12,7 @@ use Rattle.gm_model.specs.Maps.{Map, IsDart, IsEmbedAt, IsMap, IsGeneralised, Is
 use Rattle.gm_model.specs.Orbits.{IsPathIn, follow}
 use Rattle.gm_model.specs.Values.{IsValueOf}
 use Rattle.gm_grid.specs.GridMap.{positions, grid_schema, dart_count, along, around, corner_x, corner_y, dart, across, neighbour, point, IsGridMap}
-use Rattle.gm_grid.specs.Building.{row_of, column_of, number_of}
+use Rattle.gm_grid.specs.inner.Building.{row_of, column_of, number_of}
 use Rattle.gm_grid.proofs.Finished.{dart_below}
 use Rattle.gm_grid.proofs.GridSchema.{only_positions, label_low}
 

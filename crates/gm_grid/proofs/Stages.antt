@@ -8,12 +8,12 @@ use Rattle.std.proofs.lemmas.Nat.{div-add-mod', div_below, mod_below}
 use Rattle.gm_model.specs.declared.schema.Schema.{Schema}
 use Rattle.gm_model.specs.declared.value.Value.{Value}
 use Rattle.gm_arena.specs.declared.slot.Slot.{Slot}
-use Rattle.gm_arena.specs.ArenaMap.{ArenaMap, Dart, IsAt, IsLiveName}
-use Rattle.gm_arena.specs.Edits.{empty_map, with_dart, with_alpha, free_dart, turned}
+use Rattle.gm_arena.specs.inner.ArenaMap.{ArenaMap, Dart, IsAt, IsLiveName}
+use Rattle.gm_arena.specs.inner.Edits.{empty_map, with_dart, with_alpha, free_dart, turned}
 use Rattle.gm_arena.proofs.InsideLemmas.{some_of}
 use Rattle.gm_arena.proofs.MapLemmas.{get-with_dart_same, get-with_dart_other, get-with_alpha_same, get-with_alpha_other}
 use Rattle.gm_grid.specs.GridMap.{dart, grid_schema, dart_count}
-use Rattle.gm_grid.specs.Building.{neighbour_of, point_of, free_of, linked_of, AreAdded, AreLinked}
+use Rattle.gm_grid.specs.inner.Building.{neighbour_of, point_of, free_of, linked_of, AreAdded, AreLinked}
 
 -- ---- adding
 

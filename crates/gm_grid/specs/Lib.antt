@@ -1,3 +1,3 @@
 pub mod GridMap
 pub mod GridBook
-pub mod Building
+pub mod inner

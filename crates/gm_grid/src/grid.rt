@@ -1,12 +1,12 @@
 //! The arena of a grid, and all that is run on it.
 ghost use Rattle.std.specs.Prelude.{◌≡◌, ℕ, ◌+◌, ◌*◌, ◌<◌, ◌≤◌, IfOk};
 ghost use Rattle.gm_model.specs.Maps.{IsSound};
-ghost use Rattle.gm_arena.specs.ArenaMap.{IsAt, IsLiveName, IsLiveSlot};
-ghost use Rattle.gm_arena.specs.ArenaAsMap.{as_map};
-ghost use Rattle.gm_arena.specs.Edits.{with_alpha};
+ghost use Rattle.gm_arena.specs.inner.ArenaMap.{IsAt, IsLiveName, IsLiveSlot};
+ghost use Rattle.gm_arena.specs.inner.ArenaAsMap.{as_map};
+ghost use Rattle.gm_arena.specs.inner.Edits.{with_alpha};
 ghost use Rattle.gm_grid.specs.GridMap.{IsGridMap, dart, dart_count};
 ghost use Rattle.gm_grid.specs.GridBook.{IsGridBook, IsGridScript};
-ghost use Rattle.gm_grid.specs.Building.{AreAdded, AreLinked};
+ghost use Rattle.gm_grid.specs.inner.Building.{AreAdded, AreLinked};
 
 use crate::book::make_book;
 use crate::pattern::{Place, name_of, neighbour_at, point_at};

@@ -12,7 +12,7 @@ use Rattle.std.specs.Str.{bytes_eq}
 use Rattle.std.specs.BTreeMap as tree
 use Rattle.std.specs.BTreeMap.{BTreeMap, is_at}
 use Rattle.std.proofs.lemmas.Map.Text.{btree_map_updates_text}
-use Rattle.gm_host.specs.Files.{files_of}
+use Rattle.gm_host.specs.inner.Files.{files_of}
 
 mapped_choice : {A B : Type 0} (f : A → B) (b : Bool) (v : A) (x : Option B) (y : Option A)
     → x ≡ option_map f y → cond b (Some (f v)) x ≡ option_map f (cond b (Some v) y)

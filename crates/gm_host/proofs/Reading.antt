@@ -7,7 +7,7 @@ use Rattle.std.specs.Prelude.{Result, Ok, Err}
 use Rattle.gm_host.specs.declared.fault.LoadFault.{LoadFault}
 use Rattle.gm_host.specs.declared.fault.LoadFault.TheVariants.{Absent, Failed, TooLong, OutOfMemory}
 use Rattle.gm_host.specs.Store.{IfTooLong}
-use Rattle.gm_host.specs.FileStore.{IsAllOf, IsFrontOf}
+use Rattle.gm_host.specs.inner.FileStore.{IsAllOf, IsFrontOf}
 
 pub Consumes-append : (before between after : Option (List ℕ)) (xs ys : List ℕ)
     → Consumes before between xs → Consumes between after ys → Consumes before after (xs ++ ys)

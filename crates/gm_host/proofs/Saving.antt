@@ -10,10 +10,10 @@ use Rattle.std.specs.Ordering.{nat_cmp, is_eq}
 use Rattle.std.specs.declared.cmp.Ordering.{Ordering}
 use Rattle.std.specs.declared.cmp.Ordering.TheVariants.{Less, Equal, Greater}
 use Rattle.gm_host.specs.Count.{counted}
-use Rattle.gm_host.specs.FileStore.{AppendsInPart}
-use Rattle.gm_host.specs.Files.{Files, told}
-use Rattle.gm_host.specs.MemSink.{SinkState, Puts, after_unmade_put}
-use Rattle.gm_host.specs.MemStore.{StoreState, Saves, kept_files, after_save, after_failed_save, after_unmade_save}
+use Rattle.gm_host.specs.inner.FileStore.{AppendsInPart}
+use Rattle.gm_host.specs.inner.Files.{Files, told}
+use Rattle.gm_host.specs.inner.MemSink.{SinkState, Puts, after_unmade_put}
+use Rattle.gm_host.specs.inner.MemStore.{StoreState, Saves, kept_files, after_save, after_failed_save, after_unmade_save}
 use Rattle.gm_host.specs.declared.fault.PutFault.TheVariants as put_fault
 use Rattle.gm_host.specs.declared.fault.SaveFault.TheVariants as fault
 use Rattle.gm_host.specs.Saves.{IsSaved, IsSavedInPart}

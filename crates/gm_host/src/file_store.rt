@@ -40,7 +40,7 @@ pub struct FileStore<'r, R> {
 }
 
 impl<'r, R> Model for FileStore<'r, R> {
-    ghost use Rattle.gm_host.specs.FileStore.{Counts};
+    ghost use Rattle.gm_host.specs.inner.FileStore.{Counts};
 
     ghost Value = { Counts };
 

@@ -1,7 +1,7 @@
 ghost use Rattle.std.specs.Prelude.{◌≡◌, ◌+◌, ◌≤◌, OnOk, OnErr, IfOk, Some, option_copied, length};
 ghost use Rattle.std.specs.FinMap as map;
-ghost use Rattle.gm_host.specs.Files.{told};
-ghost use Rattle.gm_host.specs.MemStore.{kept_files};
+ghost use Rattle.gm_host.specs.inner.Files.{told};
+ghost use Rattle.gm_host.specs.inner.MemStore.{kept_files};
 ghost use Rattle.gm_host.specs.Store.{Lacks, IsHeld, IsCutFromHeld, HoldsLongerFile, IsFailed, OnAbsent, IfTooLong, IsAbsentUnlessFailing, IsTooLongUnlessFailing};
 
 use crate::bytes::first;
@@ -19,7 +19,7 @@ pub(crate) struct FileTable {
 }
 
 impl Model for FileTable {
-    ghost use Rattle.gm_host.specs.Files.{Files, files_code, files_of};
+    ghost use Rattle.gm_host.specs.inner.Files.{Files, files_code, files_of};
 
     ghost Value = { Files };
 

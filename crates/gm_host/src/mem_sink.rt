@@ -1,8 +1,8 @@
 ghost use Rattle.std.specs.Prelude.{◌≡◌, ◌<◌, ◌≤◌, [], false, IsTrue, OnOk, OnErr, Some};
 ghost use Rattle.std.specs.FinMap as map;
 ghost use Rattle.gm_host.specs.Count.{counted, Rises};
-ghost use Rattle.gm_host.specs.Sink.{extended, ExtendsInPart, OnFailed, IsOutOfMemory, OnOutOfMemory};
-ghost use Rattle.gm_host.specs.MemSink.{IsPutAsPlanned};
+ghost use Rattle.gm_host.specs.inner.Sink.{extended, ExtendsInPart, OnFailed, IsOutOfMemory, OnOutOfMemory};
+ghost use Rattle.gm_host.specs.inner.MemSink.{IsPutAsPlanned};
 
 use crate::bytes::first;
 use crate::fault::PutFault;
@@ -27,7 +27,7 @@ pub struct MemSink {
 
 impl Model for MemSink {
     ghost use Rattle.std.specs.FinMap.{from_entries};
-    ghost use Rattle.gm_host.specs.MemSink.{SinkState, state_code};
+    ghost use Rattle.gm_host.specs.inner.MemSink.{SinkState, state_code};
 
     ghost Value = { SinkState };
 

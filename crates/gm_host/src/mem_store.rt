@@ -1,11 +1,11 @@
 ghost use Rattle.std.specs.Prelude.{◌≡◌, ◌+◌, ◌<◌, ◌≤◌, ◌↔◌, ◌∷◌, ◌++◌, [], ℕ, List, Option, OnOk, OnErr, IfOk, IsTrue, Some, option_copied, length};
 ghost use Rattle.std.specs.FinMap as map;
-ghost use Rattle.gm_host.specs.Files.{told};
+ghost use Rattle.gm_host.specs.inner.Files.{told};
 ghost use Rattle.gm_host.specs.Count.{counted, Rises};
 ghost use Rattle.gm_host.specs.Store.{Lacks, IsHeld, IsCutFromHeld, HoldsLongerFile, IsFailed, OnAbsent, OnFailed, IfTooLong, IsAbsentUnlessFailing, IsTooLongUnlessFailing};
 ghost use Rattle.gm_host.specs.Saves as saving;
 ghost use Rattle.gm_host.specs.Saves.{IsSaved, IsSavedInPart};
-ghost use Rattle.gm_host.specs.MemStore.{fails_next, after_load, IsSaveAsPlanned};
+ghost use Rattle.gm_host.specs.inner.MemStore.{fails_next, after_load, IsSaveAsPlanned};
 
 use crate::fault::{LoadFault, SaveFault};
 use crate::file_table::FileTable;
@@ -36,7 +36,7 @@ pub struct MemStore {
 
 impl Model for MemStore {
     ghost use Rattle.std.specs.FinMap.{from_entries};
-    ghost use Rattle.gm_host.specs.MemStore.{StoreState, state_code};
+    ghost use Rattle.gm_host.specs.inner.MemStore.{StoreState, state_code};
 
     ghost Value = { StoreState };
 

@@ -4,7 +4,7 @@ ghost use Rattle.std.specs.Io.{StartsWith, ReadsAtMost};
 ghost use Rattle.std.specs.Io.KnownBytes.{Appends, Consumes, IsAtEnd, ReadConsumes};
 ghost use Rattle.std.specs.IoError.{error_kind};
 ghost use Rattle.gm_host.specs.Store.{IsAbsent, IsFailed, IfTooLong};
-ghost use Rattle.gm_host.specs.FileStore.{IsAllOf, IsFrontOf};
+ghost use Rattle.gm_host.specs.inner.FileStore.{IsAllOf, IsFrontOf};
 ghost use Rattle.gm_host.specs.Saves as saves;
 
 use crate::fault::{LoadFault, SaveFault};

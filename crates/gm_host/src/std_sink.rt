@@ -1,7 +1,7 @@
 ghost use Rattle.std.specs.Prelude.{◌≡◌, ◌≤◌, true, IsTrue, OnOk, is_err, if◌then◌else◌};
 ghost use Rattle.std.specs.Io.KnownBytes.{Appends};
 ghost use Rattle.gm_host.specs.Count.{counted, Rises};
-ghost use Rattle.gm_host.specs.Sink.{untold, extended, ExtendsInPart, OnFailed, IsOutOfMemory, OnOutOfMemory};
+ghost use Rattle.gm_host.specs.inner.Sink.{untold, extended, ExtendsInPart, OnFailed, IsOutOfMemory, OnOutOfMemory};
 
 use crate::fault::PutFault;
 use crate::limit::output_may_take;
@@ -22,7 +22,7 @@ pub struct StdSink<'r, R> {
 }
 
 impl<'r, R> Model for StdSink<'r, R> {
-    ghost use Rattle.gm_host.specs.StdSink.{Counts};
+    ghost use Rattle.gm_host.specs.inner.StdSink.{Counts};
 
     ghost Value = { Counts };
 

@@ -1,7 +1,7 @@
 ghost use Rattle.std.specs.Prelude.{◌≡◌, ◌≤◌, [], false, IsTrue, OnOk, Some};
 ghost use Rattle.gm_host.specs.Count.{counted, Rises};
-ghost use Rattle.gm_host.specs.Sink.{extended, ExtendsInPart, IsFailed, OnFailed, IsOutOfMemory, OnOutOfMemory};
-ghost use Rattle.gm_host.specs.SureStore.{no_faults};
+ghost use Rattle.gm_host.specs.inner.Sink.{extended, ExtendsInPart, IsFailed, OnFailed, IsOutOfMemory, OnOutOfMemory};
+ghost use Rattle.gm_host.specs.inner.SureStore.{no_faults};
 
 use crate::fault::PutFault;
 use crate::sink::Sink;
@@ -16,7 +16,7 @@ pub struct SureSink {
 }
 
 impl Model for SureSink {
-    ghost use Rattle.gm_host.specs.SureSink.{SinkState, state_code};
+    ghost use Rattle.gm_host.specs.inner.SureSink.{SinkState, state_code};
 
     ghost Value = { SinkState };
 

@@ -1,9 +1,9 @@
 ghost use Rattle.std.specs.Prelude.{◌≡◌, ◌+◌, ◌≤◌, ◌∷◌, ◌++◌, [], OnOk, OnErr, IfOk, option_copied, length};
 ghost use Rattle.std.specs.FinMap as map;
-ghost use Rattle.gm_host.specs.Files.{told};
+ghost use Rattle.gm_host.specs.inner.Files.{told};
 ghost use Rattle.gm_host.specs.Count.{counted, Rises};
 ghost use Rattle.gm_host.specs.Store.{Lacks, IsHeld, IsCutFromHeld, HoldsLongerFile, IsFailed, OnAbsent, OnFailed, IfTooLong, IsAbsentUnlessFailing, IsTooLongUnlessFailing};
-ghost use Rattle.gm_host.specs.SureStore.{no_faults};
+ghost use Rattle.gm_host.specs.inner.SureStore.{no_faults};
 ghost use Rattle.gm_host.specs.Saves as saving;
 ghost use Rattle.gm_host.specs.Saves.{IsSaved, IsSavedInPart};
 
@@ -25,7 +25,7 @@ pub struct SureStore {
 }
 
 impl Model for SureStore {
-    ghost use Rattle.gm_host.specs.SureStore.{StoreState, state_code};
+    ghost use Rattle.gm_host.specs.inner.SureStore.{StoreState, state_code};
 
     ghost Value = { StoreState };
 

@@ -3,7 +3,7 @@ ghost use Rattle.std.specs.Prelude.{◌≢◌, OnOk, OnErr, IfErr};
 ghost use Rattle.std.specs.Io.{WritesAtMost};
 ghost use Rattle.std.specs.Io.KnownBytes.{Appends, WriteAppends};
 ghost use Rattle.std.specs.IoError.{error_kind};
-ghost use Rattle.gm_host.specs.FileStore.{AppendsInPart};
+ghost use Rattle.gm_host.specs.inner.FileStore.{AppendsInPart};
 
 use std::io;
 use std::io::{ErrorKind, Write};

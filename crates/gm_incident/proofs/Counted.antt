@@ -6,8 +6,8 @@ use Rattle.gm_model.specs.declared.rule.Side.{Side}
 use Rattle.gm_model.specs.declared.rule.Side.TheVariants.{Left, Right}
 use Rattle.gm_model.specs.Rules.{Rule, has_word}
 use Rattle.gm_model.specs.Structure.{AreGood, arcs_at, HasOnce, HasLabel, HasWhereOneSided, HasOnBoth, HasArcs, IsNodeArcFault, TwiceLeft, TwiceRight, Missing, Differs}
-use Rattle.gm_incident.specs.Faults.{IsFirstFault}
-use Rattle.gm_incident.specs.Ranges.{HasSomeWord}
+use Rattle.gm_incident.specs.inner.Faults.{IsFirstFault}
+use Rattle.gm_incident.specs.inner.Ranges.{HasSomeWord}
 use Rattle.gm_incident.proofs.Moved.{good_moved, fault_moved}
 
 abbrev pub IsOnce : List ℕ → ℕ → Type 0

@@ -5,7 +5,7 @@ use Rattle.gm_model.specs.declared.rule.RuleFault.{RuleFault}
 use Rattle.gm_model.specs.declared.rule.RuleFault.TheVariants as faults
 use Rattle.gm_model.specs.Rules.{Rule}
 use Rattle.gm_model.specs.Structure.{AreGood, HasHook, HasPlainHook, HasWidth, IsConnected, IsStructureFault, BadHooks, BadHookWord, BadLength, Unconnected}
-use Rattle.gm_incident.specs.Faults.{IsFirstFault}
+use Rattle.gm_incident.specs.inner.Faults.{IsFirstFault}
 
 module _ (rule : Rule) (fault : RuleFault) where
   pub hooks_fault : fault ≡ faults.Hooks → (HasHook rule → ⊥) → IsStructureFault rule fault

@@ -7,7 +7,7 @@ use Rattle.std.proofs.lemmas.Bool.{false_from_ne_true, false≢true, true≢fals
 use Rattle.gm_model.specs.declared.rule.Side.TheVariants.{Left}
 use Rattle.gm_model.specs.Rules.{Rule, has_word, letters}
 use Rattle.gm_model.specs.Structure.{HasHook, IsPlainWord, HasPlainHook}
-use Rattle.gm_incident.specs.Ranges.{HasLeftFirst}
+use Rattle.gm_incident.specs.inner.Ranges.{HasLeftFirst}
 
 first_left : (rule : Rule) → HasLeftFirst rule → (x : ℕ) → has_word rule Left x ≡ true → has_word rule Left 0 ≡ true
 first_left rule lf zero h = h

@@ -11,7 +11,7 @@ use Rattle.gm_model.specs.declared.word.Letter.TheVariants.{At}
 use Rattle.gm_model.specs.Rules.{Rule, has_word, letters, links_on}
 use Rattle.gm_model.specs.Structure.{IsInRange, IsWithinLimits, IsLinkInRange}
 use Rattle.gm_model.proofs.Nodes.{node_below}
-use Rattle.gm_incident.specs.Ranges.{HasEndsBelow32, HasLabels}
+use Rattle.gm_incident.specs.inner.Ranges.{HasEndsBelow32, HasLabels}
 
 pub hooks_below : (schema : Schema) (rule : Rule) → IsInRange schema rule → IsWithinLimits rule → All (λ h. h < 32) rule.hooks
 hooks_below schema rule r w =

@@ -9,7 +9,7 @@ use Rattle.std.proofs.lemmas.Option.{slice_get_within, get_or_from_slice_get}
 use Rattle.gm_model.specs.declared.word.Letter.{Letter}
 use Rattle.gm_model.specs.declared.word.Letter.TheVariants.{At, Gone}
 use Rattle.gm_model.specs.Rules.{is_label}
-use Rattle.gm_incident.specs.Words.{StandsBefore}
+use Rattle.gm_incident.specs.inner.Words.{StandsBefore}
 
 -- ---- one turn of the loop that counts
 

@@ -11,7 +11,7 @@ use Rattle.gm_model.specs.declared.rule.Link.{Link}
 use Rattle.gm_model.specs.Orbits.{IsPathIn}
 use Rattle.gm_model.specs.Rules.{IsLinked, link_from}
 use Rattle.gm_model.specs.Structure.{Leads, IsJoined, any_label}
-use Rattle.gm_incident.specs.Reached.{is_reached, IsReached, unreached, IsJoinedToHook, HasSpread}
+use Rattle.gm_incident.specs.inner.Reached.{is_reached, IsReached, unreached, IsJoinedToHook, HasSpread}
 
 -- ---- marks
 

@@ -2,7 +2,7 @@
 use Rattle.std.proofs.Common.{ℕ, ◌<◌, arith}
 use Rattle.gm_model.specs.declared.rule.RuleFault.{RuleFault}
 use Rattle.gm_model.specs.Structure.{AreGood}
-use Rattle.gm_incident.specs.Faults.{IsFirstFault}
+use Rattle.gm_incident.specs.inner.Faults.{IsFirstFault}
 
 module _ (P Q : ℕ → Type 0) (count : ℕ) (to : (i : ℕ) → i < count → P i → Q i) where
   pub good_moved : AreGood P count → AreGood Q count

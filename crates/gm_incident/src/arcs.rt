@@ -1,8 +1,8 @@
 ghost use Rattle.std.specs.Prelude.{◌≡◌, ◌+◌, ◌<◌, ◌≤◌, ℕ, ◌↔◌, length, slice_index, MatchResult};
 ghost use Rattle.gm_model.specs.Rules.{rule_of};
 ghost use Rattle.gm_model.specs.Structure.{AreGood, HasArcs, IsArcFault, IsNodeArcFault};
-ghost use Rattle.gm_incident.specs.Faults.{IsFirstFault};
-ghost use Rattle.gm_incident.specs.Ranges.{HasLabels, HasSomeWord};
+ghost use Rattle.gm_incident.specs.inner.Faults.{IsFirstFault};
+ghost use Rattle.gm_incident.specs.inner.Ranges.{HasLabels, HasSomeWord};
 
 use crate::counts::{Counts, arc_counts};
 use gm_model::{RuleFault, RuleTable, Side};

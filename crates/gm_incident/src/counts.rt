@@ -2,7 +2,7 @@ ghost use Rattle.std.specs.Prelude.{◌≡◌, ◌+◌, ◌<◌, ◌≤◌, ℕ,
 ghost use Rattle.std.specs.List.{count_by};
 ghost use Rattle.gm_model.specs.Rules.{rule_of, is_end, is_label};
 ghost use Rattle.gm_model.specs.Structure.{arcs_at};
-ghost use Rattle.gm_incident.specs.Ranges.{HasLinkLabels, HasWordLabels, HasLabels};
+ghost use Rattle.gm_incident.specs.inner.Ranges.{HasLinkLabels, HasWordLabels, HasLabels};
 
 use gm_model::{Letter, Link, MOST_LABELS, RuleTable, Side, Word};
 

@@ -1,8 +1,8 @@
 ghost use Rattle.std.specs.Prelude.{◌≡◌, ◌<◌, true, false, ℕ, ◌↔◌, length, IsTrue, IsFalse, slice_index_or};
 ghost use Rattle.std.specs.List.{All, Contains};
 ghost use Rattle.gm_model.specs.declared.rule.Link.{Link};
-ghost use Rattle.gm_incident.specs.Ranges.{HasEndsBelow32};
-ghost use Rattle.gm_incident.specs.Reached.{IsReached, is_reached, unreached, IsJoinedToHook, HasSpread};
+ghost use Rattle.gm_incident.specs.inner.Ranges.{HasEndsBelow32};
+ghost use Rattle.gm_incident.specs.inner.Reached.{IsReached, is_reached, unreached, IsJoinedToHook, HasSpread};
 
 use gm_model::{Link, MOST_NODES};
 

@@ -3,9 +3,9 @@ ghost use Rattle.std.specs.List.{All};
 ghost use Rattle.gm_model.specs.declared.rule.Side.TheVariants.{Left};
 ghost use Rattle.gm_model.specs.Rules.{rule_of, letters, width as width_of};
 ghost use Rattle.gm_model.specs.Structure.{AreGood, HasHook, IsPlainWord, HasPlainHook, HasWidth, IsConnected, IsStructured, IsStructureFault};
-ghost use Rattle.gm_incident.specs.Faults.{IsFirstFault};
-ghost use Rattle.gm_incident.specs.Ranges.{HasEndsBelow32, HasLeftFirst};
-ghost use Rattle.gm_incident.specs.Words.{StandsBefore};
+ghost use Rattle.gm_incident.specs.inner.Faults.{IsFirstFault};
+ghost use Rattle.gm_incident.specs.inner.Ranges.{HasEndsBelow32, HasLeftFirst};
+ghost use Rattle.gm_incident.specs.inner.Words.{StandsBefore};
 
 use crate::joined::joined_to;
 use gm_model::{Letter, RuleFault, RuleTable, Side, Word};

@@ -4,10 +4,10 @@ use Rattle.std.specs.FinMap.{get}
 use Rattle.std.specs.Prelude.{eqb}
 use Rattle.std.proofs.lemmas.Bool.{cases_lt, eqb-true, eq-eqb, false≢true}
 use Rattle.std.proofs.lemmas.Option.{same_Some}
-use Rattle.gm_arena.specs.ArenaMap.{ArenaMap, IsAt, name_at, alpha}
-use Rattle.gm_arena.specs.Lawful.{IsLawful}
+use Rattle.gm_arena.specs.inner.ArenaMap.{ArenaMap, IsAt, name_at, alpha}
+use Rattle.gm_arena.specs.inner.Lawful.{IsLawful}
 use Rattle.gm_arena.proofs.MapLemmas.{name_at-is}
-use Rattle.gm_laws.specs.Darts.{Commute}
+use Rattle.gm_laws.specs.inner.Darts.{Commute}
 
 module _ (m : ArenaMap) (lawful : IsLawful m) (d i j across to one other : ℕ) (a : IsAt m across (alpha m j d)) (b : IsAt m one (alpha m i (name_at m across))) (e : IsAt m to (alpha m i d)) (f : IsAt m other (alpha m j (name_at m to))) where
   at_one : IsAt m one (alpha m i (alpha m j d))

@@ -11,12 +11,12 @@ use Rattle.gm_model.specs.Breaches.{IsTripleBefore, IsFirstUnshared}
 use Rattle.gm_model.specs.Maps.{IsEmbedAt, IsWellEmbedded, type_of}
 use Rattle.gm_model.specs.declared.word.Mask.{Mask}
 use Rattle.gm_model.specs.Orbits.{IsPathIn, IsPairBefore, follow}
-use Rattle.gm_arena.specs.ArenaMap.{ArenaMap, Dart, IsLiveName, alpha}
-use Rattle.gm_arena.specs.Lawful.{IsLawful}
+use Rattle.gm_arena.specs.inner.ArenaMap.{ArenaMap, Dart, IsLiveName, alpha}
+use Rattle.gm_arena.specs.inner.Lawful.{IsLawful}
 use Rattle.gm_arena.proofs.MapLemmas.{IsLiveName-alpha}
-use Rattle.gm_arena.specs.ArenaAsMap.{value, as_map}
-use Rattle.gm_laws.specs.Darts.{IsFirst, IsOrbitLabel, HasSame, IsAlike, AreAlike}
-use Rattle.gm_laws.specs.Faults.{ArePointedBack, DoCommute, AreValuesShared}
+use Rattle.gm_arena.specs.inner.ArenaAsMap.{value, as_map}
+use Rattle.gm_laws.specs.inner.Darts.{IsFirst, IsOrbitLabel, HasSame, IsAlike, AreAlike}
+use Rattle.gm_laws.specs.inner.Faults.{ArePointedBack, DoCommute, AreValuesShared}
 
 module _ (m : ArenaMap) (lawful : IsLawful m) where
   some_dart : (o : Option Dart) → IsSome o → (dart : Dart) × (o ≡ Some dart)

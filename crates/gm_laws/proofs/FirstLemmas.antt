@@ -2,9 +2,9 @@
 use Rattle.std.proofs.Common.{ℕ, ◌+◌, ◌≤◌, sym, subst, inl, inr, arith}
 use Rattle.gm_model.specs.Breaches.{IsTripleBefore, IsFirstOneWay, IsFirstCrossing}
 use Rattle.gm_model.specs.Orbits.{IsPairBefore}
-use Rattle.gm_arena.specs.ArenaMap.{ArenaMap, IsLiveName, alpha}
-use Rattle.gm_laws.specs.Darts.{IsFirst, IsLabel, LeadsBack, IsBack, Commute as DoCommute, Commutes, IsFirstPair}
-use Rattle.gm_laws.specs.Faults.{ArePointedBack}
+use Rattle.gm_arena.specs.inner.ArenaMap.{ArenaMap, IsLiveName, alpha}
+use Rattle.gm_laws.specs.inner.Darts.{IsFirst, IsLabel, LeadsBack, IsBack, Commute as DoCommute, Commutes, IsFirstPair}
+use Rattle.gm_laws.specs.inner.Faults.{ArePointedBack}
 
 module _ (m : ArenaMap) where
   pub one_way : (d i : ℕ) → IsFirst (IsLiveName m) (IsBack m) d → IsFirst (IsLabel m) (LeadsBack m d) i → IsFirstOneWay m.schema.dim (IsLiveName m) (alpha m) d i

@@ -11,14 +11,14 @@ use Rattle.gm_model.specs.declared.value.Value.TheVariants.{Int}
 use Rattle.gm_model.specs.Labels.{has}
 use Rattle.gm_model.specs.Maps.{IsEmbedAt}
 use Rattle.gm_arena.specs.declared.slot.Slot.{Slot}
-use Rattle.gm_arena.specs.ArenaMap.{ArenaMap, Dart, IsAt, IsLiveSlot, IsLiveName, name_at, alpha}
-use Rattle.gm_arena.specs.ArenaAsMap.{value}
-use Rattle.gm_arena.specs.Lawful.{IsLawful}
+use Rattle.gm_arena.specs.inner.ArenaMap.{ArenaMap, Dart, IsAt, IsLiveSlot, IsLiveName, name_at, alpha}
+use Rattle.gm_arena.specs.inner.ArenaAsMap.{value}
+use Rattle.gm_arena.specs.inner.Lawful.{IsLawful}
 use Rattle.gm_arena.proofs.InsideLemmas.{is_some_at}
 use Rattle.gm_arena.proofs.MapLemmas.{name_at-is, IsAt-name_at, IsLiveName-alpha, slot_of_name}
-use Rattle.gm_laws.specs.Darts.{IsLabel, LeadsBack, HasSame}
-use Rattle.gm_laws.specs.Faults.{KeepsLaws}
-use Rattle.gm_laws.specs.Holding.{IsRowAt, DoMeet, AreSameAlong, Holds}
+use Rattle.gm_laws.specs.inner.Darts.{IsLabel, LeadsBack, HasSame}
+use Rattle.gm_laws.specs.inner.Faults.{KeepsLaws}
+use Rattle.gm_laws.specs.inner.Holding.{IsRowAt, DoMeet, AreSameAlong, Holds}
 use Rattle.gm_laws.proofs.RowLemmas.{values_long}
 
 abbrev dart_of : ArenaMap → List Slot → List Value → Dart

@@ -6,12 +6,12 @@ use Rattle.std.proofs.lemmas.Bool.{cases_lt, false≢true, some_since}
 use Rattle.std.proofs.lemmas.List.{length-map}
 use Rattle.std.proofs.lemmas.Option.{MatchOption-at_some}
 use Rattle.gm_arena.specs.declared.slot.Slot.{Slot}
-use Rattle.gm_arena.specs.ArenaMap.{ArenaMap, IsAt, IsLiveName, name_at, IsLiveSlot}
+use Rattle.gm_arena.specs.inner.ArenaMap.{ArenaMap, IsAt, IsLiveName, name_at, IsLiveSlot}
 use Rattle.gm_arena.proofs.InsideLemmas.{is_some_at}
-use Rattle.gm_arena.specs.Lawful.{IsLawful}
+use Rattle.gm_arena.specs.inner.Lawful.{IsLawful}
 use Rattle.gm_arena.proofs.MapLemmas.{name_at-is}
 use Rattle.gm_arena.proofs.Keys.{rising, named, live}
-use Rattle.gm_laws.specs.Darts.{IsFirst}
+use Rattle.gm_laws.specs.inner.Darts.{IsFirst}
 
 module _ (m : ArenaMap) where
   pub as_many : (names : List ℕ) → IsLawful m → names ≡ keys m.darts → length names ≡ m.count

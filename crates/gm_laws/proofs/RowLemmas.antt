@@ -8,9 +8,9 @@ use Rattle.gm_model.specs.declared.schema.Embed.{Embed}
 use Rattle.gm_model.specs.declared.value.Value.{Value}
 use Rattle.gm_model.specs.declared.value.Value.TheVariants.{Int}
 use Rattle.gm_model.specs.Values.{kind_of}
-use Rattle.gm_arena.specs.ArenaMap.{ArenaMap, Dart}
-use Rattle.gm_arena.specs.Lawful.{IsLawful}
-use Rattle.gm_arena.specs.ArenaAsMap.{value}
+use Rattle.gm_arena.specs.inner.ArenaMap.{ArenaMap, Dart}
+use Rattle.gm_arena.specs.inner.Lawful.{IsLawful}
+use Rattle.gm_arena.specs.inner.ArenaAsMap.{value}
 
 module _ (m : ArenaMap) where
   -- a dart has one value for each embedding

@@ -1,3 +1,1 @@
-pub mod Darts
-pub mod Faults
-pub mod Holding
+pub mod inner

@@ -1,9 +1,9 @@
 ghost use Rattle.std.specs.Prelude.{◌≡◌, ◌+◌, ◌*◌, ◌≤◌, length, MatchOption};
 ghost use Rattle.std.specs.FinMap.{keys};
-ghost use Rattle.gm_arena.specs.ArenaMap.{IsLiveSlot, name_at};
-ghost use Rattle.gm_arena.specs.Lawful.{IsLawful};
-ghost use Rattle.gm_laws.specs.Darts.{IsFirst, IsLabel, IsDistantLabel, Commute, CommutesWith, Commutes, IsFirstPair};
-ghost use Rattle.gm_laws.specs.Faults.{ArePointedBack, DoCommute, IsFirstBreach};
+ghost use Rattle.gm_arena.specs.inner.ArenaMap.{IsLiveSlot, name_at};
+ghost use Rattle.gm_arena.specs.inner.Lawful.{IsLawful};
+ghost use Rattle.gm_laws.specs.inner.Darts.{IsFirst, IsLabel, IsDistantLabel, Commute, CommutesWith, Commutes, IsFirstPair};
+ghost use Rattle.gm_laws.specs.inner.Faults.{ArePointedBack, DoCommute, IsFirstBreach};
 
 use crate::breach::MapBreach;
 use gm_arena::{Arena, Slot, Steps};

@@ -1,11 +1,11 @@
 ghost use Rattle.std.specs.Prelude.{◌≡◌, ◌↔◌, ◌+◌, ◌*◌, ◌<◌, ◌≤◌, true, length, slice_get, Some, MatchOption};
 ghost use Rattle.std.specs.FinMap.{keys};
 ghost use Rattle.gm_model.specs.Maps.{IsEmbedAt};
-ghost use Rattle.gm_arena.specs.ArenaMap.{IsLiveSlot, name_at};
-ghost use Rattle.gm_arena.specs.Lawful.{IsLawful};
-ghost use Rattle.gm_arena.specs.ArenaAsMap.{value};
-ghost use Rattle.gm_laws.specs.Darts.{IsFirst, IsOrbitLabel, HasSame, IsAlike, AreAlike, IsFirstUnlike};
-ghost use Rattle.gm_laws.specs.Faults.{ArePointedBack, DoCommute, AreValuesShared, IsFirstBreach};
+ghost use Rattle.gm_arena.specs.inner.ArenaMap.{IsLiveSlot, name_at};
+ghost use Rattle.gm_arena.specs.inner.Lawful.{IsLawful};
+ghost use Rattle.gm_arena.specs.inner.ArenaAsMap.{value};
+ghost use Rattle.gm_laws.specs.inner.Darts.{IsFirst, IsOrbitLabel, HasSame, IsAlike, AreAlike, IsFirstUnlike};
+ghost use Rattle.gm_laws.specs.inner.Faults.{ArePointedBack, DoCommute, AreValuesShared, IsFirstBreach};
 
 use crate::breach::MapBreach;
 use gm_arena::{Arena, Slot, Steps};

@@ -3,11 +3,11 @@
 ghost use Rattle.std.specs.Prelude.{◌≡◌, ℕ, ◌+◌, ◌*◌, ◌<◌, ◌≤◌, length, All, IsTrue};
 ghost use Rattle.gm_model.specs.Labels.{has};
 ghost use Rattle.gm_arena.specs.declared.slot.Slot as declared;
-ghost use Rattle.gm_arena.specs.ArenaMap.{IsLiveSlot, name_at};
-ghost use Rattle.gm_arena.specs.Lawful.{IsLawful};
-ghost use Rattle.gm_laws.specs.Darts.{IsLabel};
-ghost use Rattle.gm_laws.specs.Faults.{KeepsLaws};
-ghost use Rattle.gm_laws.specs.Holding.{IsRowAt, DoMeet, AreSameAlong, Holds};
+ghost use Rattle.gm_arena.specs.inner.ArenaMap.{IsLiveSlot, name_at};
+ghost use Rattle.gm_arena.specs.inner.Lawful.{IsLawful};
+ghost use Rattle.gm_laws.specs.inner.Darts.{IsLabel};
+ghost use Rattle.gm_laws.specs.inner.Faults.{KeepsLaws};
+ghost use Rattle.gm_laws.specs.inner.Holding.{IsRowAt, DoMeet, AreSameAlong, Holds};
 
 use gm_arena::{Arena, Slot, Steps};
 use gm_model::{Embed, Mask, Value};

@@ -1,7 +1,7 @@
 ghost use Rattle.std.specs.Prelude.{◌≡◌, ◌+◌, ◌*◌, ◌≤◌, OnOk, IfErr};
 ghost use Rattle.gm_model.specs.Maps.{IsGeneralised, IsWellEmbedded};
-ghost use Rattle.gm_arena.specs.ArenaAsMap.{as_map};
-ghost use Rattle.gm_laws.specs.Faults.{IsFault};
+ghost use Rattle.gm_arena.specs.inner.ArenaAsMap.{as_map};
+ghost use Rattle.gm_laws.specs.inner.Faults.{IsFault};
 
 use crate::breach::LawFault;
 use crate::commuting::first_not_commuting;

@@ -3,7 +3,7 @@ use Rattle.std.proofs.Common.{◌≡◌, ℕ, List, ◌++◌, Result, Ok, Err, s
 use Rattle.std.specs.Prelude.{OnOk}
 use Rattle.std.proofs.lemmas.Result.{on_ok_weaker}
 use Rattle.gm_mapfile.specs.MapFaults.{TextFault, IsFirstFault, fault_words}
-use Rattle.gm_lines.specs.FaultLines.{PutsMapFault}
+use Rattle.gm_lines.specs.inner.FaultLines.{PutsMapFault}
 use Rattle.gm_lines.specs.Refusing.{BadMap}
 
 -- words, and then more of them

@@ -2,5 +2,4 @@ pub mod BookFaults
 pub mod ScriptFaults
 pub mod Refusing
 pub mod Checking
-pub mod Speaking
-pub mod FaultLines
+pub mod inner

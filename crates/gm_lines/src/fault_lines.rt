@@ -3,8 +3,8 @@
 ghost use Rattle.std.specs.Prelude.{◌≡◌, ◌++◌, ℕ, List, IfOk, OnOk, codes, decimal};
 ghost use Rattle.gm_lines.specs.Refusing.{TheMap, refusal, IsBadLine};
 ghost use Rattle.gm_mapfile.specs.MapFaults.{limit_word};
-ghost use Rattle.gm_mapfile.specs.Faults.{IsNamedBreachOf, IsNamedFaultOf, IsWhyNot};
-ghost use Rattle.gm_lines.specs.FaultLines.{IsSaidOfBook, IsSaidOfScript, book_words, script_words, PutsMapFault};
+ghost use Rattle.gm_mapfile.specs.inner.Faults.{IsNamedBreachOf, IsNamedFaultOf, IsWhyNot};
+ghost use Rattle.gm_lines.specs.inner.FaultLines.{IsSaidOfBook, IsSaidOfScript, book_words, script_words, PutsMapFault};
 
 use gm_book::BookFault;
 use gm_laws::MapBreach;

@@ -3,7 +3,7 @@
 ghost use Rattle.std.specs.Prelude.{◌≡◌, ◌++◌, ◌<◌, OnOk, IfOk, codes, decimal, length};
 ghost use Rattle.gm_lines.specs.Refusing.{refusal};
 ghost use Rattle.gm_model.specs.Rules.{rule_of};
-ghost use Rattle.gm_lines.specs.Speaking.{IsSayable, SpeaksOf};
+ghost use Rattle.gm_lines.specs.inner.Speaking.{IsSayable, SpeaksOf};
 ghost use Rattle.gm_lines.specs.Checking.{rule_line, verdict_words, rule_fault_words, node_name, side_word};
 ghost use Rattle.gm_model.specs.Reports.{embed_name};
 

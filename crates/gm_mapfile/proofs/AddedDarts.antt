@@ -9,15 +9,15 @@ use Rattle.std.proofs.lemmas.List.{length-drop}
 use Rattle.gm_model.specs.declared.schema.Embed.{Embed}
 use Rattle.gm_model.specs.declared.schema.Schema.{Schema}
 use Rattle.gm_model.specs.declared.value.Value.{Value}
-use Rattle.gm_arena.specs.ArenaMap.{ArenaMap, Dart}
-use Rattle.gm_arena.specs.Edits.{with_dart}
-use Rattle.gm_arena.specs.Lawful.{AreGoodValues}
+use Rattle.gm_arena.specs.inner.ArenaMap.{ArenaMap, Dart}
+use Rattle.gm_arena.specs.inner.Edits.{with_dart}
+use Rattle.gm_arena.specs.inner.Lawful.{AreGoodValues}
 use Rattle.gm_arena.proofs.MapLemmas.{get-with_dart_same, get-with_dart_other}
 use Rattle.gm_mapfile.specs.MapFaults.{AreBelow}
 use Rattle.gm_mapfile.specs.MapText.{DartRow, bare, rows_of, dart_of}
-use Rattle.gm_mapfile.specs.Building.{IsFresh, IsNextLeast, AreAdded, AreValued}
+use Rattle.gm_mapfile.specs.inner.Building.{IsFresh, IsNextLeast, AreAdded, AreValued}
 use Rattle.gm_mapfile.proofs.Adding.{none_added, none_next, next_more, added_more, added_again}
-use Rattle.gm_mapfile.specs.Rows.{row_in, rows_in, valued, darts_in}
+use Rattle.gm_mapfile.specs.inner.Rows.{row_in, rows_in, valued, darts_in}
 use Rattle.gm_mapfile.proofs.Chunks.{lines_cut, name_live, next_among, darts_line, rows_of_darts_in}
 use Rattle.gm_mapfile.proofs.Darts.{rows_append, live_dart, dart_of_push_new, dart_of_push_other, dart_of_push_again}
 use Rattle.gm_mapfile.proofs.Named.{none_of}

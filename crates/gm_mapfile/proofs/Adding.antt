@@ -7,10 +7,10 @@ use Rattle.std.proofs.lemmas.List.{length_push, length-replicate}
 use Rattle.gm_model.specs.declared.value.Value.{Value}
 use Rattle.gm_model.specs.GMap.{Row, row_of, IsLive}
 use Rattle.gm_mapfile.specs.MapFaults.{rows_named, AreNamedOnce, IsLeastTwice}
-use Rattle.gm_arena.specs.ArenaMap.{ArenaMap, Dart, IsLiveName}
-use Rattle.gm_arena.specs.Edits.{with_dart, free_dart}
+use Rattle.gm_arena.specs.inner.ArenaMap.{ArenaMap, Dart, IsLiveName}
+use Rattle.gm_arena.specs.inner.Edits.{with_dart, free_dart}
 use Rattle.gm_arena.proofs.MapLemmas.{get-with_dart_same, get-with_dart_other, IsAt-with_dart_same, slots-with_dart_other}
-use Rattle.gm_mapfile.specs.Building.{IsFresh, IsNextLeast, IsTwice, AreAdded}
+use Rattle.gm_mapfile.specs.inner.Building.{IsFresh, IsNextLeast, IsTwice, AreAdded}
 use Rattle.gm_mapfile.proofs.Named.{none_of, row_of_push_other, live_push, named_push_same, named_push_other, named_none, named_some}
 
 same_some : {A : Type 0} (x y : A) → Some x ≡ Some y → x ≡ y

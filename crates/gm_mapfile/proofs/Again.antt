@@ -17,10 +17,10 @@ use Rattle.gm_model.specs.Symbols.{Symbol, Word, Numeral}
 use Rattle.gm_text.specs.SchemaText as schema
 use Rattle.gm_text.proofs.Printed.{symbols_from, symbols_of-from}
 use Rattle.gm_text.proofs.SchemaAgain.{schema_form, same_embeds}
-use Rattle.gm_arena.specs.Lawful.{AreGoodValues}
+use Rattle.gm_arena.specs.inner.Lawful.{AreGoodValues}
 use Rattle.gm_mapfile.specs.MapText.{Version, First, Second, Role, Fixed, InSchema, passed_of, number_of, spell_next, spell_listing, spelling, embeds_of, IsShaped, IsForm, IsSentence, DartRow, ListedMap, names, rows_of, map_of, IsListed, IsLeastAbove, IsNext, MapText, next_line, canonical}
 use Rattle.gm_mapfile.specs.MapReading.{IsWhole}
-use Rattle.gm_mapfile.specs.Printing.{behind_last, renumbered, IsPrintableDart, IsPrintable}
+use Rattle.gm_mapfile.specs.inner.Printing.{behind_last, renumbered, IsPrintableDart, IsPrintable}
 use Rattle.gm_mapfile.specs.declared.version.MapVersion.{MapVersion}
 use Rattle.gm_mapfile.specs.declared.version.MapVersion.TheVariants as versions
 use Rattle.gm_mapfile.proofs.GoodListing.{IsSmall, IsGoodListing, IsStatedSmall}

@@ -9,9 +9,9 @@ use Rattle.std.specs.List.Sorted.{IsStrictlyIncreasing}
 use Rattle.std.specs.declared.cmp.Ordering.TheVariants.{Equal, Greater}
 use Rattle.std.proofs.lemmas.Bool.{cases_Bool, cases_order, eqb-true, eq-eqb, ne_eqb, eqb-false}
 use Rattle.gm_model.specs.GMap.{row_of}
-use Rattle.gm_arena.specs.ArenaMap.{ArenaMap, Dart}
+use Rattle.gm_arena.specs.inner.ArenaMap.{ArenaMap, Dart}
 use Rattle.gm_mapfile.specs.MapText.{DartRow, names, bare, rows_of, dart_of}
-use Rattle.gm_mapfile.specs.Rows.{dart_of_entry, darts_of}
+use Rattle.gm_mapfile.specs.inner.Rows.{dart_of_entry, darts_of}
 
 -- ---- look-ups
 

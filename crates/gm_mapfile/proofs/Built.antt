@@ -2,13 +2,13 @@
 use Rattle.std.proofs.Common.{◌≡◌, ℕ, ◌+◌, ◌*◌, ◌≤◌, List, length, Option, Some, None, refl, sym, ap, subst, ◌∙◌, arith}
 use Rattle.gm_model.specs.declared.schema.Schema.{Schema}
 use Rattle.gm_model.specs.declared.value.Value.{Value}
-use Rattle.gm_arena.specs.ArenaMap.{ArenaMap}
+use Rattle.gm_arena.specs.inner.ArenaMap.{ArenaMap}
 use Rattle.gm_mapfile.specs.declared.fault.MapFault.TheVariants as faults
 use Rattle.gm_mapfile.specs.MapText.{Version, First, Second, DartRow, rows_of}
 use Rattle.gm_mapfile.specs.MapFaults.{IsLeastTwice, AreNamedOnce, AreBelowStated}
-use Rattle.gm_mapfile.specs.Rows.{rows_in, darts_in}
-use Rattle.gm_mapfile.specs.Faults.{IsNameFault}
-use Rattle.gm_mapfile.specs.Building.{IsNextLeast, IsNextSet, IsLeastNotBelowStated, AreAdded, AreValued, AreLive, IsRelinked, AreLinked, IsFirstLack, IsHeld}
+use Rattle.gm_mapfile.specs.inner.Rows.{rows_in, darts_in}
+use Rattle.gm_mapfile.specs.inner.Faults.{IsNameFault}
+use Rattle.gm_mapfile.specs.inner.Building.{IsNextLeast, IsNextSet, IsLeastNotBelowStated, AreAdded, AreValued, AreLive, IsRelinked, AreLinked, IsFirstLack, IsHeld}
 use Rattle.gm_mapfile.proofs.Chunks.{rows_of_darts_in, length_darts_in}
 use Rattle.gm_mapfile.proofs.Whole.{link_ready, held_after, lack_after, set_schema}
 

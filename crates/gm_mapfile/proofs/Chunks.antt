@@ -13,14 +13,14 @@ use Rattle.gm_model.specs.declared.schema.Schema.{Schema}
 use Rattle.gm_model.specs.declared.value.Value.{Value}
 use Rattle.gm_model.specs.GMap.{Row, IsLive}
 use Rattle.gm_model.specs.Values.{kind_of}
-use Rattle.gm_arena.specs.Parts.{part_of}
+use Rattle.gm_arena.specs.inner.Parts.{part_of}
 use Rattle.gm_arena.proofs.PartLemmas.{parts_more, drop_one_more}
 use Rattle.gm_mapfile.specs.MapFaults.{AreBelow}
 use Rattle.gm_mapfile.specs.MapText.{DartRow, bare, rows_of}
 use Rattle.gm_mapfile.specs.MapReading.{AreOfKinds, IsWhole}
-use Rattle.gm_mapfile.specs.Draft.{line_in, numbers_of, values_of_darts}
-use Rattle.gm_mapfile.specs.Ordering.{counted_from}
-use Rattle.gm_mapfile.specs.Rows.{row_in, rows_from, rows_in, valued, darts_from, darts_in}
+use Rattle.gm_mapfile.specs.inner.Draft.{line_in, numbers_of, values_of_darts}
+use Rattle.gm_mapfile.specs.inner.Ordering.{counted_from}
+use Rattle.gm_mapfile.specs.inner.Rows.{row_in, rows_from, rows_in, valued, darts_from, darts_in}
 use Rattle.gm_mapfile.proofs.Named.{live_among}
 
 -- each dart has so many neighbours

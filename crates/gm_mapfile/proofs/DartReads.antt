@@ -9,9 +9,9 @@ use Rattle.gm_model.specs.declared.value.Kind.{Kind}
 use Rattle.gm_model.specs.declared.value.Value.{Value}
 use Rattle.gm_model.specs.Expressions.{components}
 use Rattle.gm_model.specs.Values.{kind_of}
-use Rattle.gm_text.specs.Cursor.{Cursor}
+use Rattle.gm_text.specs.inner.Cursor.{Cursor}
 use Rattle.gm_text.specs.declared.schema_fault.SchemaFault.{SchemaFault}
-use Rattle.gm_mapfile.specs.Draft.{line_in}
+use Rattle.gm_mapfile.specs.inner.Draft.{line_in}
 use Rattle.gm_mapfile.specs.MapText.{DartRow, DartName}
 use Rattle.gm_mapfile.specs.MapReading.{Want, TheNumber, value_wants, values_wants, dart_wants, darts_wants, Takes, Misses, numbers_in, all_numbers, AreOfKinds, IsWhole, ReadsNames, ReadsValues, ReadsDarts}
 use Rattle.gm_mapfile.proofs.Joined.{takes_nothing, takes_then, misses_first, misses_then}

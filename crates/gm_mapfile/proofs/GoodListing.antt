@@ -4,8 +4,8 @@ use Rattle.std.specs.List.{AllByRecursion}
 use Rattle.gm_model.specs.declared.schema.Schema.{Schema}
 use Rattle.gm_model.specs.Limits.{most_darts, most_names}
 use Rattle.gm_model.specs.Maps.{IsSchema}
-use Rattle.gm_text.specs.SchemaPrinting.{AreParts}
-use Rattle.gm_arena.specs.Lawful.{AreGoodValues}
+use Rattle.gm_text.specs.inner.SchemaPrinting.{AreParts}
+use Rattle.gm_arena.specs.inner.Lawful.{AreGoodValues}
 use Rattle.gm_mapfile.specs.MapText.{Version, First, Second, DartRow}
 use Rattle.gm_mapfile.specs.MapReading.{IsWhole}
 

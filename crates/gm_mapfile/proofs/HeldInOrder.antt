@@ -10,11 +10,11 @@ use Rattle.std.proofs.lemmas.Option.{slice_get-map, slice_get_cases, get_or_from
 use Rattle.gm_model.specs.declared.schema.Schema.{Schema}
 use Rattle.gm_model.specs.GMap.{Row, row_of, IsLive}
 use Rattle.gm_model.specs.GMap as written
-use Rattle.gm_arena.specs.ArenaMap.{ArenaMap, Dart, alpha}
+use Rattle.gm_arena.specs.inner.ArenaMap.{ArenaMap, Dart, alpha}
 use Rattle.gm_mapfile.specs.MapText.{First, DartRow, bare, IsNext, names, rows_of, dart_of}
 use Rattle.gm_mapfile.specs.MapFaults.{AreNamedOnce, IsLeastNotBelow, HaveTargets}
-use Rattle.gm_mapfile.specs.Draft.{version_in}
-use Rattle.gm_mapfile.specs.Building.{AreWhole, AreLive, AreValued, IsHeld}
+use Rattle.gm_mapfile.specs.inner.Draft.{version_in}
+use Rattle.gm_mapfile.specs.inner.Building.{AreWhole, AreLive, AreValued, IsHeld}
 use Rattle.gm_mapfile.proofs.Darts.{row_of_dart, live_dart, is_some-map}
 use Rattle.gm_mapfile.proofs.NamesOf.{named_live, live_named}
 use Rattle.gm_mapfile.proofs.Permuted.{distinct_ascending}

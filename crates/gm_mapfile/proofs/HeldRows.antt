@@ -15,11 +15,11 @@ use Rattle.gm_model.specs.declared.value.Value.{Value}
 use Rattle.gm_model.specs.declared.value.Value.TheVariants.{Int}
 use Rattle.gm_model.specs.GMap.{Row, row_of, IsLive}
 use Rattle.gm_model.specs.GMap as written
-use Rattle.gm_arena.specs.ArenaAsMap.{as_map, value}
-use Rattle.gm_arena.specs.ArenaMap.{ArenaMap, Dart, IsLiveName, alpha}
+use Rattle.gm_arena.specs.inner.ArenaAsMap.{as_map, value}
+use Rattle.gm_arena.specs.inner.ArenaMap.{ArenaMap, Dart, IsLiveName, alpha}
 use Rattle.gm_mapfile.specs.MapText.{Version, DartRow, bare, names, rows_of, dart_of, value_in, map_of}
-use Rattle.gm_mapfile.specs.Rows.{dart_of_entry, darts_of, listed_of}
-use Rattle.gm_mapfile.specs.Building.{IsHeld}
+use Rattle.gm_mapfile.specs.inner.Rows.{dart_of_entry, darts_of, listed_of}
+use Rattle.gm_mapfile.specs.inner.Building.{IsHeld}
 use Rattle.gm_mapfile.proofs.Chunks.{AreLong}
 use Rattle.gm_mapfile.proofs.Darts.{row_of_dart, live_dart, is_some-map, shape_found}
 use Rattle.gm_mapfile.proofs.Permuted.{split_found, same_permuted, distinct_ascending}

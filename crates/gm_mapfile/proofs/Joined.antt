@@ -3,10 +3,10 @@ use Rattle.std.proofs.Common.{◌≡◌, ℕ, ℤ, List, [], ◌∷◌, ◌++◌
 use Rattle.std.specs.Prelude.{IfOk, IfErr, OnOk}
 use Rattle.std.proofs.lemmas.List.{append-nil}
 use Rattle.gm_model.specs.Symbols.{Symbol, Mark}
-use Rattle.gm_text.specs.Cursor.{Cursor}
-use Rattle.gm_text.specs.Machine.{Stop, Ends, Passes, run}
-use Rattle.gm_text.specs.Nested as nested
-use Rattle.gm_text.specs.SchemaAnswers.{marks_left}
+use Rattle.gm_text.specs.inner.Cursor.{Cursor}
+use Rattle.gm_text.specs.inner.Machine.{Stop, Ends, Passes, run}
+use Rattle.gm_text.specs.inner.Nested as nested
+use Rattle.gm_text.specs.inner.SchemaAnswers.{marks_left}
 use Rattle.gm_text.specs.SchemaText.{Passed}
 use Rattle.gm_text.specs.declared.schema_fault.SchemaFault.{SchemaFault}
 use Rattle.gm_text.specs.declared.schema_fault.SchemaFault.TheVariants as faults

@@ -5,9 +5,9 @@ use Rattle.std.proofs.lemmas.List.{length-take, length-drop}
 use Rattle.std.proofs.Math.Seq.{take-length}
 use Rattle.gm_model.specs.GMap.{Row, row_of, IsLive}
 use Rattle.gm_mapfile.specs.MapFaults.{AreNamedOnce}
-use Rattle.gm_arena.specs.ArenaMap.{ArenaMap}
-use Rattle.gm_mapfile.specs.Rows.{row_in, rows_in}
-use Rattle.gm_mapfile.specs.Building.{IsRelinked, IsDartLinked, IsLabelWithoutTarget, IsFirstLack, AreLinkedUnless}
+use Rattle.gm_arena.specs.inner.ArenaMap.{ArenaMap}
+use Rattle.gm_mapfile.specs.inner.Rows.{row_in, rows_in}
+use Rattle.gm_mapfile.specs.inner.Building.{IsRelinked, IsDartLinked, IsLabelWithoutTarget, IsFirstLack, AreLinkedUnless}
 use Rattle.gm_mapfile.proofs.Chunks.{between, name_live, name_of_line, alphas_long}
 use Rattle.gm_mapfile.proofs.Named.{none_beside}
 use Rattle.gm_mapfile.proofs.Linking.{relinked_twice, step_linked, step_lack}

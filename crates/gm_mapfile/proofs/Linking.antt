@@ -8,11 +8,11 @@ use Rattle.std.proofs.lemmas.List.{get_or_default, get_or-set_same, length-set}
 use Rattle.gm_model.specs.GMap.{Row, row_of, IsLive}
 use Rattle.gm_model.specs.GMap as written
 use Rattle.gm_model.specs.Orbits.{IsPairBefore}
-use Rattle.gm_arena.specs.ArenaMap.{ArenaMap, Dart, IsAt, IsLiveName, IsLiveSlot, name_at, alpha}
-use Rattle.gm_arena.specs.Edits.{with_alpha, turned}
+use Rattle.gm_arena.specs.inner.ArenaMap.{ArenaMap, Dart, IsAt, IsLiveName, IsLiveSlot, name_at, alpha}
+use Rattle.gm_arena.specs.inner.Edits.{with_alpha, turned}
 use Rattle.gm_arena.proofs.InsideLemmas.{some_of, some_from_map}
 use Rattle.gm_arena.proofs.MapLemmas.{name_at-is, get-with_alpha_same, get-with_alpha_other, alpha-with_alpha_other, alpha-with_alpha_label}
-use Rattle.gm_mapfile.specs.Building.{values_at, AreWhole, AreSlotsLive, IsRelinked, IsDartLinked, IsLabelWithoutTarget, AreLinked, IsFirstLack, AreLinkedUnless}
+use Rattle.gm_mapfile.specs.inner.Building.{values_at, AreWhole, AreSlotsLive, IsRelinked, IsDartLinked, IsLabelWithoutTarget, AreLinked, IsFirstLack, AreLinkedUnless}
 use Rattle.gm_mapfile.proofs.Darts.{is_some-map}
 use Rattle.gm_mapfile.proofs.Named.{row_of_push_other, live_push, alpha_push_new, alpha_push_other}
 

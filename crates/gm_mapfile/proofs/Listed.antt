@@ -13,13 +13,13 @@ use Rattle.gm_model.specs.Limits.{most_darts, most_names}
 use Rattle.gm_model.specs.Maps.{IsSchema}
 use Rattle.gm_model.specs.Reading.{Part, IsWithin, symbols_in, in_role}
 use Rattle.gm_model.specs.Values.{IsInValueRange}
-use Rattle.gm_text.specs.SchemaPrinting.{AreParts}
+use Rattle.gm_text.specs.inner.SchemaPrinting.{AreParts}
 use Rattle.gm_text.specs.SchemaText.{SchemaForm}
 use Rattle.gm_text.specs.SchemaText as schemas
 use Rattle.gm_text.specs.ValueText.{Signed}
 use Rattle.gm_text.proofs.Lexemes.{IsSound, words_are_lexemes}
 use Rattle.gm_text.proofs.SchemaSound.{nothing_passed, form_sound, form_parts, dim_read}
-use Rattle.gm_arena.specs.Lawful.{AreGoodValues}
+use Rattle.gm_arena.specs.inner.Lawful.{AreGoodValues}
 use Rattle.gm_mapfile.specs.MapText.{Version, DartForm, DartRow, Role, InSchema, spell_next, spell_listing, embeds_of, spelling, IsShaped, AreMade, AreRows, IsListed}
 use Rattle.gm_mapfile.specs.MapReading.{AreOfKinds, IsWhole}
 use Rattle.gm_mapfile.proofs.GoodListing.{IsSmall, IsStatedSmall, IsGoodListing}

@@ -16,20 +16,20 @@ use Rattle.gm_model.specs.Orbits.{follow, IsPathIn}
 use Rattle.gm_model.specs.Reading.{Part, IsReadAs, IsWithin, symbols_in}
 use Rattle.gm_model.specs.Symbols.{Symbol, marks_of}
 use Rattle.gm_model.specs.Values.{kind_of, IsValueOf}
-use Rattle.gm_text.specs.Nested.{Outside, Inside}
-use Rattle.gm_text.specs.Nested as nested
-use Rattle.gm_text.specs.SchemaAnswers.{IsNoToken, AtStray, AtEnd}
-use Rattle.gm_text.specs.SchemaReading as schema
+use Rattle.gm_text.specs.inner.Nested.{Outside, Inside}
+use Rattle.gm_text.specs.inner.Nested as nested
+use Rattle.gm_text.specs.inner.SchemaAnswers.{IsNoToken, AtStray, AtEnd}
+use Rattle.gm_text.specs.inner.SchemaReading as schema
 use Rattle.gm_text.specs.SchemaText.{LimitOf, Again, schema_of}
 use Rattle.gm_text.proofs.AtLeast.{IsAnswered, Read, Ended, Passed, answered}
 use Rattle.gm_text.proofs.SchemaAtLeast.{stands_still}
 use Rattle.gm_text.proofs.TextMarks.{text_end}
-use Rattle.gm_arena.specs.Lawful.{AreGoodValues}
+use Rattle.gm_arena.specs.inner.Lawful.{AreGoodValues}
 use Rattle.gm_mapfile.specs.MapFaults.{TextFault, AreBelowStated, IsFirstFault, AtEnds, AtPasses, AtAgain}
 use Rattle.gm_mapfile.specs.MapFaults as first
 use Rattle.gm_mapfile.specs.MapReading.{TheNumber, Component, TheSign, State, AtFormat, AtVersion, AtNext, AtNextName, AtDarts, AtCount, AtNumbers, Done, Whole, behind_state, outer_move, nesting, never, start}
 use Rattle.gm_mapfile.specs.MapText.{Version, First, Second, MapForm, DartRow, ListedMap, Role, passed_of, embeds_of, IsSentence, IsWritten, IsListed, IsNext, MapText, names, rows_of, dart_of, value_in, version_of}
-use Rattle.gm_mapfile.specs.Printing.{behind_last}
+use Rattle.gm_mapfile.specs.inner.Printing.{behind_last}
 use Rattle.gm_mapfile.specs.declared.version.MapVersion.{MapVersion}
 use Rattle.gm_mapfile.proofs.Again.{least_above}
 use Rattle.gm_mapfile.proofs.Darts.{live_dart, shape_found}

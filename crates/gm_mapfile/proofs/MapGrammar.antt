@@ -6,10 +6,10 @@ use Rattle.gm_model.specs.declared.schema.Embed.{Embed}
 use Rattle.gm_model.specs.declared.schema.Schema.{Schema}
 use Rattle.gm_model.specs.Symbols.{Symbol, Word, Numeral}
 use Rattle.gm_model.specs.Reading.{Part, word, number, sign, the_end, in_role}
-use Rattle.gm_text.specs.Machine.{Leads, IsGrammar}
-use Rattle.gm_text.specs.Nested.{Outside, Inside, IsApart, HasPieces, IsNestedSentence, LeadsInside}
-use Rattle.gm_text.specs.Nested as nested
-use Rattle.gm_text.specs.SchemaReading as schema
+use Rattle.gm_text.specs.inner.Machine.{Leads, IsGrammar}
+use Rattle.gm_text.specs.inner.Nested.{Outside, Inside, IsApart, HasPieces, IsNestedSentence, LeadsInside}
+use Rattle.gm_text.specs.inner.Nested as nested
+use Rattle.gm_text.specs.inner.SchemaReading as schema
 use Rattle.gm_text.specs.SchemaText.{SchemaForm, embed_of, schema_of}
 use Rattle.gm_text.specs.SchemaText as text
 use Rattle.gm_text.proofs.Nested.{join, nested_grammar}

@@ -7,7 +7,7 @@ use Rattle.gm_model.specs.declared.value.Kind.{Kind}
 use Rattle.gm_model.specs.declared.value.Kind.TheVariants as kinds
 use Rattle.gm_model.specs.Symbols.{Symbol, Word, Numeral, Sign, End}
 use Rattle.gm_model.specs.Reading.{Part, word, number, sign, the_end}
-use Rattle.gm_text.specs.Nested.{Outside}
+use Rattle.gm_text.specs.inner.Nested.{Outside}
 use Rattle.gm_text.specs.ValueText.{Signed, spell_signed}
 use Rattle.gm_mapfile.specs.MapText.{DartForm, Role, Fixed, DartName, Count, width, size_role, spell_names, spell_components, spell_value, spell_values, spell_dart, spell_darts, spell_listing, AreWide, IsShaped}
 use Rattle.gm_mapfile.specs.MapReading.{Want, TheNumber, Component, TheSign, value_wants, values_wants, dart_wants, darts_wants, Head, AtDarts, AtCount, Done, Whole, number_in, among}

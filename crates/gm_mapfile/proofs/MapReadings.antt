@@ -7,14 +7,14 @@ use Rattle.gm_model.specs.declared.value.Value.{Value}
 use Rattle.gm_model.specs.Maps.{IsSchema}
 use Rattle.gm_model.specs.Symbols.{Symbol, Mark, symbols, marks_of}
 use Rattle.gm_model.specs.Reading.{Part, TextEndsAt, LimitStandsAt, symbols_in, the_end}
-use Rattle.gm_text.specs.Machine.{Passes}
-use Rattle.gm_text.specs.Nested.{Outside}
-use Rattle.gm_text.specs.Nested as nested
+use Rattle.gm_text.specs.inner.Machine.{Passes}
+use Rattle.gm_text.specs.inner.Nested.{Outside}
+use Rattle.gm_text.specs.inner.Nested as nested
 use Rattle.gm_text.specs.SchemaText.{Passed, LimitOf, Again, schema_of}
 use Rattle.gm_text.specs.declared.schema_fault.SchemaFault.{SchemaFault}
 use Rattle.gm_text.specs.declared.schema_fault.SchemaFault.TheVariants as faults
 use Rattle.gm_text.proofs.Machine.{run_reads, run_ends, run_passes, along_leads, along_spelled, ended_is, passing_is}
-use Rattle.gm_mapfile.specs.Draft.{version_in, IsDraft, IsFaultIn}
+use Rattle.gm_mapfile.specs.inner.Draft.{version_in, IsDraft, IsFaultIn}
 use Rattle.gm_mapfile.specs.MapText.{Role, Fixed, passed_of, spelling, IsSentence, IsListed, AreRows}
 use Rattle.gm_mapfile.specs.MapReading.{Head, Done, Whole, nesting, never, start, run_from, Stops, among, all_numbers, IsWhole, ReadsMap}
 use Rattle.gm_mapfile.proofs.MapLed.{Led, all_form_numbers}

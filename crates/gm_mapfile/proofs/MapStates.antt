@@ -6,7 +6,7 @@ use Rattle.gm_model.specs.declared.value.Kind.{Kind}
 use Rattle.gm_model.specs.declared.value.Kind.TheVariants as kinds
 use Rattle.gm_model.specs.Symbols.{Symbol, End}
 use Rattle.gm_model.specs.Reading.{Part, symbols_in, word, number, sign, the_end, in_role}
-use Rattle.gm_text.specs.Nested as nested
+use Rattle.gm_text.specs.inner.Nested as nested
 use Rattle.gm_text.specs.SchemaText as text
 use Rattle.gm_text.specs.ValueText.{Signed, spell_signed}
 use Rattle.gm_mapfile.specs.MapText.{DartForm, Version, First, Second, MapForm, Role, Fixed, InSchema, Count, DartName, size_role, spell_names, spell_components, spell_value, spell_values, spell_dart, spell_darts, spell_next, number_of, embeds_of, spelling, IsForm}

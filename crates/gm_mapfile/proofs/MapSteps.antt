@@ -7,14 +7,14 @@ use Rattle.std.proofs.lemmas.Slice.Eq.{bytes_eq-Decides}
 use Rattle.gm_model.specs.declared.schema.Schema.{Schema}
 use Rattle.gm_model.specs.Limits.{most_darts, most_names}
 use Rattle.gm_model.specs.Symbols.{Symbol, Word, Numeral, Sign, Gone, Stray, End, Mark}
-use Rattle.gm_text.specs.Cursor.{Cursor}
-use Rattle.gm_text.specs.Nested.{Outside}
-use Rattle.gm_text.specs.SchemaAnswers.{marks_left}
+use Rattle.gm_text.specs.inner.Cursor.{Cursor}
+use Rattle.gm_text.specs.inner.Nested.{Outside}
+use Rattle.gm_text.specs.inner.SchemaAnswers.{marks_left}
 use Rattle.gm_text.specs.declared.schema_fault.SchemaFault.{SchemaFault}
 use Rattle.gm_text.specs.declared.schema_fault.SchemaFault.TheVariants as faults
 use Rattle.gm_mapfile.specs.MapText.{DartName, Second}
 use Rattle.gm_mapfile.specs.MapReading.{Whole, State, AtVersion, AtNext, AtNextName, AtDarts, AtCount, Head, Want, TheNumber, start, into_schema, expect, move_version, darts_wants, run_from, Reads, EndsAt, Stops, among, Takes, Misses}
-use Rattle.gm_mapfile.specs.Words.{IsMarkNext, StandsNext, IsNumberNext, IsOtherNext, IsNoNumberNext}
+use Rattle.gm_mapfile.specs.inner.Words.{IsMarkNext, StandsNext, IsNumberNext, IsOtherNext, IsNoNumberNext}
 use Rattle.gm_mapfile.proofs.Joined.{move_at, limit_at, went, ended}
 
 -- ---- one mark

@@ -4,7 +4,7 @@ use Rattle.std.specs.Prelude.{MatchOption}
 use Rattle.std.proofs.lemmas.Bool.{cases_eq, cases_lt}
 use Rattle.gm_model.specs.GMap.{Row, IsLive}
 use Rattle.gm_mapfile.specs.MapFaults.{AreBelow, IsLeastNotBelow}
-use Rattle.gm_mapfile.specs.Building.{IsNotBelow}
+use Rattle.gm_mapfile.specs.inner.Building.{IsNotBelow}
 use Rattle.gm_mapfile.proofs.Named.{row_of_push_other, live_push}
 
 pub none_above : (next : ℕ) → IsNotBelow [] next None

@@ -10,9 +10,9 @@ use Rattle.gm_model.specs.GMap.{Row, IsLive, alpha, IsGMap}
 use Rattle.gm_model.specs.Maps.{IsEmbedAt}
 use Rattle.gm_model.specs.Orbits.{IsPairBefore}
 use Rattle.gm_model.specs.Symbols.{marks_of}
-use Rattle.gm_text.specs.Machine.{Stop, Ends, Passes}
-use Rattle.gm_text.specs.Nested.{Outside}
-use Rattle.gm_text.specs.Nested as nested
+use Rattle.gm_text.specs.inner.Machine.{Stop, Ends, Passes}
+use Rattle.gm_text.specs.inner.Nested.{Outside}
+use Rattle.gm_text.specs.inner.Nested as nested
 use Rattle.gm_text.specs.SchemaText.{Passed, LimitOf}
 use Rattle.gm_text.specs.SchemaText as schemas
 use Rattle.gm_text.proofs.Machine.{reading_runs, ends_run, passes_run}

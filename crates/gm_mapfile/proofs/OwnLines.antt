@@ -8,17 +8,17 @@ use Rattle.std.proofs.lemmas.List.Elements.{All-drop, All-take, All-from_recursi
 use Rattle.std.proofs.lemmas.Option.{slice_get_cases, get_or_from_slice_get, none-some, same_Some}
 use Rattle.gm_model.specs.declared.schema.Schema.{Schema}
 use Rattle.gm_model.specs.declared.value.Value.{Value}
-use Rattle.gm_arena.specs.ArenaMap.{ArenaMap, IsLiveName}
-use Rattle.gm_arena.specs.Lawful.{AreGoodValues}
-use Rattle.gm_arena.specs.Lines.{line_count, values_on, AreLines, HoldsLines}
-use Rattle.gm_arena.specs.Parts.{part_of}
+use Rattle.gm_arena.specs.inner.ArenaMap.{ArenaMap, IsLiveName}
+use Rattle.gm_arena.specs.inner.Lawful.{AreGoodValues}
+use Rattle.gm_arena.specs.inner.Lines.{line_count, values_on, AreLines, HoldsLines}
+use Rattle.gm_arena.specs.inner.Parts.{part_of}
 use Rattle.gm_arena.proofs.InsideLemmas.{part_long}
 use Rattle.gm_mapfile.specs.MapText.{First, DartRow, IsNext, names, rows_of}
 use Rattle.gm_mapfile.specs.MapFaults.{AreNamedOnce, IsLeastNotBelow}
-use Rattle.gm_mapfile.specs.Draft.{version_in}
-use Rattle.gm_mapfile.specs.Rows.{darts_in}
-use Rattle.gm_mapfile.specs.Building.{AreInRoom, IsHeld, IsNextSet}
-use Rattle.gm_mapfile.specs.Faults.{IsNameFault}
+use Rattle.gm_mapfile.specs.inner.Draft.{version_in}
+use Rattle.gm_mapfile.specs.inner.Rows.{darts_in}
+use Rattle.gm_mapfile.specs.inner.Building.{AreInRoom, IsHeld, IsNextSet}
+use Rattle.gm_mapfile.specs.inner.Faults.{IsNameFault}
 use Rattle.gm_mapfile.specs.declared.fault.MapFault.TheVariants as faults
 use Rattle.gm_mapfile.proofs.Chunks.{name_of_line, alphas_of_line, alphas_long, dart_on, dart_at_line, many_darts}
 use Rattle.gm_mapfile.proofs.HeldInOrder.{AreInOrder, placed, held_in_order, next_in_order, least_in_order, once_in_order}

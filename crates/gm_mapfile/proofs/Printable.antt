@@ -7,13 +7,13 @@ use Rattle.std.proofs.lemmas.List.{get_or_default}
 use Rattle.std.proofs.lemmas.List.Elements.{recursion_from_All}
 use Rattle.gm_model.specs.Limits.{most_names}
 use Rattle.gm_model.specs.Maps.{IsSound}
-use Rattle.gm_text.specs.SchemaPrinting.{AreParts}
-use Rattle.gm_arena.specs.ArenaAsMap.{as_map}
-use Rattle.gm_arena.specs.ArenaMap.{ArenaMap, Dart, IsLiveName}
-use Rattle.gm_arena.specs.Lawful.{IsLawful}
+use Rattle.gm_text.specs.inner.SchemaPrinting.{AreParts}
+use Rattle.gm_arena.specs.inner.ArenaAsMap.{as_map}
+use Rattle.gm_arena.specs.inner.ArenaMap.{ArenaMap, Dart, IsLiveName}
+use Rattle.gm_arena.specs.inner.Lawful.{IsLawful}
 use Rattle.gm_mapfile.specs.MapText.{MapText, canonical}
-use Rattle.gm_mapfile.specs.Printing.{renumbered, IsPrintableDart, IsPrintable}
-use Rattle.gm_mapfile.specs.Rows.{dart_of_entry, darts_of, listed_of}
+use Rattle.gm_mapfile.specs.inner.Printing.{renumbered, IsPrintableDart, IsPrintable}
+use Rattle.gm_mapfile.specs.inner.Rows.{dart_of_entry, darts_of, listed_of}
 use Rattle.gm_mapfile.specs.declared.version.MapVersion.{MapVersion}
 use Rattle.gm_mapfile.proofs.Again.{printed}
 use Rattle.gm_mapfile.proofs.ArenaDarts.{darts_ascending}

@@ -16,12 +16,12 @@ use Rattle.gm_model.specs.declared.schema.Embed.{Embed}
 use Rattle.gm_model.specs.declared.value.Value.{Value}
 use Rattle.gm_model.specs.Values.{kind_of}
 use Rattle.gm_text.specs.SchemaText as schema
-use Rattle.gm_arena.specs.ArenaMap.{ArenaMap, Dart, IsAt, IsLiveName, name_at}
+use Rattle.gm_arena.specs.inner.ArenaMap.{ArenaMap, Dart, IsAt, IsLiveName, name_at}
 use Rattle.gm_arena.specs.declared.slot.Slot.{Slot}
-use Rattle.gm_arena.specs.Lawful.{IsLawful}
+use Rattle.gm_arena.specs.inner.Lawful.{IsLawful}
 use Rattle.gm_arena.proofs.MapLemmas.{name_at-is}
 use Rattle.gm_mapfile.specs.MapText.{DartRow, names, dart_of, line_of, head_line, next_line, canonical}
-use Rattle.gm_mapfile.specs.Rows.{dart_of_entry, darts_of, listed_of}
+use Rattle.gm_mapfile.specs.inner.Rows.{dart_of_entry, darts_of, listed_of}
 use Rattle.gm_mapfile.specs.declared.version.MapVersion.{MapVersion}
 use Rattle.gm_mapfile.proofs.ArenaDarts.{dart_with, dart_of_arena, darts_ascending, names_of_arena}
 

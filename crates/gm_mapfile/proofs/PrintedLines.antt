@@ -5,12 +5,12 @@ use Rattle.std.specs.FinMap.{get, keys}
 use Rattle.std.proofs.lemmas.Bool.{cases_lt, false≢true}
 use Rattle.std.proofs.lemmas.List.{append-nil}
 use Rattle.std.proofs.lemmas.Nat.{mul-le}
-use Rattle.gm_arena.specs.ArenaMap.{ArenaMap, Dart, IsAt}
-use Rattle.gm_arena.specs.InOrder.{HasNoneFrom, IsFirstFrom}
-use Rattle.gm_arena.specs.Lawful.{IsLawful}
+use Rattle.gm_arena.specs.inner.ArenaMap.{ArenaMap, Dart, IsAt}
+use Rattle.gm_arena.specs.inner.InOrder.{HasNoneFrom, IsFirstFrom}
+use Rattle.gm_arena.specs.inner.Lawful.{IsLawful}
 use Rattle.gm_arena.proofs.Keys.{rising, named, live}
 use Rattle.gm_mapfile.specs.MapText.{line_of}
-use Rattle.gm_mapfile.specs.Rows.{dart_of_entry, darts_of}
+use Rattle.gm_mapfile.specs.inner.Rows.{dart_of_entry, darts_of}
 use Rattle.gm_mapfile.proofs.Printed.{dart_at, dart_at-is, lines_with, keys_counted, darts_counted, whole_taken}
 
 -- the lines of the darts with a name below the number, behind what stood there before

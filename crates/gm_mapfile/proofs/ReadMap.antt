@@ -13,11 +13,11 @@ use Rattle.gm_model.specs.Limits.{most_names}
 use Rattle.gm_model.specs.Maps.{IsGeneralised, IsWellEmbedded, IsSound}
 use Rattle.gm_text.specs.declared.schema_fault.SchemaFault.{SchemaFault}
 use Rattle.gm_text.specs.declared.schema_fault.SchemaFault.TheVariants as texts
-use Rattle.gm_arena.specs.ArenaAsMap.{as_map, value}
-use Rattle.gm_arena.specs.ArenaMap.{ArenaMap, IsLiveName, alpha}
-use Rattle.gm_arena.specs.Lawful.{IsLawful}
+use Rattle.gm_arena.specs.inner.ArenaAsMap.{as_map, value}
+use Rattle.gm_arena.specs.inner.ArenaMap.{ArenaMap, IsLiveName, alpha}
+use Rattle.gm_arena.specs.inner.Lawful.{IsLawful}
 use Rattle.gm_arena.proofs.ArenaIsMap.{is_map}
-use Rattle.gm_laws.specs.Faults.{IsFault}
+use Rattle.gm_laws.specs.inner.Faults.{IsFault}
 use Rattle.gm_laws.specs.declared.breach.LawFault.{LawFault}
 use Rattle.gm_laws.specs.declared.breach.LawFault.TheVariants as laws
 use Rattle.gm_laws.specs.declared.breach.MapBreach.TheVariants as breaches
@@ -26,11 +26,11 @@ use Rattle.gm_mapfile.specs.declared.fault.MapFault.TheVariants as faults
 use Rattle.gm_mapfile.specs.declared.version.MapVersion.{MapVersion}
 use Rattle.gm_mapfile.specs.MapText.{Version, First, Second, DartRow, ListedMap, IsListed, IsNext, MapText, names, rows_of, dart_of, version_of}
 use Rattle.gm_mapfile.specs.MapFaults as first
-use Rattle.gm_mapfile.specs.Answered.{map_fault_of_text, map_fault_of_laws, name_told}
-use Rattle.gm_mapfile.specs.Draft.{numbers_of, IsDraft, IsFaultIn}
-use Rattle.gm_mapfile.specs.Rows.{darts_in, darts_of, listed_of}
-use Rattle.gm_mapfile.specs.Faults.{IsFaultOf, IsNamedBreachOf, IsNamedFaultOf, IsNameFault}
-use Rattle.gm_mapfile.specs.Building.{AreInRoom, IsHeld}
+use Rattle.gm_mapfile.specs.inner.Answered.{map_fault_of_text, map_fault_of_laws, name_told}
+use Rattle.gm_mapfile.specs.inner.Draft.{numbers_of, IsDraft, IsFaultIn}
+use Rattle.gm_mapfile.specs.inner.Rows.{darts_in, darts_of, listed_of}
+use Rattle.gm_mapfile.specs.inner.Faults.{IsFaultOf, IsNamedBreachOf, IsNamedFaultOf, IsNameFault}
+use Rattle.gm_mapfile.specs.inner.Building.{AreInRoom, IsHeld}
 use Rattle.gm_mapfile.proofs.Chunks.{AreLong, long_of_whole, lines_of_rows, darts_of_lines, values_of_lines}
 use Rattle.gm_mapfile.proofs.GoodListing.{IsSmall, IsGoodListing}
 use Rattle.gm_mapfile.proofs.HeldRows.{held_ascending, held_found, held_permuted, live_each, alpha_each, of_rows, map_of_listed}

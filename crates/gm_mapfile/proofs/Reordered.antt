@@ -14,15 +14,15 @@ use Rattle.gm_model.specs.declared.schema.Schema.{Schema}
 use Rattle.gm_model.specs.declared.value.Value.{Value}
 use Rattle.gm_model.specs.GMap.{Row, IsLive, alpha, row_of}
 use Rattle.gm_model.specs.Limits.{most_names}
-use Rattle.gm_arena.specs.ArenaMap.{ArenaMap}
-use Rattle.gm_arena.specs.Lawful.{AreGoodValues}
-use Rattle.gm_arena.specs.Parts.{part_of}
-use Rattle.gm_mapfile.specs.Building.{AreInRoom, IsHeld}
-use Rattle.gm_mapfile.specs.Faults.{IsNameFault}
+use Rattle.gm_arena.specs.inner.ArenaMap.{ArenaMap}
+use Rattle.gm_arena.specs.inner.Lawful.{AreGoodValues}
+use Rattle.gm_arena.specs.inner.Parts.{part_of}
+use Rattle.gm_mapfile.specs.inner.Building.{AreInRoom, IsHeld}
+use Rattle.gm_mapfile.specs.inner.Faults.{IsNameFault}
 use Rattle.gm_mapfile.specs.MapFaults.{rows_named, AreNamedOnce, IsLeastTwice, IsLeastNotBelow, AreBelowStated}
 use Rattle.gm_mapfile.specs.MapText.{Version, First, Second, DartRow, bare, rows_of, dart_of}
-use Rattle.gm_mapfile.specs.Ordering.{counted_from, on_line, on_lines}
-use Rattle.gm_mapfile.specs.Rows.{row_in, rows_in, valued, darts_from, darts_in}
+use Rattle.gm_mapfile.specs.inner.Ordering.{counted_from, on_line, on_lines}
+use Rattle.gm_mapfile.specs.inner.Rows.{row_in, rows_in, valued, darts_from, darts_in}
 use Rattle.gm_mapfile.specs.declared.fault.MapFault.{MapFault}
 use Rattle.gm_mapfile.specs.declared.ordering.Line.{Line}
 use Rattle.gm_mapfile.specs.declared.fault.MapFault.TheVariants as faults

@@ -12,7 +12,7 @@ use Rattle.gm_model.specs.Maps.{IsSchema}
 use Rattle.gm_model.specs.Names.{reserved, IsReserved, is_among}
 use Rattle.gm_model.specs.Reading.{Part, IsWithin, symbols_in, in_role}
 use Rattle.gm_model.specs.Symbols.{Symbol, Numeral}
-use Rattle.gm_text.specs.SchemaPrinting.{AreParts}
+use Rattle.gm_text.specs.inner.SchemaPrinting.{AreParts}
 use Rattle.gm_text.specs.SchemaText as schema
 use Rattle.gm_text.proofs.Printed.{symbols_from}
 use Rattle.gm_text.proofs.SchemaAgain.{forms_of, schema_form, same_embeds, embeds_pass, canonical_symbols}

@@ -6,13 +6,13 @@ use Rattle.std.proofs.lemmas.Slice.Eq.{bytes_eq-Decides}
 use Rattle.gm_model.specs.declared.schema.Embed.{Embed}
 use Rattle.gm_model.specs.declared.schema.Schema.{Schema}
 use Rattle.gm_model.specs.Symbols.{Symbol, Word, Numeral, Sign, Gone, Stray, End, Mark}
-use Rattle.gm_text.specs.Cursor.{Cursor}
-use Rattle.gm_text.specs.Machine.{Stop, Ends, Passes, run}
-use Rattle.gm_text.specs.Nested.{Inside, Outside}
-use Rattle.gm_text.specs.Nested as nested
-use Rattle.gm_text.specs.SchemaAnswers.{marks_left, run_in, StopsOrLost}
-use Rattle.gm_text.specs.SchemaAnswers as alone
-use Rattle.gm_text.specs.SchemaReading as schema
+use Rattle.gm_text.specs.inner.Cursor.{Cursor}
+use Rattle.gm_text.specs.inner.Machine.{Stop, Ends, Passes, run}
+use Rattle.gm_text.specs.inner.Nested.{Inside, Outside}
+use Rattle.gm_text.specs.inner.Nested as nested
+use Rattle.gm_text.specs.inner.SchemaAnswers.{marks_left, run_in, StopsOrLost}
+use Rattle.gm_text.specs.inner.SchemaAnswers as alone
+use Rattle.gm_text.specs.inner.SchemaReading as schema
 use Rattle.gm_text.specs.SchemaText.{Passed, LimitOf, Again}
 use Rattle.gm_text.specs.declared.schema_fault.SchemaFault.{SchemaFault}
 use Rattle.gm_text.specs.declared.schema_fault.SchemaFault.TheVariants as faults

@@ -6,11 +6,11 @@ use Rattle.gm_model.specs.declared.value.Value.TheVariants.{Int}
 use Rattle.gm_model.specs.GMap.{Row, row_of}
 use Rattle.gm_model.specs.GMap as written
 use Rattle.gm_model.specs.Maps.{IsSound}
-use Rattle.gm_arena.specs.ArenaAsMap.{as_map, value}
-use Rattle.gm_arena.specs.ArenaMap.{ArenaMap, Dart, alpha}
-use Rattle.gm_arena.specs.Lawful.{IsLawful}
+use Rattle.gm_arena.specs.inner.ArenaAsMap.{as_map, value}
+use Rattle.gm_arena.specs.inner.ArenaMap.{ArenaMap, Dart, alpha}
+use Rattle.gm_arena.specs.inner.Lawful.{IsLawful}
 use Rattle.gm_mapfile.specs.MapText.{DartRow, bare, rows_of, value_in, map_of}
-use Rattle.gm_mapfile.specs.Rows.{darts_of, listed_of}
+use Rattle.gm_mapfile.specs.inner.Rows.{darts_of, listed_of}
 use Rattle.gm_mapfile.proofs.ArenaDarts.{dart_with, dart_of_arena, row_of_dart}
 
 module _ (m : ArenaMap) where

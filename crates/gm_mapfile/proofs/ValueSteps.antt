@@ -7,16 +7,16 @@ use Rattle.gm_model.specs.declared.token.TokenKind.{TokenKind}
 use Rattle.gm_model.specs.declared.token.TokenKind.TheVariants as tokens
 use Rattle.gm_model.specs.Symbols.{Symbol, Word, Numeral, Sign, Gone, Stray, End, Mark, mark_of, symbol_of_kind}
 use Rattle.gm_model.specs.Tokens.{bytes_of}
-use Rattle.gm_text.specs.Cursor.{Cursor}
-use Rattle.gm_text.specs.Lexing.{rest_of, items_read}
+use Rattle.gm_text.specs.inner.Cursor.{Cursor}
+use Rattle.gm_text.specs.inner.Lexing.{rest_of, items_read}
 use Rattle.gm_text.specs.declared.fault.LexFault.{LexFault}
-use Rattle.gm_text.specs.SchemaAnswers.{marks_left}
+use Rattle.gm_text.specs.inner.SchemaAnswers.{marks_left}
 use Rattle.gm_text.specs.ValueText.{greatest, is_channel, signed}
 use Rattle.gm_text.specs.declared.schema_fault.SchemaFault.{SchemaFault}
 use Rattle.gm_text.specs.declared.schema_fault.SchemaFault.TheVariants as faults
 use Rattle.gm_mapfile.specs.MapText.{Role, size_role, passed_of}
 use Rattle.gm_mapfile.specs.MapReading.{AtNumbers, Head, Want, TheNumber, Component, TheSign, run_from, Stops, among, Takes, Misses, number_in}
-use Rattle.gm_mapfile.specs.Words.{StandsNext, IsOtherNext, minus_sign, signed_marks, IsSignedNext, IsNoSignedNext, AtFirst, BehindMinus, IsEndNext, IsMoreNext}
+use Rattle.gm_mapfile.specs.inner.Words.{StandsNext, IsOtherNext, minus_sign, signed_marks, IsSignedNext, IsNoSignedNext, AtFirst, BehindMinus, IsEndNext, IsMoreNext}
 use Rattle.gm_mapfile.proofs.Joined.{move_at, went, ended}
 use Rattle.gm_mapfile.proofs.MapSteps.{met, unmet, reads_mark, stops_mark, stops_other, not_above}
 

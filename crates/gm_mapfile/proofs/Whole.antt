@@ -7,11 +7,11 @@ use Rattle.gm_model.specs.declared.schema.Schema.{Schema}
 use Rattle.gm_model.specs.GMap.{Row, row_of, IsLive}
 use Rattle.gm_model.specs.GMap as written
 use Rattle.gm_model.specs.Breaches.{IsFirstWithoutTarget}
-use Rattle.gm_arena.specs.ArenaMap.{ArenaMap, Dart, alpha}
-use Rattle.gm_arena.specs.Edits.{empty_map}
+use Rattle.gm_arena.specs.inner.ArenaMap.{ArenaMap, Dart, alpha}
+use Rattle.gm_arena.specs.inner.Edits.{empty_map}
 use Rattle.gm_mapfile.specs.MapText.{Version, First, Second, DartRow, IsNext, IsLeastAbove, names, rows_of}
 use Rattle.gm_mapfile.specs.MapFaults.{AreNamedOnce}
-use Rattle.gm_mapfile.specs.Building.{IsFresh, IsNextLeast, IsNextSet, AreAdded, AreValued, AreLive, IsRelinked, AreLinked, IsFirstLack, IsHeld}
+use Rattle.gm_mapfile.specs.inner.Building.{IsFresh, IsNextLeast, IsNextSet, AreAdded, AreValued, AreLive, IsRelinked, AreLinked, IsFirstLack, IsHeld}
 use Rattle.gm_mapfile.proofs.Darts.{length_rows_of}
 use Rattle.gm_mapfile.proofs.Named.{none_of}
 use Rattle.gm_mapfile.proofs.NamesOf.{live_named, named_live}

@@ -4,11 +4,11 @@ use Rattle.std.proofs.lemmas.List.{append-nil}
 use Rattle.gm_model.specs.declared.schema.Schema.{Schema}
 use Rattle.gm_model.specs.declared.value.Value.{Value}
 use Rattle.gm_model.specs.Symbols.{End, Mark}
-use Rattle.gm_text.specs.Cursor.{Cursor}
+use Rattle.gm_text.specs.inner.Cursor.{Cursor}
 use Rattle.gm_text.specs.declared.schema_fault.SchemaFault.{SchemaFault}
-use Rattle.gm_mapfile.specs.Draft.{version_in}
+use Rattle.gm_mapfile.specs.inner.Draft.{version_in}
 use Rattle.gm_mapfile.specs.MapReading.{Head, Want, start, darts_wants, all_numbers, among, Reads, Stops, Misses, ReadsDarts, ReadsMap}
-use Rattle.gm_mapfile.specs.Words.{IsEndNext, IsMoreNext}
+use Rattle.gm_mapfile.specs.inner.Words.{IsEndNext, IsMoreNext}
 use Rattle.gm_mapfile.proofs.Joined.{reads_then, stops_then}
 use Rattle.gm_mapfile.proofs.ValueSteps.{more_stops}
 

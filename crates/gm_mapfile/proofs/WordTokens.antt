@@ -5,12 +5,12 @@ use Rattle.gm_model.specs.declared.token.TokenKind.{TokenKind}
 use Rattle.gm_model.specs.declared.token.TokenKind.TheVariants as tokens
 use Rattle.gm_model.specs.Symbols.{Symbol, Word, Numeral, Sign, Mark, mark_of, symbol_of_kind, value_of}
 use Rattle.gm_model.specs.Tokens.{bytes_of}
-use Rattle.gm_text.specs.Cursor.{Cursor}
-use Rattle.gm_text.specs.Lexing.{rest_of, IsSignRead}
-use Rattle.gm_text.specs.SchemaAnswers.{marks_left, symbol_at, mark_at, IsNext, IsNoToken, AtStray, AtEnd, LacksToken}
+use Rattle.gm_text.specs.inner.Cursor.{Cursor}
+use Rattle.gm_text.specs.inner.Lexing.{rest_of, IsSignRead}
+use Rattle.gm_text.specs.inner.SchemaAnswers.{marks_left, symbol_at, mark_at, IsNext, IsNoToken, AtStray, AtEnd, LacksToken}
 use Rattle.gm_text.specs.declared.schema_fault.SchemaFault.{SchemaFault}
 use Rattle.gm_text.specs.declared.schema_fault.SchemaFault.TheVariants as faults
-use Rattle.gm_mapfile.specs.Words.{IsMarkNext, StandsNext, IsNumberNext, IsOtherNext, IsNoNumberNext, minus_sign, IsSignedNext, IsNoSignedNext, AtFirst, BehindMinus}
+use Rattle.gm_mapfile.specs.inner.Words.{IsMarkNext, StandsNext, IsNumberNext, IsOtherNext, IsNoNumberNext, minus_sign, IsSignedNext, IsNoSignedNext, AtFirst, BehindMinus}
 
 -- ---- symbols
 

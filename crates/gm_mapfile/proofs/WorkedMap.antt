@@ -9,9 +9,9 @@ use Rattle.gm_model.specs.Maps.{IsEmbedAt, IsDart, IsSchema, IsSound}
 use Rattle.gm_model.specs.Orbits.{follow}
 use Rattle.gm_model.specs.Values.{IsInValueRange, IsValueOf}
 use Rattle.gm_text.proofs.SchemaSound.{form_sound}
-use Rattle.gm_arena.specs.Lawful.{AreGoodValues}
+use Rattle.gm_arena.specs.inner.Lawful.{AreGoodValues}
 use Rattle.gm_mapfile.specs.MapText.{map_of, MapText}
-use Rattle.gm_mapfile.specs.Printing.{IsPrintable}
+use Rattle.gm_mapfile.specs.inner.Printing.{IsPrintable}
 use Rattle.gm_mapfile.specs.declared.version.MapVersion.TheVariants as versions
 use Rattle.gm_mapfile.proofs.Again.{printed}
 use Rattle.gm_mapfile.proofs.Worked.{positions, schema, corner, sample, in_first, in_second}

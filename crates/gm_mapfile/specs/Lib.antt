@@ -1,11 +1,4 @@
 pub mod MapText
 pub mod MapFaults
-pub mod Words
-pub mod Draft
 pub mod MapReading
-pub mod Rows
-pub mod Building
-pub mod Ordering
-pub mod Faults
-pub mod Answered
-pub mod Printing
+pub mod inner

@@ -10,15 +10,15 @@ use Rattle.gm_model.specs.declared.value.Value.{Value}
 use Rattle.gm_model.specs.Expressions.{components}
 use Rattle.gm_model.specs.Values.{kind_of}
 use Rattle.gm_model.specs.Symbols.{Symbol, Word, Numeral, Sign, End, Mark}
-use Rattle.gm_text.specs.Cursor.{Cursor}
-use Rattle.gm_text.specs.Machine.{Stop, Ends, Passes, run}
-use Rattle.gm_text.specs.Nested.{Nested, Outside, Inside, Nesting}
-use Rattle.gm_text.specs.Nested as nested
-use Rattle.gm_text.specs.SchemaAnswers.{marks_left}
-use Rattle.gm_text.specs.SchemaReading as schema
+use Rattle.gm_text.specs.inner.Cursor.{Cursor}
+use Rattle.gm_text.specs.inner.Machine.{Stop, Ends, Passes, run}
+use Rattle.gm_text.specs.inner.Nested.{Nested, Outside, Inside, Nesting}
+use Rattle.gm_text.specs.inner.Nested as nested
+use Rattle.gm_text.specs.inner.SchemaAnswers.{marks_left}
+use Rattle.gm_text.specs.inner.SchemaReading as schema
 use Rattle.gm_text.specs.SchemaText as text
 use Rattle.gm_text.specs.SchemaText.{Passed, LimitOf, Again}
-use Rattle.gm_mapfile.specs.Draft.{numbers_of, values_of_darts, version_in}
+use Rattle.gm_mapfile.specs.inner.Draft.{numbers_of, values_of_darts, version_in}
 use Rattle.gm_text.specs.declared.schema_fault.SchemaFault.{SchemaFault}
 use Rattle.gm_text.specs.declared.schema_fault.SchemaFault.TheVariants as faults
 use Rattle.gm_text.specs.ValueText.{signed}

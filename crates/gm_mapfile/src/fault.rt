@@ -66,7 +66,7 @@ impl From<gm_model::OutOfMemory> for MapFault {
 }
 
 impl From<LawFault> for MapFault {
-    ghost use Rattle.gm_mapfile.specs.Answered.{map_fault_of_laws};
+    ghost use Rattle.gm_mapfile.specs.inner.Answered.{map_fault_of_laws};
 
     ghost from_gives = { λ fault given. given ≡ map_fault_of_laws fault };
 
@@ -79,7 +79,7 @@ impl From<LawFault> for MapFault {
 }
 
 impl From<SchemaFault> for MapFault {
-    ghost use Rattle.gm_mapfile.specs.Answered.{map_fault_of_text};
+    ghost use Rattle.gm_mapfile.specs.inner.Answered.{map_fault_of_text};
 
     ghost from_gives = { λ fault given. given ≡ map_fault_of_text fault };
 
@@ -103,7 +103,7 @@ pub struct NoMap {
 
 impl From<SchemaFault> for NoMap {
     ghost use Rattle.std.specs.Prelude.{None};
-    ghost use Rattle.gm_mapfile.specs.Answered.{map_fault_of_text};
+    ghost use Rattle.gm_mapfile.specs.inner.Answered.{map_fault_of_text};
 
     ghost from_gives = { λ fault given. given ≡ record { fault = map_fault_of_text fault; embed = None } };
 

@@ -2,7 +2,7 @@
 ghost use Rattle.std.specs.Prelude.{◌≡◌, ℕ, List};
 ghost use Rattle.gm_mapfile.specs.MapText.{ListedMap, MapText, IsCanonicalTextOf, StandsForNoMap, canonical};
 ghost use Rattle.gm_mapfile.specs.MapFaults.{TextFault, IsFirstFault};
-ghost use Rattle.gm_mapfile.specs.Printing.{IsPrintable, renumbered};
+ghost use Rattle.gm_mapfile.specs.inner.Printing.{IsPrintable, renumbered};
 ghost use Rattle.gm_mapfile.specs.declared.version.MapVersion.{MapVersion};
 
 /// A text stands for one map at most, in one version.

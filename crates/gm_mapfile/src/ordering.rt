@@ -4,10 +4,10 @@
 //! side in the arena, as whoever goes through a map by name then finds them.
 ghost use Rattle.std.specs.Prelude.{◌≡◌, ◌+◌, ◌*◌, ◌/◌, ◌<◌, ◌≤◌, ◌++◌, length, map, All, IsPermutation, IfOk, IfSome, OnOk};
 ghost use Rattle.gm_model.specs.Limits.{most_darts, most_names};
-ghost use Rattle.gm_mapfile.specs.Building.{AreInRoom};
-ghost use Rattle.gm_mapfile.specs.Ordering.{counted_from, on_lines};
+ghost use Rattle.gm_mapfile.specs.inner.Building.{AreInRoom};
+ghost use Rattle.gm_mapfile.specs.inner.Ordering.{counted_from, on_lines};
 ghost use Rattle.gm_mapfile.specs.MapFaults.{AreBelow};
-ghost use Rattle.gm_mapfile.specs.Rows.{darts_in, rows_in};
+ghost use Rattle.gm_mapfile.specs.inner.Rows.{darts_in, rows_in};
 ghost use Rattle.gm_mapfile.specs.declared.ordering.Line.{Line};
 
 use gm_model::{OutOfMemory, Schema, Value};

@@ -5,7 +5,7 @@ ghost use Rattle.gm_model.specs.Tokens as tokens;
 ghost use Rattle.gm_model.specs.Expressions.{components};
 ghost use Rattle.gm_model.specs.Values.{kind_of};
 ghost use Rattle.gm_text.specs.ValueText.{is_channel};
-ghost use Rattle.gm_mapfile.specs.Words.{IsSignedNext, IsNoSignedNext};
+ghost use Rattle.gm_mapfile.specs.inner.Words.{IsSignedNext, IsNoSignedNext};
 ghost use Rattle.gm_mapfile.specs.MapReading.{Takes, Misses, TheSign, Component, value_wants, values_wants, ReadsValues};
 
 use crate::words::{Numeral, numeral_behind, read_number, read_sign, small_numeral};

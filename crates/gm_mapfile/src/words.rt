@@ -2,7 +2,7 @@
 ghost use Rattle.std.specs.Prelude.{◌≡◌, ℕ, ◌-◌, ◌<◌, ◌^◌, [], ◌∷◌, false, min, IsTrue, IfOk, IfErr, IfSome, IfNone};
 ghost use Rattle.gm_model.specs.Symbols.{Word, Sign};
 ghost use Rattle.gm_model.specs.Tokens as tokens;
-ghost use Rattle.gm_mapfile.specs.Words.{StandsNext, IsNumberNext, IsOtherNext, IsNoNumberNext};
+ghost use Rattle.gm_mapfile.specs.inner.Words.{StandsNext, IsNumberNext, IsOtherNext, IsNoNumberNext};
 
 use gm_text::{Guess, Lexer, SchemaFault, SmallNumber, TokenKind, next_token};
 

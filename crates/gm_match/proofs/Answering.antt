@@ -19,30 +19,30 @@ use Rattle.gm_model.specs.Orbits.{IsPairBefore, IsWalk}
 use Rattle.gm_model.specs.Rules.{Rule, rule_of, first_hook, has_word, width}
 use Rattle.gm_model.specs.Structure.{IsInRange, HasIncidence}
 use Rattle.gm_arena.specs.declared.slot.Slot.{Slot}
-use Rattle.gm_arena.specs.ArenaAsMap.{as_map}
-use Rattle.gm_arena.specs.ArenaMap.{ArenaMap, IsLiveName, name_at}
-use Rattle.gm_arena.specs.Lawful.{IsLawful}
+use Rattle.gm_arena.specs.inner.ArenaAsMap.{as_map}
+use Rattle.gm_arena.specs.inner.ArenaMap.{ArenaMap, IsLiveName, name_at}
+use Rattle.gm_arena.specs.inner.Lawful.{IsLawful}
 use Rattle.gm_arena.proofs.MapLemmas.{IsAt-name_at, IsLiveName-name_at}
-use Rattle.gm_plan.specs.Placed.{Placed, slot_at}
-use Rattle.gm_plan.specs.Plans.{IsPlanned}
+use Rattle.gm_plan.specs.inner.Placed.{Placed, slot_at}
+use Rattle.gm_plan.specs.inner.Plans.{IsPlanned}
 use Rattle.gm_plan.proofs.Hooks.{few_hooks}
-use Rattle.gm_theory.specs.OneMatch.{IsLike}
+use Rattle.gm_theory.specs.inner.OneMatch.{IsLike}
 use Rattle.gm_theory.proofs.Agreement.{IsCreatedBy, IsWalkedBy, positions_parts, walked_from, candidates_agree, met_alike}
 use Rattle.gm_theory.proofs.Candidates.{hook_left, match_is_candidate, candidate_is_match}
 use Rattle.gm_theory.proofs.Lists.{get_contained, none_some, some_same}
 use Rattle.gm_theory.proofs.Turns.{no_places}
 use Rattle.gm_theory.proofs.Walks.{walk_unique}
-use Rattle.gm_walk.specs.Walks.{AreLive, names_of}
+use Rattle.gm_walk.specs.inner.Walks.{AreLive, names_of}
 use Rattle.gm_walk.proofs.NameLemmas.{name_there}
 use Rattle.gm_match.specs.declared.fault.MatchFault.{MatchFault}
-use Rattle.gm_match.specs.Firsts.{AreMet, IsFirstStep}
-use Rattle.gm_match.specs.Firsts.IsFirstStep.{NotMet}
-use Rattle.gm_match.specs.Layout.{AreDarts, AreHookSlots, IsNoDart, IsCandidateAt}
-use Rattle.gm_match.specs.Layout.IsNoDart.{Dead}
+use Rattle.gm_match.specs.inner.Firsts.{AreMet, IsFirstStep}
+use Rattle.gm_match.specs.inner.Firsts.IsFirstStep.{NotMet}
+use Rattle.gm_match.specs.inner.Layout.{AreDarts, AreHookSlots, IsNoDart, IsCandidateAt}
+use Rattle.gm_match.specs.inner.Layout.IsNoDart.{Dead}
 use Rattle.gm_match.proofs.InArena.{answered}
-use Rattle.gm_match.specs.Outcome.{application_of, name_of, place_of, IsAnswer, IsCause}
-use Rattle.gm_match.specs.Taken.{TakeEachOnce, TakeEachOnceBefore, TakesEachOnce, IsFirstTwice}
-use Rattle.gm_match.specs.Taken.IsFirstTwice.{Twice}
+use Rattle.gm_match.specs.inner.Outcome.{application_of, name_of, place_of, IsAnswer, IsCause}
+use Rattle.gm_match.specs.inner.Taken.{TakeEachOnce, TakeEachOnceBefore, TakesEachOnce, IsFirstTwice}
+use Rattle.gm_match.specs.inner.Taken.IsFirstTwice.{Twice}
 use Rattle.gm_match.proofs.Costs.{found_cost, met_cost}
 use Rattle.gm_match.proofs.Stepping.{one_slot, slot_live, slot_some, meets_all, first_broken}
 

@@ -7,10 +7,10 @@ use Rattle.std.proofs.lemmas.Option.{slice_get-get_or, slice_get_within, get_or_
 use Rattle.std.specs.List.{slice_get, Contains}
 use Rattle.gm_model.specs.Orbits.{IsPairBefore}
 use Rattle.gm_arena.specs.declared.slot.Slot.{Slot}
-use Rattle.gm_plan.specs.Placed.{Placed, slot_at}
+use Rattle.gm_plan.specs.inner.Placed.{Placed, slot_at}
 use Rattle.gm_theory.proofs.Lists.{some_same}
 use Rattle.gm_walk.proofs.NameLemmas.{IsNewLast}
-use Rattle.gm_match.specs.Taken.{AreApart, AreSlotsOf, IsAmong, TakeEachOnce, TakesEachOnce}
+use Rattle.gm_match.specs.inner.Taken.{AreApart, AreSlotsOf, IsAmong, TakeEachOnce, TakesEachOnce}
 use Rattle.gm_match.proofs.Taking.{before_next}
 
 module _ (found : Placed) (h : ℕ) where

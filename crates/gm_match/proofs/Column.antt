@@ -9,10 +9,10 @@ use Rattle.std.specs.Prelude.{slice_index}
 use Rattle.gm_model.specs.Rules.{Rule}
 use Rattle.std.proofs.lemmas.Nat.{mul-add-lt, div-mul-add, mod-mul-add}
 use Rattle.gm_arena.specs.declared.slot.Slot.{Slot}
-use Rattle.gm_arena.specs.ArenaMap.{ArenaMap, IsAt, IsLiveSlot, name_at, alpha}
+use Rattle.gm_arena.specs.inner.ArenaMap.{ArenaMap, IsAt, IsLiveSlot, name_at, alpha}
 use Rattle.gm_arena.proofs.MapLemmas.{name_at-is}
-use Rattle.gm_walk.specs.Walks.{AreLive}
-use Rattle.gm_match.specs.Layout.{AreAlongWalk, AreRows, dart_at}
+use Rattle.gm_walk.specs.inner.Walks.{AreLive}
+use Rattle.gm_match.specs.inner.Layout.{AreAlongWalk, AreRows, dart_at}
 use Rattle.gm_match.proofs.Paths.{dart_set, dart_stays}
 
 take_nil : (n : ℕ) → take {A = Slot} n [] ≡ []

@@ -13,12 +13,12 @@ use Rattle.gm_model.specs.declared.word.Letter.TheVariants.{At}
 use Rattle.gm_model.specs.Orbits.{HasNoRepeats}
 use Rattle.gm_model.specs.Rules.{Rule, rule_of, letters, label_at, width, word_at}
 use Rattle.gm_arena.specs.declared.slot.Slot.{Slot}
-use Rattle.gm_arena.specs.ArenaMap.{ArenaMap, alpha, name_at}
-use Rattle.gm_plan.specs.Plans.{IsPlanned}
+use Rattle.gm_arena.specs.inner.ArenaMap.{ArenaMap, alpha, name_at}
+use Rattle.gm_plan.specs.inner.Plans.{IsPlanned}
 use Rattle.gm_theory.proofs.Candidates.{hook_letter}
 use Rattle.gm_theory.proofs.Lists.{contained_at}
-use Rattle.gm_walk.specs.Walks.{AreLive}
-use Rattle.gm_match.specs.Layout.{AreForcedRows, AreHooksLaid, AreRows, IsFirstTo, dart_at, stepped}
+use Rattle.gm_walk.specs.inner.Walks.{AreLive}
+use Rattle.gm_match.specs.inner.Layout.{AreForcedRows, AreHooksLaid, AreRows, IsFirstTo, dart_at, stepped}
 use Rattle.gm_match.proofs.Column.{column_set, column_stays}
 use Rattle.gm_match.proofs.Growing.{one_hook, same_index}
 use Rattle.gm_match.proofs.Hooks.{word_letters}

@@ -10,16 +10,16 @@ use Rattle.gm_model.specs.declared.word.Letter.TheVariants.{At}
 use Rattle.gm_model.specs.Orbits.{IsPairBefore, IsLeastStep, IsWalk}
 use Rattle.gm_model.specs.Maps.{IsGeneralised}
 use Rattle.gm_arena.specs.declared.slot.Slot.{Slot}
-use Rattle.gm_arena.specs.ArenaAsMap.{as_map}
-use Rattle.gm_arena.specs.ArenaMap.{ArenaMap, IsAt, IsLiveSlot, alpha, name_at}
-use Rattle.gm_arena.specs.Lawful.{IsLawful}
+use Rattle.gm_arena.specs.inner.ArenaAsMap.{as_map}
+use Rattle.gm_arena.specs.inner.ArenaMap.{ArenaMap, IsAt, IsLiveSlot, alpha, name_at}
+use Rattle.gm_arena.specs.inner.Lawful.{IsLawful}
 use Rattle.gm_arena.proofs.MapLemmas.{IsLiveName-name_at}
 use Rattle.gm_walk.proofs.NameLemmas.{at_name, live_at}
 use Rattle.gm_match.proofs.Stepping.{one_slot}
-use Rattle.gm_walk.specs.Cells.{AreCells}
-use Rattle.gm_walk.specs.Turns.{IsTurn}
-use Rattle.gm_walk.specs.Walks.{AreLive, IsLabelUpTo, IsWord, along, names_of}
-use Rattle.gm_match.specs.Layout.{ends, walk_of}
+use Rattle.gm_walk.specs.inner.Cells.{AreCells}
+use Rattle.gm_walk.specs.inner.Turns.{IsTurn}
+use Rattle.gm_walk.specs.inner.Walks.{AreLive, IsLabelUpTo, IsWord, along, names_of}
+use Rattle.gm_match.specs.inner.Layout.{ends, walk_of}
 
 none_before : (q l : ℕ) → IsPairBefore q l 0 0 → ⊥
 none_before q l (inl less) = omega (arith, less)

@@ -5,11 +5,11 @@ use Rattle.std.specs.Option.{MatchOption}
 use Rattle.gm_model.specs.Matches.{IsMetAt}
 use Rattle.gm_model.specs.Rules.{Rule}
 use Rattle.gm_model.specs.Structure.{AreGood, IsFirstBad}
-use Rattle.gm_arena.specs.ArenaAsMap.{as_map}
-use Rattle.gm_arena.specs.ArenaMap.{ArenaMap}
-use Rattle.gm_plan.specs.Placed.{Placed}
-use Rattle.gm_match.specs.Firsts.{AreMetBy, IsFirstAt}
-use Rattle.gm_match.specs.Outcome.{place_of}
+use Rattle.gm_arena.specs.inner.ArenaAsMap.{as_map}
+use Rattle.gm_arena.specs.inner.ArenaMap.{ArenaMap}
+use Rattle.gm_plan.specs.inner.Placed.{Placed}
+use Rattle.gm_match.specs.inner.Firsts.{AreMetBy, IsFirstAt}
+use Rattle.gm_match.specs.inner.Outcome.{place_of}
 
 module _ (m : ArenaMap) (rule : Rule) (found : Placed) (x : ℕ) where
   abbrev IsMet : ℕ → ℕ → Type 0

@@ -8,12 +8,12 @@ use Rattle.std.specs.List.{slice_get}
 use Rattle.std.specs.Prelude.{slice_index}
 use Rattle.gm_model.specs.declared.word.Letter.{Letter}
 use Rattle.gm_model.specs.Orbits.{IsPairBefore, IsLeastStep, IsWalk}
-use Rattle.gm_arena.specs.ArenaMap.{ArenaMap}
+use Rattle.gm_arena.specs.inner.ArenaMap.{ArenaMap}
 use Rattle.gm_theory.proofs.Walks.{contains_before, same_place}
-use Rattle.gm_walk.specs.Turns.{IsTurn}
-use Rattle.gm_walk.specs.Walks.{along}
-use Rattle.gm_walk.specs.Cells.{AreCells}
-use Rattle.gm_match.specs.Layout.{HaveFirstTurns, LeadBefore, IsFirstTo}
+use Rattle.gm_walk.specs.inner.Turns.{IsTurn}
+use Rattle.gm_walk.specs.inner.Walks.{along}
+use Rattle.gm_walk.specs.inner.Cells.{AreCells}
+use Rattle.gm_match.specs.inner.Layout.{HaveFirstTurns, LeadBefore, IsFirstTo}
 
 -- earlier turns are those of earlier pairs of a position and a place
 pair_before : (k places q l : ℕ) → l < places → k < q * places + l → IsPairBefore (k / places) (k % places) q l

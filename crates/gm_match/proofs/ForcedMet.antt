@@ -11,21 +11,21 @@ use Rattle.gm_model.specs.declared.step.Step.TheVariants.{Imp}
 use Rattle.gm_model.specs.declared.word.Letter.TheVariants.{At}
 use Rattle.gm_model.specs.Matches.{IsMetAt}
 use Rattle.gm_model.specs.Rules.{Rule, rule_of, has_word, letters, link_from, step, hook_label, width, IsLinked}
-use Rattle.gm_arena.specs.ArenaAsMap.{as_map}
-use Rattle.gm_arena.specs.ArenaMap.{ArenaMap, IsLiveName, alpha}
+use Rattle.gm_arena.specs.inner.ArenaAsMap.{as_map}
+use Rattle.gm_arena.specs.inner.ArenaMap.{ArenaMap, IsLiveName, alpha}
 use Rattle.gm_arena.proofs.MapLemmas.{IsLiveName-name_at}
-use Rattle.gm_plan.specs.Paths.{IsLastLink}
-use Rattle.gm_plan.specs.Placed.{Placed, slot_at, turn_at}
-use Rattle.gm_plan.specs.Plans.{PlanOf}
-use Rattle.gm_plan.specs.Tested.{IsForcedStep}
-use Rattle.gm_plan.specs.Tested.IsForcedStep.{Free, Turns, EndsOwn, EndsOther}
+use Rattle.gm_plan.specs.inner.Paths.{IsLastLink}
+use Rattle.gm_plan.specs.inner.Placed.{Placed, slot_at, turn_at}
+use Rattle.gm_plan.specs.inner.Plans.{PlanOf}
+use Rattle.gm_plan.specs.inner.Tested.{IsForcedStep}
+use Rattle.gm_plan.specs.inner.Tested.IsForcedStep.{Free, Turns, EndsOwn, EndsOther}
 use Rattle.gm_theory.proofs.Agreement.{IsCreatedBy, IsWalkedBy, positions_parts}
 use Rattle.gm_theory.proofs.Lists.{none_some}
 use Rattle.gm_theory.proofs.RuleLinks.{linked_in_range, linked_step}
 use Rattle.gm_theory.proofs.ValuesReadOff.{read_off}
-use Rattle.gm_match.specs.Firsts.{AreMetBy}
-use Rattle.gm_match.specs.Layout.{AreMatchable, IsCandidateAt}
-use Rattle.gm_match.specs.Outcome.{name_of, place_of}
+use Rattle.gm_match.specs.inner.Firsts.{AreMetBy}
+use Rattle.gm_match.specs.inner.Layout.{AreMatchable, IsCandidateAt}
+use Rattle.gm_match.specs.inner.Outcome.{name_of, place_of}
 use Rattle.gm_match.proofs.Paths.{follow_more, last_linked}
 use Rattle.gm_match.proofs.Stepping.{slot_live, slot_some}
 

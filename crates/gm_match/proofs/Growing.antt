@@ -15,15 +15,15 @@ use Rattle.gm_model.specs.Matches.{IsPathTo}
 use Rattle.gm_model.specs.Orbits.{HasNoRepeats, follow}
 use Rattle.gm_model.specs.Rules.{Rule, letters, label_at, first_hook, width}
 use Rattle.gm_arena.specs.declared.slot.Slot.{Slot}
-use Rattle.gm_arena.specs.ArenaMap.{ArenaMap, IsLiveSlot, name_at, alpha}
-use Rattle.gm_plan.specs.Plans.{IsLeftCount, IsPlanned}
+use Rattle.gm_arena.specs.inner.ArenaMap.{ArenaMap, IsLiveSlot, name_at, alpha}
+use Rattle.gm_plan.specs.inner.Plans.{IsLeftCount, IsPlanned}
 use Rattle.gm_theory.proofs.Candidates.{hook_left}
 use Rattle.gm_theory.proofs.Lists.{some_same}
 use Rattle.gm_theory.proofs.Walks.{same_place}
-use Rattle.gm_walk.specs.Walks.{names_of}
+use Rattle.gm_walk.specs.inner.Walks.{names_of}
 use Rattle.gm_walk.proofs.NameLemmas.{name_there}
-use Rattle.gm_match.specs.Layout.{AreRows, IsFirstTo, IsForcedRow, dart_in, dart_at, stepped}
-use Rattle.gm_match.specs.Outcome.{name_of}
+use Rattle.gm_match.specs.inner.Layout.{AreRows, IsFirstTo, IsForcedRow, dart_in, dart_at, stepped}
+use Rattle.gm_match.specs.inner.Outcome.{name_of}
 use Rattle.gm_walk.proofs.CellLemmas.{get_left, get_right, get_front}
 use Rattle.gm_match.proofs.Hooks.{row_below}
 use Rattle.gm_match.proofs.Paths.{dart_set, dart_stays, path_left}

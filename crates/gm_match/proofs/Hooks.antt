@@ -13,8 +13,8 @@ use Rattle.gm_model.specs.declared.word.Letter.{Letter}
 use Rattle.gm_model.specs.declared.word.Letter.TheVariants.{At}
 use Rattle.gm_model.specs.Rules.{Rule, rule_of, has_word, letters, label_at, width, word_at}
 use Rattle.gm_arena.specs.declared.slot.Slot.{Slot}
-use Rattle.gm_plan.specs.Plans.{IsLeftCount, IsPlanned}
-use Rattle.gm_match.specs.Layout.{IsTurnAmong}
+use Rattle.gm_plan.specs.inner.Plans.{IsLeftCount, IsPlanned}
+use Rattle.gm_match.specs.inner.Layout.{IsTurnAmong}
 use Rattle.gm_theory.proofs.Candidates.{hook_left, hook_letter, letter_low}
 use Rattle.gm_theory.proofs.Lists.{contained_at, get_contained}
 use Rattle.gm_theory.proofs.RuleSteps.{word_below}

@@ -6,13 +6,13 @@ use Rattle.std.specs.Prelude.{slice_index_or}
 use Rattle.gm_model.specs.Matches.{Placement, IsMatch}
 use Rattle.gm_model.specs.Rules.{Rule, width}
 use Rattle.gm_arena.specs.declared.slot.Slot.{Slot}
-use Rattle.gm_arena.specs.ArenaAsMap.{as_map}
-use Rattle.gm_arena.specs.ArenaMap.{ArenaMap, name_at}
-use Rattle.gm_plan.specs.InArena.{placement_in}
-use Rattle.gm_plan.specs.Placed.{Placed, turn_at}
-use Rattle.gm_plan.specs.Plans.{IsLeftCount}
-use Rattle.gm_walk.specs.Walks.{AreLive}
-use Rattle.gm_match.specs.Outcome.{place_of, IsAnswer}
+use Rattle.gm_arena.specs.inner.ArenaAsMap.{as_map}
+use Rattle.gm_arena.specs.inner.ArenaMap.{ArenaMap, name_at}
+use Rattle.gm_plan.specs.inner.InArena.{placement_in}
+use Rattle.gm_plan.specs.inner.Placed.{Placed, turn_at}
+use Rattle.gm_plan.specs.inner.Plans.{IsLeftCount}
+use Rattle.gm_walk.specs.inner.Walks.{AreLive}
+use Rattle.gm_match.specs.inner.Outcome.{place_of, IsAnswer}
 
 same_slot : (slots : List Slot) (k : ℕ) → option_map_or (λ (s : Slot). s.at) (slice_get slots k) 0 ≡ (slice_index_or slots k (record { at = 0 })).at
 same_slot [] k = refl

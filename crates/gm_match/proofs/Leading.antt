@@ -5,12 +5,12 @@ use Rattle.gm_model.specs.declared.step.Step.TheVariants.{Exp, Imp}
 use Rattle.gm_model.specs.Maps.{IsGeneralised}
 use Rattle.gm_model.specs.Matches.{IsStepMet}
 use Rattle.gm_arena.specs.declared.slot.Slot.{Slot}
-use Rattle.gm_arena.specs.ArenaAsMap.{as_map}
-use Rattle.gm_arena.specs.ArenaMap.{ArenaMap, IsLiveName, IsLiveSlot, alpha, name_at}
-use Rattle.gm_arena.specs.Lawful.{IsLawful}
+use Rattle.gm_arena.specs.inner.ArenaAsMap.{as_map}
+use Rattle.gm_arena.specs.inner.ArenaMap.{ArenaMap, IsLiveName, IsLiveSlot, alpha, name_at}
+use Rattle.gm_arena.specs.inner.Lawful.{IsLawful}
 use Rattle.gm_arena.proofs.MapLemmas.{IsLiveName-name_at}
-use Rattle.gm_plan.specs.Placed.{Placed, slot_at, turn_at}
-use Rattle.gm_match.specs.Outcome.{name_of, place_of}
+use Rattle.gm_plan.specs.inner.Placed.{Placed, slot_at, turn_at}
+use Rattle.gm_match.specs.inner.Outcome.{name_of, place_of}
 
 module _ (m : ArenaMap) (found : Placed) (x p i : ℕ) (from to : Slot) (at : slot_at found x p ≡ Some from) where
   start : alpha m i (name_of m (slot_at found x p)) ≡ alpha m i (name_at m from.at)

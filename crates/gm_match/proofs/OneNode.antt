@@ -8,14 +8,14 @@ use Rattle.gm_model.specs.Matches.{IsPathTo}
 use Rattle.gm_model.specs.Orbits.{follow}
 use Rattle.gm_model.specs.Rules.{Rule}
 use Rattle.gm_arena.specs.declared.slot.Slot.{Slot}
-use Rattle.gm_arena.specs.ArenaMap.{ArenaMap, alpha}
-use Rattle.gm_plan.specs.Plans.{IsLeftCount, IsPlanned}
+use Rattle.gm_arena.specs.inner.ArenaMap.{ArenaMap, alpha}
+use Rattle.gm_plan.specs.inner.Plans.{IsLeftCount, IsPlanned}
 use Rattle.gm_theory.proofs.Candidates.{hook_left}
 use Rattle.gm_theory.proofs.LeastPaths.{hook_path, same_path}
-use Rattle.gm_walk.specs.Walks.{AreLive, names_of}
+use Rattle.gm_walk.specs.inner.Walks.{AreLive, names_of}
 use Rattle.gm_walk.proofs.NameLemmas.{name_there}
-use Rattle.gm_match.specs.Layout.{AreRows, dart_at}
-use Rattle.gm_match.specs.Outcome.{name_of}
+use Rattle.gm_match.specs.inner.Layout.{AreRows, dart_at}
+use Rattle.gm_match.specs.inner.Outcome.{name_of}
 use Rattle.gm_match.proofs.Growing.{same_index}
 use Rattle.gm_match.proofs.Paths.{path_left}
 

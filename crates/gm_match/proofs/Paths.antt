@@ -14,18 +14,18 @@ use Rattle.gm_model.specs.Orbits.{follow}
 use Rattle.gm_model.specs.Rules.{Rule, has_word, IsLinked}
 use Rattle.gm_model.specs.Structure.{Leads}
 use Rattle.gm_arena.specs.declared.slot.Slot.{Slot}
-use Rattle.gm_arena.specs.ArenaMap.{ArenaMap, IsAt, name_at, alpha}
+use Rattle.gm_arena.specs.inner.ArenaMap.{ArenaMap, IsAt, name_at, alpha}
 use Rattle.gm_arena.proofs.MapLemmas.{name_at-is}
-use Rattle.gm_plan.specs.Paths.{IsLastLink, ArePaths, path_nodes}
-use Rattle.gm_plan.specs.Plans.{IsPlanned}
+use Rattle.gm_plan.specs.inner.Paths.{IsLastLink, ArePaths, path_nodes}
+use Rattle.gm_plan.specs.inner.Plans.{IsPlanned}
 use Rattle.gm_plan.proofs.Distinct.{few_below}
 use Rattle.gm_theory.proofs.Candidates.{hook_left}
 use Rattle.gm_theory.proofs.LeastPaths.{hook_path, same_path}
 use Rattle.gm_theory.proofs.Lists.{contained_at}
 use Rattle.gm_theory.proofs.RuleLinks.{linked_in_range, linked_step}
 use Rattle.gm_theory.proofs.RuleSteps.{word_below}
-use Rattle.gm_match.specs.Layout.{dart_in}
-use Rattle.gm_match.specs.Outcome.{name_of}
+use Rattle.gm_match.specs.inner.Layout.{dart_in}
+use Rattle.gm_match.specs.inner.Outcome.{name_of}
 
 pub follow_more : (alphas : ℕ → ℕ → ℕ) (path : List ℕ) (i d : ℕ) → follow alphas (path ++ i ∷ []) d ≡ alphas i (follow alphas path d)
 follow_more alphas [] i d = refl

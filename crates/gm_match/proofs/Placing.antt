@@ -18,23 +18,23 @@ use Rattle.gm_model.specs.Orbits.{IsPairBefore, IsWalk, HasNoRepeats, follow}
 use Rattle.gm_model.specs.Rules.{Rule, rule_of, word_at, letters, label_at, first_hook, hook_word, label_of, width}
 use Rattle.gm_model.specs.Structure.{IsPlainWord}
 use Rattle.gm_arena.specs.declared.slot.Slot.{Slot}
-use Rattle.gm_arena.specs.ArenaAsMap.{as_map}
-use Rattle.gm_arena.specs.ArenaMap.{ArenaMap, IsLiveName, name_at, alpha}
-use Rattle.gm_arena.specs.Lawful.{IsLawful}
-use Rattle.gm_plan.specs.Placed.{Placed, slot_at, turn_at}
-use Rattle.gm_plan.specs.Plans.{PlanOf, IsLeftCount, IsPlanned}
+use Rattle.gm_arena.specs.inner.ArenaAsMap.{as_map}
+use Rattle.gm_arena.specs.inner.ArenaMap.{ArenaMap, IsLiveName, name_at, alpha}
+use Rattle.gm_arena.specs.inner.Lawful.{IsLawful}
+use Rattle.gm_plan.specs.inner.Placed.{Placed, slot_at, turn_at}
+use Rattle.gm_plan.specs.inner.Plans.{PlanOf, IsLeftCount, IsPlanned}
 use Rattle.gm_plan.proofs.Distinct.{few_below}
 use Rattle.gm_theory.proofs.Candidates.{hook_left}
 use Rattle.gm_theory.proofs.RuleSteps.{word_below}
 use Rattle.gm_theory.proofs.Walks.{walk_unique}
-use Rattle.gm_walk.specs.Turns.{IsTurn}
-use Rattle.gm_walk.specs.Walks.{AreLive, IsWord, IsLabelUpTo, along, names_of}
+use Rattle.gm_walk.specs.inner.Turns.{IsTurn}
+use Rattle.gm_walk.specs.inner.Walks.{AreLive, IsWord, IsLabelUpTo, along, names_of}
 use Rattle.gm_walk.proofs.WordLemmas.{plain_is_word}
-use Rattle.gm_walk.specs.Cells.{AreCells}
+use Rattle.gm_walk.specs.inner.Cells.{AreCells}
 use Rattle.gm_walk.proofs.NameLemmas.{name_there}
-use Rattle.gm_match.specs.Layout.{AreMatchable, AreRows, HaveFirstTurns, IsFirstTo, IsCandidateAt, dart_at, stepped}
-use Rattle.gm_match.specs.Outcome.{name_of, place_of}
-use Rattle.gm_match.specs.Taken.{AreSlotsOf}
+use Rattle.gm_match.specs.inner.Layout.{AreMatchable, AreRows, HaveFirstTurns, IsFirstTo, IsCandidateAt, dart_at, stepped}
+use Rattle.gm_match.specs.inner.Outcome.{name_of, place_of}
+use Rattle.gm_match.specs.inner.Taken.{AreSlotsOf}
 use Rattle.gm_match.proofs.Costs.{candidate_cost}
 use Rattle.gm_match.proofs.FirstTurns.{have_first, is_first}
 use Rattle.gm_match.proofs.Stepping.{one_slot, slot_live, slot_some}

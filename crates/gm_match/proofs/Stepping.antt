@@ -13,18 +13,18 @@ use Rattle.gm_model.specs.Matches.{IsInstance, IsMetAt}
 use Rattle.gm_model.specs.Rules.{Rule, rule_of, step}
 use Rattle.gm_model.specs.Structure.{IsFirstBad}
 use Rattle.gm_arena.specs.declared.slot.Slot.{Slot}
-use Rattle.gm_arena.specs.ArenaAsMap.{as_map}
-use Rattle.gm_arena.specs.ArenaMap.{ArenaMap, IsAt, IsLiveSlot, name_at}
-use Rattle.gm_arena.specs.Lawful.{IsLawful}
+use Rattle.gm_arena.specs.inner.ArenaAsMap.{as_map}
+use Rattle.gm_arena.specs.inner.ArenaMap.{ArenaMap, IsAt, IsLiveSlot, name_at}
+use Rattle.gm_arena.specs.inner.Lawful.{IsLawful}
 use Rattle.gm_arena.proofs.MapLemmas.{IsAt-name_at}
-use Rattle.gm_plan.specs.Placed.{Placed, slot_at}
-use Rattle.gm_plan.specs.Plans.{PlanOf, IsLeftCount}
+use Rattle.gm_plan.specs.inner.Placed.{Placed, slot_at}
+use Rattle.gm_plan.specs.inner.Plans.{PlanOf, IsLeftCount}
 use Rattle.gm_theory.proofs.RuleSteps.{step_back, step_within, word_below}
-use Rattle.gm_walk.specs.Walks.{AreLive}
+use Rattle.gm_walk.specs.inner.Walks.{AreLive}
 use Rattle.gm_walk.proofs.MarkLemmas.{same_slot}
-use Rattle.gm_match.specs.Firsts.{AreMetBy, AreMet, IsFirstAt}
-use Rattle.gm_match.specs.Layout.{AreMatchable, IsLaid}
-use Rattle.gm_match.specs.Outcome.{application_of, place_of}
+use Rattle.gm_match.specs.inner.Firsts.{AreMetBy, AreMet, IsFirstAt}
+use Rattle.gm_match.specs.inner.Layout.{AreMatchable, IsLaid}
+use Rattle.gm_match.specs.inner.Outcome.{application_of, place_of}
 
 module _ (m : ArenaMap) (found : Placed) where
   -- ---- slots

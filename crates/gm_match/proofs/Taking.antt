@@ -9,12 +9,12 @@ use Rattle.std.specs.List.{slice_get, All, Contains}
 use Rattle.std.specs.Option.{MatchOption, IsSome}
 use Rattle.gm_model.specs.Orbits.{IsPairBefore}
 use Rattle.gm_arena.specs.declared.slot.Slot.{Slot}
-use Rattle.gm_plan.specs.Placed.{Placed, slot_at}
-use Rattle.gm_walk.specs.Room.{Room, TakesIn}
-use Rattle.gm_walk.specs.Room.TakesIn.{Known, Added}
+use Rattle.gm_plan.specs.inner.Placed.{Placed, slot_at}
+use Rattle.gm_walk.specs.inner.Room.{Room, TakesIn}
+use Rattle.gm_walk.specs.inner.Room.TakesIn.{Known, Added}
 use Rattle.gm_match.specs.declared.fault.MatchFault.TheVariants as faults
-use Rattle.gm_match.specs.Taken.{IsTaken, IsFirstTwice}
-use Rattle.gm_match.specs.Taken.IsFirstTwice.{Twice}
+use Rattle.gm_match.specs.inner.Taken.{IsTaken, IsFirstTwice}
+use Rattle.gm_match.specs.inner.Taken.IsFirstTwice.{Twice}
 use Rattle.gm_walk.proofs.CellLemmas.{get_left}
 
 -- the pairs before the next are those before this one, and this one

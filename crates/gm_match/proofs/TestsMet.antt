@@ -13,15 +13,15 @@ use Rattle.gm_model.specs.Matches.{IsMetAt}
 use Rattle.gm_model.specs.Rules.{has_word, is_label, rule_of, step, word_at}
 use Rattle.gm_model.specs.Structure.{AreGood}
 use Rattle.gm_theory.proofs.RuleSteps.{step_back, step_place}
-use Rattle.gm_arena.specs.ArenaAsMap.{as_map}
-use Rattle.gm_arena.specs.ArenaMap.{ArenaMap}
+use Rattle.gm_arena.specs.inner.ArenaAsMap.{as_map}
+use Rattle.gm_arena.specs.inner.ArenaMap.{ArenaMap}
 use Rattle.gm_plan.specs.declared.tested.Test.{Test}
-use Rattle.gm_plan.specs.Placed.{Placed}
-use Rattle.gm_plan.specs.Plans.{PlanOf}
-use Rattle.gm_plan.specs.Tested.{AreTests, test_of}
-use Rattle.gm_match.specs.Firsts.{AreMet}
-use Rattle.gm_match.specs.Layout.{AreMatchable, IsCandidateAt}
-use Rattle.gm_match.specs.Outcome.{place_of}
+use Rattle.gm_plan.specs.inner.Placed.{Placed}
+use Rattle.gm_plan.specs.inner.Plans.{PlanOf}
+use Rattle.gm_plan.specs.inner.Tested.{AreTests, test_of}
+use Rattle.gm_match.specs.inner.Firsts.{AreMet}
+use Rattle.gm_match.specs.inner.Layout.{AreMatchable, IsCandidateAt}
+use Rattle.gm_match.specs.inner.Outcome.{place_of}
 use Rattle.gm_match.proofs.ForcedMet.{forced_met}
 use Rattle.gm_match.proofs.Stepping.{node_below}
 

@@ -1,4 +1,1 @@
-pub mod Firsts
-pub mod Layout
-pub mod Outcome
-pub mod Taken
+pub mod inner

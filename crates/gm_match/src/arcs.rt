@@ -1,18 +1,18 @@
 ghost use Rattle.std.specs.Prelude.{◌≡◌, ◌≢◌, ℕ, List, ◌+◌, ◌*◌, ◌<◌, ◌≤◌, ◌↔◌, length, MatchOption, MatchResult, IsTrue};
-ghost use Rattle.gm_arena.specs.ArenaAsMap.{as_map};
-ghost use Rattle.gm_arena.specs.ArenaMap.{IsLiveSlot, name_at, alpha};
-ghost use Rattle.gm_arena.specs.Lawful.{IsLawful};
+ghost use Rattle.gm_arena.specs.inner.ArenaAsMap.{as_map};
+ghost use Rattle.gm_arena.specs.inner.ArenaMap.{IsLiveSlot, name_at, alpha};
+ghost use Rattle.gm_arena.specs.inner.Lawful.{IsLawful};
 ghost use Rattle.gm_model.specs.declared.step.Step.TheVariants.{Absent, Exp, Imp};
 ghost use Rattle.gm_model.specs.Maps.{IsGeneralised};
 ghost use Rattle.gm_model.specs.Matches.{IsMetAt, IsStepMet};
 ghost use Rattle.gm_model.specs.declared.rule.Side.TheVariants.{Left};
 ghost use Rattle.gm_model.specs.Rules.{rule_of, step};
 ghost use Rattle.gm_model.specs.Structure.{AreGood, IsFirstBad};
-ghost use Rattle.gm_plan.specs.Tested.{IsForcedStep};
-ghost use Rattle.gm_walk.specs.Walks.{AreLive};
-ghost use Rattle.gm_match.specs.Outcome.{place_of};
-ghost use Rattle.gm_match.specs.Layout.{AreMatchable, IsCandidateAt};
-ghost use Rattle.gm_match.specs.Firsts.{AreMetBy, AreMet, IsFirstAt, IsFirstStep};
+ghost use Rattle.gm_plan.specs.inner.Tested.{IsForcedStep};
+ghost use Rattle.gm_walk.specs.inner.Walks.{AreLive};
+ghost use Rattle.gm_match.specs.inner.Outcome.{place_of};
+ghost use Rattle.gm_match.specs.inner.Layout.{AreMatchable, IsCandidateAt};
+ghost use Rattle.gm_match.specs.inner.Firsts.{AreMetBy, AreMet, IsFirstAt, IsFirstStep};
 
 use crate::fault::MatchFault;
 use gm_arena::{Arena, Slot, Steps};

@@ -1,15 +1,15 @@
 ghost use Rattle.std.specs.Prelude.{◌≡◌, ◌≢◌, ℕ, List, ◌++◌, ◌+◌, ◌*◌, ◌<◌, ◌≤◌, [], length, slice_index, Some, IfOk, OnOk, vec_capacity};
-ghost use Rattle.gm_arena.specs.ArenaAsMap.{as_map};
+ghost use Rattle.gm_arena.specs.inner.ArenaAsMap.{as_map};
 ghost use Rattle.gm_model.specs.Matches.{along_hook};
 ghost use Rattle.gm_model.specs.Orbits.{IsWalk};
 ghost use Rattle.gm_model.specs.Rules.{rule_of, first_hook, hook_word, width};
-ghost use Rattle.gm_plan.specs.Plans.{IsLeftCount};
-ghost use Rattle.gm_walk.specs.Cells.{AreCells};
-ghost use Rattle.gm_walk.specs.Room.{Fits};
-ghost use Rattle.gm_walk.specs.Turns.{IsTurn};
-ghost use Rattle.gm_walk.specs.Walks.{AreLive, along, names_of};
-ghost use Rattle.gm_match.specs.Layout.{AreMatchable, AreRows, AreWalkedFrom, HaveFirstTurns, IsCandidateAt, LeadBefore, IsFirstTo};
-ghost use Rattle.gm_match.specs.Taken.{AreSlotsOf};
+ghost use Rattle.gm_plan.specs.inner.Plans.{IsLeftCount};
+ghost use Rattle.gm_walk.specs.inner.Cells.{AreCells};
+ghost use Rattle.gm_walk.specs.inner.Room.{Fits};
+ghost use Rattle.gm_walk.specs.inner.Turns.{IsTurn};
+ghost use Rattle.gm_walk.specs.inner.Walks.{AreLive, along, names_of};
+ghost use Rattle.gm_match.specs.inner.Layout.{AreMatchable, AreRows, AreWalkedFrom, HaveFirstTurns, IsCandidateAt, LeadBefore, IsFirstTo};
+ghost use Rattle.gm_match.specs.inner.Taken.{AreSlotsOf};
 
 use crate::columns::fill_columns;
 use crate::edges::fill_edge;

@@ -1,9 +1,9 @@
 ghost use Rattle.std.specs.Prelude.{◌≡◌, ◌≢◌, ℕ, ◌+◌, ◌*◌, ◌<◌, ◌≤◌, [], length, slice_get, slice_index, Some, OnOk};
-ghost use Rattle.gm_arena.specs.ArenaMap.{alpha};
+ghost use Rattle.gm_arena.specs.inner.ArenaMap.{alpha};
 ghost use Rattle.gm_model.specs.Rules.{rule_of};
-ghost use Rattle.gm_plan.specs.Plans.{IsLeftCount};
-ghost use Rattle.gm_walk.specs.Walks.{AreLive, names_of};
-ghost use Rattle.gm_match.specs.Layout.{AreMatchable, AreAlongWalk, AreForcedRows, dart_at};
+ghost use Rattle.gm_plan.specs.inner.Plans.{IsLeftCount};
+ghost use Rattle.gm_walk.specs.inner.Walks.{AreLive, names_of};
+ghost use Rattle.gm_match.specs.inner.Layout.{AreMatchable, AreAlongWalk, AreForcedRows, dart_at};
 
 use gm_arena::{Arena, Slot, Steps};
 use gm_model::{Link, OutOfMemory};

@@ -1,5 +1,5 @@
 ghost use Rattle.std.specs.Prelude.{◌+◌, ◌≤◌, length, take, MatchResult};
-ghost use Rattle.gm_match.specs.Layout.{AreHookSlots, IsNoDart};
+ghost use Rattle.gm_match.specs.inner.Layout.{AreHookSlots, IsNoDart};
 
 use crate::fault::MatchFault;
 use gm_arena::{Arena, Slot, Steps};

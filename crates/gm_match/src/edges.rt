@@ -2,12 +2,12 @@
 //! the dart alone.
 ghost use Rattle.std.specs.Prelude.{◌≡◌, ◌≢◌, ℕ, List, ◌+◌, ◌*◌, ◌<◌, ◌≤◌, [], length, OnOk};
 ghost use Rattle.std.specs.List.{Contains};
-ghost use Rattle.gm_arena.specs.ArenaMap.{IsLiveSlot, alpha, name_at};
+ghost use Rattle.gm_arena.specs.inner.ArenaMap.{IsLiveSlot, alpha, name_at};
 ghost use Rattle.gm_model.specs.declared.rule.Side.TheVariants.{Left};
 ghost use Rattle.gm_model.specs.Rules.{rule_of, first_hook, label_at, letters, width};
-ghost use Rattle.gm_plan.specs.Plans.{IsLeftCount};
-ghost use Rattle.gm_walk.specs.Walks.{AreLive, names_of};
-ghost use Rattle.gm_match.specs.Layout.{AreHooksLaid, AreMatchable, AreRows, AreWalkedFrom, dart_at};
+ghost use Rattle.gm_plan.specs.inner.Plans.{IsLeftCount};
+ghost use Rattle.gm_walk.specs.inner.Walks.{AreLive, names_of};
+ghost use Rattle.gm_match.specs.inner.Layout.{AreHooksLaid, AreMatchable, AreRows, AreWalkedFrom, dart_at};
 
 use crate::columns::follow_links;
 use gm_arena::{Arena, Slot, Steps};

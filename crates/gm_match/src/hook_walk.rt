@@ -1,14 +1,14 @@
 ghost use Rattle.std.specs.Prelude.{◌≡◌, ℕ, List, ◌+◌, ◌*◌, ◌≤◌, [], length, take, IfOk};
-ghost use Rattle.gm_arena.specs.ArenaAsMap.{as_map};
-ghost use Rattle.gm_arena.specs.ArenaMap.{IsLiveSlot, name_at};
-ghost use Rattle.gm_arena.specs.Lawful.{IsLawful};
+ghost use Rattle.gm_arena.specs.inner.ArenaAsMap.{as_map};
+ghost use Rattle.gm_arena.specs.inner.ArenaMap.{IsLiveSlot, name_at};
+ghost use Rattle.gm_arena.specs.inner.Lawful.{IsLawful};
 ghost use Rattle.gm_model.specs.Maps.{IsGeneralised};
 ghost use Rattle.gm_model.specs.Orbits.{IsWalk};
-ghost use Rattle.gm_walk.specs.Cells.{AreCells};
-ghost use Rattle.gm_walk.specs.Room.{Fits};
-ghost use Rattle.gm_walk.specs.Turns.{IsTurn};
-ghost use Rattle.gm_walk.specs.Walks.{IsWord, along, names_of, AreLive};
-ghost use Rattle.gm_match.specs.Layout.{ends, walk_of};
+ghost use Rattle.gm_walk.specs.inner.Cells.{AreCells};
+ghost use Rattle.gm_walk.specs.inner.Room.{Fits};
+ghost use Rattle.gm_walk.specs.inner.Turns.{IsTurn};
+ghost use Rattle.gm_walk.specs.inner.Walks.{IsWord, along, names_of, AreLive};
+ghost use Rattle.gm_match.specs.inner.Layout.{ends, walk_of};
 
 use gm_arena::{Arena, Slot, Steps};
 use gm_model::{Letter, OutOfMemory, Word};

@@ -1,13 +1,13 @@
 ghost use Rattle.std.specs.Prelude.{◌≡◌, ℕ, List, ◌+◌, ◌*◌, ◌≤◌, length, MatchResult, IfErr};
-ghost use Rattle.gm_arena.specs.ArenaAsMap.{as_map};
+ghost use Rattle.gm_arena.specs.inner.ArenaAsMap.{as_map};
 ghost use Rattle.gm_model.specs.declared.value.Value.{Value};
 ghost use Rattle.gm_model.specs.Applications.{HasPositions};
 ghost use Rattle.gm_model.specs.Maps.{IsGeneralised};
 ghost use Rattle.gm_model.specs.Matches.{Placement, IsMatch};
 ghost use Rattle.gm_model.specs.Rules.{rule_of};
-ghost use Rattle.gm_walk.specs.Room.{Fits};
+ghost use Rattle.gm_walk.specs.inner.Room.{Fits};
 ghost use Rattle.gm_match.specs.declared.fault.MatchFault.TheVariants as faults;
-ghost use Rattle.gm_match.specs.Outcome.{application_of, IsAnswer, IsCause};
+ghost use Rattle.gm_match.specs.inner.Outcome.{application_of, IsAnswer, IsCause};
 
 use crate::arcs::meet_steps;
 use crate::candidates::candidate;

@@ -1,7 +1,7 @@
 ghost use Rattle.std.specs.Prelude.{◌≡◌, ◌≢◌, ℕ, ◌+◌, ◌<◌, length, slice_get, IsTrue, MatchResult};
 ghost use Rattle.std.specs.List.{All};
 ghost use Rattle.gm_arena.specs.declared.slot.Slot.{Slot};
-ghost use Rattle.gm_match.specs.Taken.{AreApart, AreSlotsOf, IsTaken, TakeEachOnce, TakesEachOnce, IsFirstTwice};
+ghost use Rattle.gm_match.specs.inner.Taken.{AreApart, AreSlotsOf, IsTaken, TakeEachOnce, TakesEachOnce, IsFirstTwice};
 
 use crate::fault::MatchFault;
 use gm_arena::Slot;

@@ -1,10 +1,10 @@
 ghost use Rattle.std.specs.Prelude.{◌≡◌, ℕ, ◌+◌, ◌/◌, ◌%◌, ◌<◌, ◌≤◌, length, slice_get, slice_index, Some};
 ghost use Rattle.std.specs.List.{Contains};
-ghost use Rattle.gm_arena.specs.ArenaMap.{IsLiveSlot, name_at};
+ghost use Rattle.gm_arena.specs.inner.ArenaMap.{IsLiveSlot, name_at};
 ghost use Rattle.gm_model.specs.Rules.{rule_of, first_hook};
-ghost use Rattle.gm_plan.specs.Plans.{IsLeftCount};
-ghost use Rattle.gm_walk.specs.Walks.{AreLive, names_of};
-ghost use Rattle.gm_match.specs.Layout.{AreMatchable, IsForcedRow, IsTurnAmong, dart_in, stepped};
+ghost use Rattle.gm_plan.specs.inner.Plans.{IsLeftCount};
+ghost use Rattle.gm_walk.specs.inner.Walks.{AreLive, names_of};
+ghost use Rattle.gm_match.specs.inner.Layout.{AreMatchable, IsForcedRow, IsTurnAmong, dart_in, stepped};
 
 use gm_arena::{Arena, Slot, Steps};
 use gm_model::{Letter, MOST_NODES, Side};

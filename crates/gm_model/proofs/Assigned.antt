@@ -6,7 +6,7 @@ use Rattle.std.proofs.lemmas.List.{length-map}
 use Rattle.std.proofs.lemmas.Option.{slice_get-map, slice_get-get_or, slice_get_within}
 use Rattle.gm_model.specs.declared.rule.Set.{Set}
 use Rattle.gm_model.specs.declared.rule.Side.TheVariants.{Right}
-use Rattle.gm_model.specs.Ranges.{HasGoodSets, HasGoodAssignments}
+use Rattle.gm_model.specs.inner.Ranges.{HasGoodSets, HasGoodAssignments}
 use Rattle.gm_model.specs.declared.rule.Node.{Node}
 use Rattle.gm_model.specs.Rules.{Rule, RuleNode, Assignment, assignment_of, node_of, word_on, has_word}
 

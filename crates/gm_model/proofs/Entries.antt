@@ -7,7 +7,7 @@ use Rattle.std.proofs.Math.Seq.{drop-append_seam}
 use Rattle.gm_model.specs.declared.script.Entry.{Entry}
 use Rattle.gm_model.specs.declared.script.Part.{Part}
 use Rattle.gm_model.specs.declared.value.Value.{Value}
-use Rattle.gm_model.specs.Entries.{Grows, IsPartOf, IsEntryOf, AreEntriesOf, items_at, stat_at, stats_of}
+use Rattle.gm_model.specs.inner.Entries.{Grows, IsPartOf, IsEntryOf, AreEntriesOf, items_at, stat_at, stats_of}
 
 pub grows_none : {A : Type 0} (xs : List A) → Grows xs xs
 grows_none xs = ([], sym (append-nil xs))

@@ -9,7 +9,7 @@ use Rattle.gm_model.specs.declared.rule.Side.TheVariants.{Left, Right}
 use Rattle.gm_model.specs.declared.schema.Schema.{Schema}
 use Rattle.gm_model.specs.declared.word.Letter.{Letter}
 use Rattle.gm_model.specs.declared.word.Letter.TheVariants.{At}
-use Rattle.gm_model.specs.Ranges.{HasLowLabels, HasLinksInRange, HasGoodParts}
+use Rattle.gm_model.specs.inner.Ranges.{HasLowLabels, HasLinksInRange, HasGoodParts}
 use Rattle.gm_model.specs.Rules.{Rule, has_word, letters, links_on}
 use Rattle.gm_model.specs.Structure.{IsInRange, IsLinkInRange, HasLabelsUpTo}
 

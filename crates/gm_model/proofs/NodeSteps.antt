@@ -15,7 +15,7 @@ use Rattle.gm_model.specs.declared.step.Step.TheVariants.{Absent, Exp, Imp}
 use Rattle.gm_model.specs.declared.word.Letter.{Letter}
 use Rattle.gm_model.specs.declared.word.Letter.TheVariants.{At, Gone}
 use Rattle.gm_model.specs.Rules.{is_end, other_end, is_label, step_by, step_in}
-use Rattle.gm_model.specs.NodeSteps.{step_or, letter_step}
+use Rattle.gm_model.specs.inner.NodeSteps.{step_or, letter_step}
 
 step_or_absent : (s : Step) → step_or s Absent ≡ s
 step_or_absent Absent = refl

@@ -2,7 +2,7 @@
 use Rattle.std.proofs.Common.{◌≡◌, ℕ, ◌-◌, ◌≤◌, List, ◌++◌, length, take, drop, replicate, arith, length-append}
 use Rattle.std.proofs.lemmas.List.{length-replicate, drop-replicate}
 use Rattle.std.proofs.Math.Seq.{drop-append_seam, take-append_seam}
-use Rattle.gm_model.specs.Padded.{IsPadded}
+use Rattle.gm_model.specs.inner.Padded.{IsPadded}
 
 pub copied-padded : {A : Type 0} (size : ℕ) (filler : A) (items front : List A) → front ≡ items → length items ≤ size →
     IsPadded size filler (length items) (front ++ drop (length items) (replicate size filler))

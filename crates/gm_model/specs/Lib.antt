@@ -3,7 +3,6 @@ pub mod Symbols
 pub mod GMap
 pub mod Reading
 pub mod Labels
-pub mod Padded
 pub mod Limits
 pub mod Names
 pub mod Values
@@ -23,10 +22,8 @@ pub mod Acceptance
 pub mod NewValues
 pub mod Applications
 pub mod Statements
-pub mod Entries
 pub mod Runs
 pub mod Budgets
 pub mod Reports
-pub mod NodeSteps
-pub mod Ranges
 pub mod Breaches
+pub mod inner

@@ -20,7 +20,7 @@ impl Model for Name {
 
     ghost Value = { List ℕ };
 
-    ghost use Rattle.gm_model.specs.Padded.{IsPadded, padded, padded-take, length-take-padded};
+    ghost use Rattle.gm_model.specs.inner.Padded.{IsPadded, padded, padded-take, length-take-padded};
     ghost use Rattle.gm_model.specs.Names.{IsName};
 
     ghost view = { λ n. take n.used n.held };

@@ -1,7 +1,7 @@
 ghost use Rattle.std.specs.Prelude.{◌≡◌, ◌<◌, ◌≤◌, ◌↔◌, ℕ, List, [], Some, length, slice_get, IsTrue};
 ghost use Rattle.std.specs.Option.{unwrap_or};
 ghost use Rattle.gm_model.specs.declared.rule.Set.{Set};
-ghost use Rattle.gm_model.specs.Ranges.{HasLowLabels, HasGoodSets, HasLinksInRange, HasHooksInRange, HasGoodWords, HasGoodAssignments, HasGoodNode, HasLeftFirst, HasGoodParts};
+ghost use Rattle.gm_model.specs.inner.Ranges.{HasLowLabels, HasGoodSets, HasLinksInRange, HasHooksInRange, HasGoodWords, HasGoodAssignments, HasGoodNode, HasLeftFirst, HasGoodParts};
 ghost use Rattle.gm_model.specs.Rules.{rule_of};
 ghost use Rattle.gm_model.specs.Structure.{IsLinkInRange};
 

@@ -1,7 +1,7 @@
 //! A script: its statements, with all their hooks and values one behind another.
 ghost use Rattle.std.specs.Prelude.{◌≡◌, ◌++◌, ◌∷◌, ◌+◌, ◌<◌, ◌≤◌, [], length, slice_get, Some, OnOk, OnErr, IfOk};
 ghost use Rattle.gm_model.specs.Statements.{stat_of};
-ghost use Rattle.gm_model.specs.Entries.{alone, items_at, stat_at, Grows, IsPartOf, IsEntryOf};
+ghost use Rattle.gm_model.specs.inner.Entries.{alone, items_at, stat_at, Grows, IsPartOf, IsEntryOf};
 
 use crate::memory::OutOfMemory;
 use crate::value::Value;
@@ -181,7 +181,7 @@ impl Model for Script {
 
     ghost Value = { Statements };
 
-    ghost use Rattle.gm_model.specs.Entries.{AreEntriesOf, stats_of};
+    ghost use Rattle.gm_model.specs.inner.Entries.{AreEntriesOf, stats_of};
 
     ghost view = { λ s. record { stats = stats_of s.hooks.items s.params.items s.entries.items } };
 

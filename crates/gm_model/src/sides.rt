@@ -1,6 +1,6 @@
 ghost use Rattle.std.specs.Prelude.{◌≡◌, ◌<◌, ℕ, List, [], length, slice_index_or, slice_set};
 ghost use Rattle.gm_model.specs.Rules.{step_in};
-ghost use Rattle.gm_model.specs.NodeSteps.{step_or, letter_step};
+ghost use Rattle.gm_model.specs.inner.NodeSteps.{step_or, letter_step};
 
 use crate::rule::{Link, RuleTable, Side};
 use crate::step::Step;

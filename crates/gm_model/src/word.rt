@@ -43,7 +43,7 @@ impl Model for Word {
 
     ghost Value = { List Letter };
 
-    ghost use Rattle.gm_model.specs.Padded.{IsPadded, padded, padded-take, length-take-padded};
+    ghost use Rattle.gm_model.specs.inner.Padded.{IsPadded, padded, padded-take, length-take-padded};
     ghost use Rattle.gm_model.specs.declared.word.Letter.TheVariants.{Gone};
 
     ghost view = { λ w. take w.used w.letters };

@@ -2,15 +2,15 @@
 use Rattle.std.proofs.Common.{◌≡◌, ◌⊎◌, ℕ, Bool, true, false, List, ◌++◌, Some, None, Result, Ok, Err, inl, inr, refl, sym, ap, ◌∙◌}
 use Rattle.gm_model.specs.declared.limit.LimitKind.{LimitKind}
 use Rattle.gm_model.specs.Symbols.{Symbol, Mark}
-use Rattle.gm_text.specs.Cursor.{Cursor}
-use Rattle.gm_text.specs.Machine.{Stop, Ends, Passes}
-use Rattle.gm_text.specs.SchemaAnswers.{marks_left, IsNoToken}
+use Rattle.gm_text.specs.inner.Cursor.{Cursor}
+use Rattle.gm_text.specs.inner.Machine.{Stop, Ends, Passes}
+use Rattle.gm_text.specs.inner.SchemaAnswers.{marks_left, IsNoToken}
 use Rattle.gm_text.proofs.AtLeast.{cut, behind_all}
 use Rattle.gm_text.proofs.TextMarks.{left_end, place_of_mark}
 use Rattle.gm_parse.specs.declared.fault.SyntaxFault.{SyntaxFault}
 use Rattle.gm_parse.specs.declared.fault.SyntaxFault.TheVariants as faults
-use Rattle.gm_parse.specs.Answers.{IsExprSkipped, IsSyntaxFault, run_in}
-use Rattle.gm_parse.specs.Reading.{Spot, first_spot, spot_move, spot_role, is_whole_spot, never}
+use Rattle.gm_parse.specs.inner.Answers.{IsExprSkipped, IsSyntaxFault, run_in}
+use Rattle.gm_parse.specs.inner.Reading.{Spot, first_spot, spot_move, spot_role, is_whole_spot, never}
 use Rattle.gm_parse.specs.Spelling.{limit_in}
 use Rattle.gm_parse.proofs.Standing.{other_spot, ends_stand, passes_stand, form_stands}
 use Rattle.gm_parse.proofs.Steps.{no_token}

@@ -4,10 +4,10 @@ use Rattle.std.specs.Option.{option_map, option_and_then}
 use Rattle.std.specs.Prelude.{IsTrue}
 use Rattle.gm_model.specs.Reading.{Part, symbols_in}
 use Rattle.gm_model.specs.Symbols.{Symbol}
-use Rattle.gm_text.specs.Machine.{Leads}
+use Rattle.gm_text.specs.inner.Machine.{Leads}
 use Rattle.gm_parse.specs.Forms.{Form, IsGood}
 use Rattle.gm_parse.specs.Spelling.{Role, Counted, limit_in, counted_from, spell, symbols_of, parts_of, GoesOn}
-use Rattle.gm_parse.specs.Reading.{State, state_at, start, move, role_at, is_whole, Spot, spot_at, first_spot, spot_move, spot_role, is_whole_spot, never}
+use Rattle.gm_parse.specs.inner.Reading.{State, state_at, start, move, role_at, is_whole, Spot, spot_at, first_spot, spot_move, spot_role, is_whole_spot, never}
 use Rattle.gm_parse.specs.declared.place.Need.TheVariants as needs
 use Rattle.gm_parse.specs.declared.place.Place.{Place}
 use Rattle.gm_parse.proofs.Leading.{Led, led_form, goes_on, compared_behind, place_behind, is_behind, IsBehind, Plainly, AtName}

@@ -13,7 +13,7 @@ use Rattle.gm_parse.specs.declared.key.Collector.TheVariants as collectors
 use Rattle.gm_parse.specs.declared.key.Key.{Key}
 use Rattle.gm_parse.specs.declared.key.Key.TheVariants as keys
 use Rattle.gm_parse.specs.Spelling.{operator, collector_word}
-use Rattle.gm_parse.specs.Reading.{keyword, sign_key, key_of}
+use Rattle.gm_parse.specs.inner.Reading.{keyword, sign_key, key_of}
 
 -- the symbol of a key that has one alone
 abbrev pub symbol_of : Key → Symbol

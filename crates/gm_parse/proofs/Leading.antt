@@ -5,7 +5,7 @@ use Rattle.gm_model.specs.declared.expr.BinOp.{BinOp}
 use Rattle.gm_model.specs.declared.expr.BinOp.TheVariants as ops
 use Rattle.gm_model.specs.Names.{Mention, reserved, is_among}
 use Rattle.gm_model.specs.Reading.{Part, word, number, sign}
-use Rattle.gm_text.specs.Machine.{Leads}
+use Rattle.gm_text.specs.inner.Machine.{Leads}
 use Rattle.gm_text.specs.SchemaText.{LabelForm}
 use Rattle.gm_text.specs.ValueText.{truth_text}
 use Rattle.gm_parse.specs.declared.key.Collector.{Collector}
@@ -23,7 +23,7 @@ use Rattle.gm_parse.specs.declared.place.Place.TheVariants as places
 use Rattle.gm_parse.specs.Forms.{TermForm, Form, NumberForm, TruthForm, ParamForm, FieldForm, SameForm, CountForm, CollectForm, CallForm, ParenForm, MinusForm, NotForm, BinaryForm, IfForm, Arguments, First, Further, level_of, IsGood, AreGood}
 use Rattle.gm_parse.specs.Levels.{binary_level, least_on_left, least_on_right}
 use Rattle.gm_parse.specs.Spelling.{Role, Fixed, limit_of, name, operator, spell, spell_arguments, spell_labels, spell_path, spell_term, Quantity, StepAt, collector_word}
-use Rattle.gm_parse.specs.Reading.{State, state_at, operator_move, behind_move, move_by, move, role_at, key_role, key_of, is_whole}
+use Rattle.gm_parse.specs.inner.Reading.{State, state_at, operator_move, behind_move, move_by, move, role_at, key_role, key_of, is_whole}
 use Rattle.gm_parse.proofs.Keys.{key_operator, key_name}
 
 abbrev pub plainly : Role → Bool

@@ -4,16 +4,16 @@ use Rattle.std.proofs.lemmas.List.{map-append}
 use Rattle.gm_model.specs.declared.limit.LimitKind.{LimitKind}
 use Rattle.gm_model.specs.Reading.{Part, IsWithin, IsReadAs, TextEndsAt, LimitStandsAt, symbols_in}
 use Rattle.gm_model.specs.Symbols.{Symbol, Mark, symbols}
-use Rattle.gm_text.specs.Machine.{Stop, Ends, Passes, run}
-use Rattle.gm_text.specs.Nested.{Nested, Outside, Inside}
-use Rattle.gm_text.specs.Nested as nested
+use Rattle.gm_text.specs.inner.Machine.{Stop, Ends, Passes, run}
+use Rattle.gm_text.specs.inner.Nested.{Nested, Outside, Inside}
+use Rattle.gm_text.specs.inner.Nested as nested
 use Rattle.gm_text.proofs.Machine.{reading_runs, ends_run, passes_run}
 use Rattle.gm_parse.specs.declared.fault.SyntaxFault.{SyntaxFault}
 use Rattle.gm_parse.specs.declared.fault.SyntaxFault.TheVariants as faults
 use Rattle.gm_parse.specs.Forms.{Form, IsGood}
 use Rattle.gm_parse.specs.Spelling.{Counted, limit_in, symbols_of, parts_of, GoesOn, beyond, IsSentence, Stands}
-use Rattle.gm_parse.specs.Reading.{Spot, first_spot, never, Around, AtRest, standing}
-use Rattle.gm_parse.specs.Answers.{IsSyntaxFault}
+use Rattle.gm_parse.specs.inner.Reading.{Spot, first_spot, never, Around, AtRest, standing}
+use Rattle.gm_parse.specs.inner.Answers.{IsSyntaxFault}
 use Rattle.gm_parse.proofs.Counted.{parts_symbols}
 use Rattle.gm_parse.proofs.Standing.{standing_grammar}
 

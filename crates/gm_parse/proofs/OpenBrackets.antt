@@ -10,7 +10,7 @@ use Rattle.gm_parse.specs.declared.place.Need.{Need}
 use Rattle.gm_parse.specs.declared.place.Need.TheVariants as needs
 use Rattle.gm_parse.specs.declared.place.Place.{Place}
 use Rattle.gm_parse.specs.declared.place.Place.TheVariants as places
-use Rattle.gm_parse.specs.Reading.{State, state_at, move_to, operand_move, operand_place, operator_move, compare_move, close_move, comma_move, then_move, else_move, behind_move, behind_name_move, term_place, move_by}
+use Rattle.gm_parse.specs.inner.Reading.{State, state_at, move_to, operand_move, operand_place, operator_move, compare_move, close_move, comma_move, then_move, else_move, behind_move, behind_name_move, term_place, move_by}
 
 -- as many are open as in the state, or one more
 abbrev AreFew : State → Option State → Type 0

@@ -6,9 +6,9 @@ use Rattle.std.specs.Prelude.{IsTrue, is_some, nat_lt}
 use Rattle.gm_model.specs.declared.limit.LimitKind.{LimitKind}
 use Rattle.gm_model.specs.Reading.{Part, in_role, IsWithin, TextEndsAt, LimitStandsAt, ArePlaced}
 use Rattle.gm_model.specs.Symbols.{Symbol, Word, Numeral, Sign, Gone, Stray, End, Mark}
-use Rattle.gm_text.specs.Machine.{Ends, Passes, IsGrammar}
-use Rattle.gm_text.specs.Nested.{Nested, Outside, Inside, IsApart, HasPieces, IsNestedSentence, LeadsNested}
-use Rattle.gm_text.specs.Nested as nested
+use Rattle.gm_text.specs.inner.Machine.{Ends, Passes, IsGrammar}
+use Rattle.gm_text.specs.inner.Nested.{Nested, Outside, Inside, IsApart, HasPieces, IsNestedSentence, LeadsNested}
+use Rattle.gm_text.specs.inner.Nested as nested
 use Rattle.gm_text.proofs.Machine.{Along, run_reads, run_ends, run_passes, along_leads, along_spelled, ended_is, passing_is}
 use Rattle.gm_text.proofs.Nested.{nested_grammar, run_inside_ends, run_inside_passes}
 use Rattle.gm_parse.specs.declared.key.Key.{Key}
@@ -17,8 +17,8 @@ use Rattle.gm_parse.specs.declared.place.Place.{Place}
 use Rattle.gm_parse.specs.declared.place.Place.TheVariants as places
 use Rattle.gm_parse.specs.Forms.{Form, IsGood}
 use Rattle.gm_parse.specs.Spelling.{Role, Fixed, NameAt, Counted, limit_of, limit_in, passed_by, counted_from, spell, parts_of, beyond, IsSentence, IsPlacedAt, Stands}
-use Rattle.gm_parse.specs.Reading.{State, state_at, move_by, is_whole_at, key_of, number_role, key_role, role_at, Spot, spot_at, first_spot, spot_move, spot_role, is_whole_spot, never, Around, AtNext, AtRest, around_move, standing}
-use Rattle.gm_parse.specs.Answers.{run_in}
+use Rattle.gm_parse.specs.inner.Reading.{State, state_at, move_by, is_whole_at, key_of, number_role, key_role, role_at, Spot, spot_at, first_spot, spot_move, spot_role, is_whole_spot, never, Around, AtNext, AtRest, around_move, standing}
+use Rattle.gm_parse.specs.inner.Answers.{run_in}
 use Rattle.gm_parse.proofs.Counted.{LedSpot, spot_behind, form_whole, form_leads, path_form, path_end, spot_goes_on, no_longer, stays_ended, parts_symbols}
 
 -- ---- nothing goes on with what stands in no expression

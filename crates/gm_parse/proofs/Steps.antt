@@ -6,10 +6,10 @@ use Rattle.gm_model.specs.declared.limit.LimitKind.{LimitKind}
 use Rattle.gm_model.specs.declared.token.Token.{Token}
 use Rattle.gm_model.specs.Reading.{TextEndsAt}
 use Rattle.gm_model.specs.Symbols.{Symbol, Mark}
-use Rattle.gm_text.specs.Cursor.{Cursor}
-use Rattle.gm_text.specs.Machine.{Stop, Ends, Passes}
-use Rattle.gm_text.specs.SchemaAnswers.{marks_left, IsNext, IsNoToken, AtStray, AtEnd, IsNoneNext, symbol_at, mark_at}
-use Rattle.gm_text.specs.Lexing.{IsBehindToken}
+use Rattle.gm_text.specs.inner.Cursor.{Cursor}
+use Rattle.gm_text.specs.inner.Machine.{Stop, Ends, Passes}
+use Rattle.gm_text.specs.inner.SchemaAnswers.{marks_left, IsNext, IsNoToken, AtStray, AtEnd, IsNoneNext, symbol_at, mark_at}
+use Rattle.gm_text.specs.inner.Lexing.{IsBehindToken}
 use Rattle.gm_text.proofs.Behind.{behind_next, over_then, behind_marks}
 use Rattle.gm_text.proofs.Machine.{last_of}
 use Rattle.gm_parse.specs.declared.fault.SyntaxFault.{SyntaxFault}
@@ -17,9 +17,9 @@ use Rattle.gm_parse.specs.declared.fault.SyntaxFault.TheVariants as faults
 use Rattle.gm_parse.specs.declared.key.Key.{Key}
 use Rattle.gm_parse.specs.declared.key.Key.TheVariants as keys
 use Rattle.gm_parse.specs.Spelling.{limit_in, limit_of, passed_by, IsSentence}
-use Rattle.gm_parse.specs.Reading.{State, Spot, spot_at, first_spot, move, move_by, key_of, key_role, spot_move, spot_role, is_whole, is_whole_spot}
-use Rattle.gm_parse.specs.Answers.{run_in, Reads, EndsBefore, SkipsExpr, EndsIn, Stops, LeavesState, Advances, IsExprSkipped, IsSyntaxFault}
-use Rattle.gm_parse.specs.Taking.{Becomes}
+use Rattle.gm_parse.specs.inner.Reading.{State, Spot, spot_at, first_spot, move, move_by, key_of, key_role, spot_move, spot_role, is_whole, is_whole_spot}
+use Rattle.gm_parse.specs.inner.Answers.{run_in, Reads, EndsBefore, SkipsExpr, EndsIn, Stops, LeavesState, Advances, IsExprSkipped, IsSyntaxFault}
+use Rattle.gm_parse.specs.inner.Taking.{Becomes}
 use Rattle.gm_parse.proofs.OpenBrackets.{few_more}
 use Rattle.gm_parse.specs.declared.place.Place.{Place}
 use Rattle.std.proofs.lemmas.Bool.Decides.{nat_tests}

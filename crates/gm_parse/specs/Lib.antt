@@ -1,8 +1,5 @@
 pub mod Levels
 pub mod Forms
 pub mod Spelling
-pub mod Reading
 pub mod Meaning
-pub mod Answers
-pub mod Taking
-pub mod Tables
+pub mod inner

@@ -1,9 +1,9 @@
 //! What holds of the texts of expressions, whoever reads them.
 ghost use Rattle.std.specs.Prelude.{◌⊎◌, ℕ};
-ghost use Rattle.gm_text.specs.Cursor.{Cursor};
-ghost use Rattle.gm_text.specs.SchemaAnswers.{marks_left};
+ghost use Rattle.gm_text.specs.inner.Cursor.{Cursor};
+ghost use Rattle.gm_text.specs.inner.SchemaAnswers.{marks_left};
 ghost use Rattle.gm_parse.specs.declared.fault.SyntaxFault.{SyntaxFault};
-ghost use Rattle.gm_parse.specs.Answers.{IsExprSkipped, IsSyntaxFault};
+ghost use Rattle.gm_parse.specs.inner.Answers.{IsExprSkipped, IsSyntaxFault};
 
 /// At each place of a text an expression stands, or what stands there has a first fault by the
 /// grammar and its limits.

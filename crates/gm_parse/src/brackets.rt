@@ -1,6 +1,6 @@
 //! The brackets of an expression that are open.
 ghost use Rattle.std.specs.Prelude.{◌≡◌, ◌↔◌, [], ◌∷◌, ◌<◌, length, IsTrue, OnSome};
-ghost use Rattle.gm_parse.specs.Taking.{Takes};
+ghost use Rattle.gm_parse.specs.inner.Taking.{Takes};
 
 use crate::place::Bracket;
 use arrayvec::ArrayVec;

@@ -1,10 +1,10 @@
 //! An expression gone past: what the longest one is, and its first fault by the grammar.
 ghost use Rattle.std.specs.Prelude.{◌≡◌, ◌≤◌, true, false, length, None, IfOk, IfErr, OnErr};
-ghost use Rattle.gm_text.specs.Lexing.{IsBehindToken};
-ghost use Rattle.gm_text.specs.SchemaAnswers.{marks_left};
+ghost use Rattle.gm_text.specs.inner.Lexing.{IsBehindToken};
+ghost use Rattle.gm_text.specs.inner.SchemaAnswers.{marks_left};
 ghost use Rattle.gm_parse.specs.declared.fault.SyntaxFault.TheVariants as syntax_faults;
-ghost use Rattle.gm_parse.specs.Answers.{Advances, IsExprSkipped, IsSyntaxFault, LeavesState, SkipsExpr, Stops};
-ghost use Rattle.gm_parse.specs.Reading.{first_spot, is_whole, spot_at};
+ghost use Rattle.gm_parse.specs.inner.Answers.{Advances, IsExprSkipped, IsSyntaxFault, LeavesState, SkipsExpr, Stops};
+ghost use Rattle.gm_parse.specs.inner.Reading.{first_spot, is_whole, spot_at};
 
 use crate::fault::SyntaxFault;
 use crate::state::State;

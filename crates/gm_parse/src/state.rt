@@ -1,7 +1,7 @@
 //! Where in an expression reading is, and how it goes on.
 ghost use Rattle.std.specs.Prelude.{◌≡◌, ◌↔◌, ◌+◌, ◌<◌, ◌≤◌, length, false, IsTrue, OnSome};
-ghost use Rattle.gm_parse.specs.Reading.{start, opened, behind_field, behind_move, behind_name_move, behind_node, close_move, comma_move, else_move, if_move, is_whole, move_by, move_to, not_place, operand_move, operand_place, operator_move, term_place, then_move};
-ghost use Rattle.gm_parse.specs.Taking.{Becomes, with_bracket};
+ghost use Rattle.gm_parse.specs.inner.Reading.{start, opened, behind_field, behind_move, behind_name_move, behind_node, close_move, comma_move, else_move, if_move, is_whole, move_by, move_to, not_place, operand_move, operand_place, operator_move, term_place, then_move};
+ghost use Rattle.gm_parse.specs.inner.Taking.{Becomes, with_bracket};
 
 use crate::brackets::Brackets;
 use crate::key::Key;
@@ -20,7 +20,7 @@ pub struct State {
 
 impl Model for State {
     ghost use Rattle.std.specs.Prelude.{Bool};
-    ghost use Rattle.gm_parse.specs.Reading.{State as Where, state_at};
+    ghost use Rattle.gm_parse.specs.inner.Reading.{State as Where, state_at};
 
     ghost Value = { Where };
 

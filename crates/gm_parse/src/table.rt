@@ -1,6 +1,6 @@
 //! Tables of words and of what each of them means.
 ghost use Rattle.std.specs.Prelude.{◌≡◌, bytes_eq};
-ghost use Rattle.gm_parse.specs.Tables.{meaning_of_first};
+ghost use Rattle.gm_parse.specs.inner.Tables.{meaning_of_first};
 
 /// What the table says of the word, and `other` where it says nothing.
 pub fn meaning_or<T: Copy>(table: &[(&[u8], T)], word: &[u8], other: T) -> T

@@ -1,9 +1,9 @@
 //! The tokens of expressions: what each is, and which limit it passes.
 ghost use Rattle.std.specs.Prelude.{◌≡◌, ℕ, ◌^◌, ◌-◌, min};
 ghost use Rattle.gm_model.specs.Symbols.{Word, Numeral};
-ghost use Rattle.gm_text.specs.SchemaAnswers.{IsToken, symbol_at};
+ghost use Rattle.gm_text.specs.inner.SchemaAnswers.{IsToken, symbol_at};
 ghost use Rattle.gm_parse.specs.declared.key.Key.TheVariants as keys;
-ghost use Rattle.gm_parse.specs.Reading.{key_of, key_role, keyword, number_role, sign_key};
+ghost use Rattle.gm_parse.specs.inner.Reading.{key_of, key_role, keyword, number_role, sign_key};
 ghost use Rattle.gm_parse.specs.Spelling.{limit_in, limit_of};
 
 use crate::key::{Collector, Key};

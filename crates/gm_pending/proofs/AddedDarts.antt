@@ -5,13 +5,13 @@ use Rattle.std.proofs.lemmas.Nat.{mul-le}
 use Rattle.gm_model.specs.declared.rule.Side.TheVariants.{Left, Right}
 use Rattle.gm_model.specs.Rules.{has_word, is_added}
 use Rattle.gm_model.specs.Unfolding.{added_nodes}
-use Rattle.gm_arena.specs.ArenaAsMap.{as_map}
+use Rattle.gm_arena.specs.inner.ArenaAsMap.{as_map}
 use Rattle.gm_theory.proofs.NewNames.{new_name}
 use Rattle.gm_theory.proofs.RuleSteps.{word_below}
 use Rattle.gm_theory.proofs.Tests.{both_true, not_both}
 use Rattle.gm_walk.specs.declared.at.At.TheVariants.{New}
-use Rattle.gm_pending.specs.Gathered.{new_number}
-use Rattle.gm_pending.specs.Results.{PendingOf, IsPrepared, name_of, rule_in, place_in}
+use Rattle.gm_pending.specs.inner.Gathered.{new_number}
+use Rattle.gm_pending.specs.inner.Results.{PendingOf, IsPrepared, name_of, rule_in, place_in}
 use Rattle.gm_pending.proofs.Ends.{added_number, left_not_added}
 
 module _ (app : PendingOf) where

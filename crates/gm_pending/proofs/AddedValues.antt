@@ -9,9 +9,9 @@ use Rattle.gm_model.specs.declared.value.Value.{Value}
 use Rattle.gm_model.specs.declared.value.Value.TheVariants.{Int}
 use Rattle.gm_model.specs.Maps.{IsEmbedAt}
 use Rattle.gm_theory.proofs.NewNames.{block_below}
-use Rattle.gm_pending.specs.EditLists.{AreAddedValues, added_value}
-use Rattle.gm_pending.specs.Gathered.{AreKeptValues, IsKeptValue}
-use Rattle.gm_pending.specs.Results.{PendingOf}
+use Rattle.gm_pending.specs.inner.EditLists.{AreAddedValues, added_value}
+use Rattle.gm_pending.specs.inner.Gathered.{AreKeptValues, IsKeptValue}
+use Rattle.gm_pending.specs.inner.Results.{PendingOf}
 
 module _ (app : PendingOf) where
   -- where there is no added dart or no embedding, there are no values

@@ -7,16 +7,16 @@ use Rattle.gm_model.specs.declared.schema.Embed.{Embed}
 use Rattle.gm_model.specs.Maps.{IsEmbedAt, IsSound}
 use Rattle.gm_model.specs.Rules.{rule_of}
 use Rattle.gm_model.specs.declared.rule.RuleTable.{RuleTable}
-use Rattle.gm_arena.specs.ArenaAsMap.{as_map}
-use Rattle.gm_arena.specs.ArenaMap.{ArenaMap}
-use Rattle.gm_arena.specs.Lawful.{IsLawful}
-use Rattle.gm_plan.specs.InArena.{AreMatched}
-use Rattle.gm_plan.specs.Placed.{Placed}
-use Rattle.gm_plan.specs.Plans.{IsPlanned}
+use Rattle.gm_arena.specs.inner.ArenaAsMap.{as_map}
+use Rattle.gm_arena.specs.inner.ArenaMap.{ArenaMap}
+use Rattle.gm_arena.specs.inner.Lawful.{IsLawful}
+use Rattle.gm_plan.specs.inner.InArena.{AreMatched}
+use Rattle.gm_plan.specs.inner.Placed.{Placed}
+use Rattle.gm_plan.specs.inner.Plans.{IsPlanned}
 use Rattle.gm_theory.proofs.Lists.{none_some, some_same}
-use Rattle.gm_pending.specs.Answered.{AreDecidedOrbits, instances_in, pending_as}
-use Rattle.gm_pending.specs.Reached.{AreReached}
-use Rattle.gm_pending.specs.Results.{PendingOf, IsAsked, IsPrepared, pending_of, deciding_of, instances_of}
+use Rattle.gm_pending.specs.inner.Answered.{AreDecidedOrbits, instances_in, pending_as}
+use Rattle.gm_pending.specs.inner.Reached.{AreReached}
+use Rattle.gm_pending.specs.inner.Results.{PendingOf, IsAsked, IsPrepared, pending_of, deciding_of, instances_of}
 use Rattle.gm_pending.specs.declared.decided_orbits.DecidedOrbits.{DecidedOrbits}
 use Rattle.gm_pending.specs.declared.deciding_instance.DecidingInstance.{DecidingInstance}
 

@@ -9,15 +9,15 @@ use Rattle.gm_model.specs.declared.rule.RuleTable.{RuleTable}
 use Rattle.gm_model.specs.declared.value.Value.{Value}
 use Rattle.gm_model.specs.Maps.{IsEmbedAt}
 use Rattle.gm_model.specs.Values.{IsValueOf}
-use Rattle.gm_arena.specs.ArenaMap.{ArenaMap}
-use Rattle.gm_plan.specs.Placed.{Placed}
+use Rattle.gm_arena.specs.inner.ArenaMap.{ArenaMap}
+use Rattle.gm_plan.specs.inner.Placed.{Placed}
 use Rattle.gm_theory.proofs.Lists.{some_same, none_some}
 use Rattle.gm_pending.specs.declared.decided_orbits.DecidedOrbits.{DecidedOrbits}
 use Rattle.gm_pending.specs.declared.deciding_instance.DecidingInstance.{DecidingInstance}
 use Rattle.gm_walk.specs.declared.mark.Mark.{Mark}
-use Rattle.gm_pending.specs.Answered.{instances_in, pending_as, AreDecidedOrbits}
-use Rattle.gm_pending.specs.Reached.{AreReached}
-use Rattle.gm_pending.specs.Results.{PendingOf, IsPrepared, AreDecidingInstances, IsGivenIn, instances_of, deciding_of, with_instances}
+use Rattle.gm_pending.specs.inner.Answered.{instances_in, pending_as, AreDecidedOrbits}
+use Rattle.gm_pending.specs.inner.Reached.{AreReached}
+use Rattle.gm_pending.specs.inner.Results.{PendingOf, IsPrepared, AreDecidingInstances, IsGivenIn, instances_of, deciding_of, with_instances}
 
 module _ {A : Type 0} where
   pub set_there : (xs : List A) (k : ℕ) (x : A) → k < length xs → slice_get (set xs k x) k ≡ Some x

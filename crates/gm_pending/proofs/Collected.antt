@@ -11,21 +11,21 @@ use Rattle.gm_model.specs.declared.step.Step.TheVariants.{Absent, Exp, Imp}
 use Rattle.gm_model.specs.Rules.{has_word, is_added, is_removed, step}
 use Rattle.gm_model.specs.Unfolding.{IsStep, IsGone, IsCutAt, IsMadeArc, added_before, added_nodes}
 use Rattle.gm_arena.specs.declared.slot.Slot.{Slot}
-use Rattle.gm_arena.specs.ArenaMap.{IsLiveSlot, name_at, alpha}
-use Rattle.gm_plan.specs.Changes.{is_same, is_steady, freed_by}
-use Rattle.gm_plan.specs.Counts.{removed_before, removed_nodes}
-use Rattle.gm_plan.specs.InArena.{slot_number}
-use Rattle.gm_plan.specs.Placed.{turn_at}
+use Rattle.gm_arena.specs.inner.ArenaMap.{IsLiveSlot, name_at, alpha}
+use Rattle.gm_plan.specs.inner.Changes.{is_same, is_steady, freed_by}
+use Rattle.gm_plan.specs.inner.Counts.{removed_before, removed_nodes}
+use Rattle.gm_plan.specs.inner.InArena.{slot_number}
+use Rattle.gm_plan.specs.inner.Placed.{turn_at}
 use Rattle.gm_theory.proofs.RuleSteps.{word_below}
 use Rattle.gm_theory.proofs.Arcs.{kept_name}
 use Rattle.gm_theory.proofs.Tests.{both_true, and_true, true_not, true_or_false}
-use Rattle.gm_pending.specs.Arcs.{Arc}
-use Rattle.gm_pending.specs.Arcs.End.{Old}
+use Rattle.gm_pending.specs.inner.Arcs.{Arc}
+use Rattle.gm_pending.specs.inner.Arcs.End.{Old}
 use Rattle.gm_pending.specs.declared.rewrite.Arcs.{Arcs}
 use Rattle.gm_pending.specs.declared.rewrite.Arcs.TheVariants.{Freed, Made}
-use Rattle.gm_pending.specs.Collected.{RewriteOf, as_list, concat_below, slot_in, rewrite_of, end_of, labels, leads_to, written_step, arc_between, left_slots, left_slots_of, arc_by, arc_at, arcs_at, arcs_in, all_arcs, removed_at, removed_of, removed_in, all_removed}
-use Rattle.gm_pending.specs.EditLists.{EditLists, AreAddedValues, AreArcs, AreDistinct, AreNewValues, AreRemoved, AreEditsOf, AreMatchedIn, IsOldEnd, IsResultEnd, IsFreed, IsThere, IsNewArc, end_name}
-use Rattle.gm_pending.specs.Results.{PendingOf, IsPrepared, IsRightInstance, rule_in, scene_in}
+use Rattle.gm_pending.specs.inner.Collected.{RewriteOf, as_list, concat_below, slot_in, rewrite_of, end_of, labels, leads_to, written_step, arc_between, left_slots, left_slots_of, arc_by, arc_at, arcs_at, arcs_in, all_arcs, removed_at, removed_of, removed_in, all_removed}
+use Rattle.gm_pending.specs.inner.EditLists.{EditLists, AreAddedValues, AreArcs, AreDistinct, AreNewValues, AreRemoved, AreEditsOf, AreMatchedIn, IsOldEnd, IsResultEnd, IsFreed, IsThere, IsNewArc, end_name}
+use Rattle.gm_pending.specs.inner.Results.{PendingOf, IsPrepared, IsRightInstance, rule_in, scene_in}
 use Rattle.gm_pending.proofs.Concat.{concat_contains, contains_concat, list_contains, contains_list, length_concat, length_same, length_list, distinct_concat, distinct_list}
 use Rattle.gm_pending.proofs.Ends.{right_end}
 use Rattle.gm_pending.proofs.Law.{law}

@@ -15,10 +15,10 @@ use Rattle.gm_model.specs.NewValues.{IsUndecided, Kept}
 use Rattle.gm_model.specs.Rules.{has_word, is_added}
 use Rattle.gm_model.specs.Unfolding.{Scene, IsGone, IsDartAfter, IsCutAt, IsMadeArc, IsArcAfter, IsUnfolding, added_before, added_nodes}
 use Rattle.gm_arena.specs.declared.slot.Slot.{Slot}
-use Rattle.gm_arena.specs.ArenaAsMap.{as_map, value}
-use Rattle.gm_arena.specs.ArenaMap.{ArenaMap, Dart, IsAt, IsLiveName, name_at, alpha}
-use Rattle.gm_arena.specs.Edits.{IsAlone}
-use Rattle.gm_arena.specs.Parts.{part_of}
+use Rattle.gm_arena.specs.inner.ArenaAsMap.{as_map, value}
+use Rattle.gm_arena.specs.inner.ArenaMap.{ArenaMap, Dart, IsAt, IsLiveName, name_at, alpha}
+use Rattle.gm_arena.specs.inner.Edits.{IsAlone}
+use Rattle.gm_arena.specs.inner.Parts.{part_of}
 use Rattle.gm_arena.proofs.InsideLemmas.{is_some_at, part_long, some_from_map}
 use Rattle.gm_arena.proofs.ValueLemmas.{length-values}
 use Rattle.gm_arena.proofs.MapLemmas.{name_at-is, IsAt-name_at, IsLiveName-name_at, name_below, alpha-alike}
@@ -26,20 +26,20 @@ use Rattle.gm_theory.proofs.Arcs.{cut_back, gone_cut, arc_from, arc_to, one_arc}
 use Rattle.gm_theory.proofs.NewNames.{new_name}
 use Rattle.gm_theory.proofs.Tests.{both_true, not_both, same_or_not, true_or_false}
 use Rattle.gm_theory.proofs.RuleSteps.{word_below}
-use Rattle.gm_pending.specs.Arcs.{Arc}
-use Rattle.gm_pending.specs.Arcs.{End}
-use Rattle.gm_pending.specs.Arcs.End.{Old, New}
+use Rattle.gm_pending.specs.inner.Arcs.{Arc}
+use Rattle.gm_pending.specs.inner.Arcs.{End}
+use Rattle.gm_pending.specs.inner.Arcs.End.{Old, New}
 use Rattle.gm_pending.specs.declared.changes.ValueAt.{ValueAt}
-use Rattle.gm_pending.specs.Results.{PendingOf, IsUnfoldedIn, IsValueIn, rule_in, place_in, scene_in}
-use Rattle.gm_pending.specs.EditLists.{EditLists, AreEditsOf, IsOldEnd, IsResultEnd, IsResultOf, IsThere, IsUntouched, Matched, Valued, added_value, end_name}
-use Rattle.gm_pending.specs.Written.{AreWhole, IsWritable, IsLiveEnd, IsSettable, CanRemove, IsExtended, end_at, values_at, with_arcs, with_values, without_darts}
+use Rattle.gm_pending.specs.inner.Results.{PendingOf, IsUnfoldedIn, IsValueIn, rule_in, place_in, scene_in}
+use Rattle.gm_pending.specs.inner.EditLists.{EditLists, AreEditsOf, IsOldEnd, IsResultEnd, IsResultOf, IsThere, IsUntouched, Matched, Valued, added_value, end_name}
+use Rattle.gm_pending.specs.inner.Written.{AreWhole, IsWritable, IsLiveEnd, IsSettable, CanRemove, IsExtended, end_at, values_at, with_arcs, with_values, without_darts}
 use Rattle.gm_pending.proofs.Law.{law}
 use Rattle.gm_pending.proofs.Made.{exists_arc, not_gone}
 use Rattle.gm_pending.proofs.NewValues.{part_entry, typed}
 use Rattle.gm_pending.proofs.Numbers.{numbered, number_below}
 use Rattle.gm_pending.proofs.WithArcs.{arcs_elsewhere, arcs_frame, arcs_live, arcs_values, arcs_whole, arcs_written, AreWritable, IsWrittenOrKept}
 use Rattle.gm_pending.proofs.WithValues.{AreFitting, AreWide, IsSetOrKept, value_alike, value_among, value_is, values_alpha, values_frame, values_kept, values_live, values_set}
-use Rattle.gm_theory.specs.Theorem.{Unfolded}
+use Rattle.gm_theory.specs.inner.Theorem.{Unfolded}
 use Rattle.gm_pending.proofs.WithoutDarts.{IsUnnamed, can_remove, dart_stays, dart_goes, slot_stays, without_whole, more_room}
 
 module _ (app : PendingOf) (edits : EditLists) (ok : AreEditsOf app edits) (spare reserved : ℕ) where

@@ -4,8 +4,8 @@ use Rattle.std.specs.List.{Contains}
 use Rattle.std.proofs.lemmas.Bool.{cases_eq}
 use Rattle.std.proofs.lemmas.List.Elements.{Contains-append_left, Contains-append_right, Contains-append_cases}
 use Rattle.gm_arena.specs.declared.slot.Slot.{Slot}
-use Rattle.gm_pending.specs.Collected.{as_list, concat_below}
-use Rattle.gm_pending.specs.EditLists.{AreDistinct}
+use Rattle.gm_pending.specs.inner.Collected.{as_list, concat_below}
+use Rattle.gm_pending.specs.inner.EditLists.{AreDistinct}
 use Rattle.gm_pending.proofs.Whole.{contains_first, contains_later, contains_either, contains_none}
 
 module _ {A : Type 0} where

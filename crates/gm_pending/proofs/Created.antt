@@ -7,12 +7,12 @@ use Rattle.gm_model.specs.Matches.{Created}
 use Rattle.gm_model.specs.Rules.{Rule, has_word}
 use Rattle.gm_model.specs.declared.schema.Schema.{Schema}
 use Rattle.gm_model.specs.Maps.{IsGeneralised}
-use Rattle.gm_arena.specs.ArenaAsMap.{as_map}
-use Rattle.gm_arena.specs.ArenaMap.{ArenaMap}
-use Rattle.gm_arena.specs.Edits.{empty_map}
-use Rattle.gm_plan.specs.InArena.{AreMatched}
-use Rattle.gm_plan.specs.Placed.{Placed}
-use Rattle.gm_plan.specs.Plans.{IsLeftCount}
+use Rattle.gm_arena.specs.inner.ArenaAsMap.{as_map}
+use Rattle.gm_arena.specs.inner.ArenaMap.{ArenaMap}
+use Rattle.gm_arena.specs.inner.Edits.{empty_map}
+use Rattle.gm_plan.specs.inner.InArena.{AreMatched}
+use Rattle.gm_plan.specs.inner.Placed.{Placed}
+use Rattle.gm_plan.specs.inner.Plans.{IsLeftCount}
 use Rattle.gm_theory.proofs.Lists.{none_some}
 use Rattle.gm_theory.proofs.Turns.{no_places}
 

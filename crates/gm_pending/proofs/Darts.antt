@@ -4,19 +4,19 @@ use Rattle.std.proofs.lemmas.Bool.{cases_lt}
 use Rattle.gm_model.specs.declared.rule.Side.TheVariants.{Left, Right}
 use Rattle.gm_model.specs.Rules.{Rule, has_word}
 use Rattle.gm_model.specs.Unfolding.{IsDartAfter, IsGone, IsMadeArc, IsArcAfter}
-use Rattle.gm_arena.specs.ArenaMap.{IsAt, IsLiveSlot, name_at, alpha}
+use Rattle.gm_arena.specs.inner.ArenaMap.{IsAt, IsLiveSlot, name_at, alpha}
 use Rattle.gm_arena.proofs.InsideLemmas.{is_some_at}
 use Rattle.gm_arena.proofs.MapLemmas.{name_at-is, IsAt-name_at, IsLiveName-name_at}
-use Rattle.gm_plan.specs.InArena.{slot_number}
-use Rattle.gm_plan.specs.Plans.{IsLeftCount}
+use Rattle.gm_plan.specs.inner.InArena.{slot_number}
+use Rattle.gm_plan.specs.inner.Plans.{IsLeftCount}
 use Rattle.gm_theory.proofs.Arcs.{kept_name, right_dart, arc_to}
 use Rattle.gm_theory.proofs.Scenes.{IsRightAt}
 use Rattle.gm_theory.proofs.Tests.{both_true, and_true, not_true, true_not, true_or_false, not_both}
 use Rattle.gm_walk.specs.declared.at.At.{At}
 use Rattle.gm_walk.specs.declared.at.At.TheVariants.{Old, New}
-use Rattle.gm_walk.specs.Keys.{is_old}
-use Rattle.gm_plan.specs.Lookup.{IsWithin, IsAtSlot}
-use Rattle.gm_pending.specs.Results.{PendingOf, IsPrepared, rule_in, scene_in, name_of, IsResultDart}
+use Rattle.gm_walk.specs.inner.Keys.{is_old}
+use Rattle.gm_plan.specs.inner.Lookup.{IsWithin, IsAtSlot}
+use Rattle.gm_pending.specs.inner.Results.{PendingOf, IsPrepared, rule_in, scene_in, name_of, IsResultDart}
 use Rattle.gm_pending.proofs.Law.{law}
 use Rattle.gm_pending.proofs.Made.{made_there, unmade_kept}
 

@@ -15,14 +15,14 @@ use Rattle.gm_theory.proofs.ValuesFound.{assigned_below}
 use Rattle.gm_theory.proofs.ValuesJoined.{pair_same}
 use Rattle.gm_theory.proofs.ValuesLists.{IsIn, AreDistinct, in_contained, split_at, in_middle}
 use Rattle.gm_theory.proofs.ValuesReach.{orbit_through}
-use Rattle.gm_theory.specs.Theorem.{Unfolded, IsDartOf}
+use Rattle.gm_theory.specs.inner.Theorem.{Unfolded, IsDartOf}
 use Rattle.gm_walk.specs.declared.at.At.{At}
 use Rattle.gm_pending.specs.declared.deciding_instance.DecidingInstance.{DecidingInstance}
 use Rattle.gm_walk.specs.declared.mark.Mark.{Mark}
-use Rattle.gm_pending.specs.Marks.{HasKey, IsMarkedBy, HasDistinctKeys}
-use Rattle.gm_walk.specs.Keys.{key_of}
-use Rattle.gm_pending.specs.Reached.{AreResultDarts, AreReached, AreSomeReached, HaveDistinctNames, HasMark, IsClosed, IsGrown, IsSpreadTo, IsWalkedUpTo, IsDecidedUpTo}
-use Rattle.gm_pending.specs.Results.{PendingOf, IsPrepared, AreDecidingInstances, IsResultDart, IsUnfoldedIn, IsDecidedIn, IsDecidingIn, IsReachedIn, IsWithinReach, rule_in, scene_in, name_of}
+use Rattle.gm_pending.specs.inner.Marks.{HasKey, IsMarkedBy, HasDistinctKeys}
+use Rattle.gm_walk.specs.inner.Keys.{key_of}
+use Rattle.gm_pending.specs.inner.Reached.{AreResultDarts, AreReached, AreSomeReached, HaveDistinctNames, HasMark, IsClosed, IsGrown, IsSpreadTo, IsWalkedUpTo, IsDecidedUpTo}
+use Rattle.gm_pending.specs.inner.Results.{PendingOf, IsPrepared, AreDecidingInstances, IsResultDart, IsUnfoldedIn, IsDecidedIn, IsDecidingIn, IsReachedIn, IsWithinReach, rule_in, scene_in, name_of}
 use Rattle.gm_pending.proofs.Reached.{kept_at, last_at, kept_or_last, get_within}
 use Rattle.gm_pending.proofs.Spread.{same_key, same_name, mark_kept, dart_after, orbit_back, closed_along}
 

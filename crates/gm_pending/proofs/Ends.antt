@@ -6,10 +6,10 @@ use Rattle.gm_model.specs.declared.step.Step.{Step}
 use Rattle.gm_model.specs.declared.step.Step.TheVariants.{Absent, Imp}
 use Rattle.gm_model.specs.Rules.{Rule, has_word, is_added, step}
 use Rattle.gm_model.specs.Unfolding.{added_before}
-use Rattle.gm_arena.specs.ArenaAsMap.{as_map}
+use Rattle.gm_arena.specs.inner.ArenaAsMap.{as_map}
 use Rattle.gm_arena.specs.declared.slot.Slot.{Slot}
-use Rattle.gm_plan.specs.Changes.{is_steady, made_step}
-use Rattle.gm_plan.specs.Placed.{Placed, slot_at}
+use Rattle.gm_plan.specs.inner.Changes.{is_steady, made_step}
+use Rattle.gm_plan.specs.inner.Placed.{Placed, slot_at}
 use Rattle.std.proofs.lemmas.Option.{get_or_from_slice_get}
 use Rattle.gm_theory.proofs.Arcs.{kept_name}
 use Rattle.gm_theory.proofs.NewNames.{added_step, new_name}
@@ -17,9 +17,9 @@ use Rattle.gm_theory.proofs.RuleSteps.{word_below}
 use Rattle.gm_theory.proofs.Tests.{and_true, both_true, true_or_false, true_not, not_both}
 use Rattle.gm_pending.specs.declared.rewrite.Arcs.{Arcs}
 use Rattle.gm_pending.specs.declared.rewrite.Arcs.TheVariants.{Freed, Made}
-use Rattle.gm_pending.specs.Collected.{RewriteOf, as_list, concat_below, slot_in, rewrite_of, end_of, written_step, arc_by, arc_at, arcs_at, removed_of, removed_in}
-use Rattle.gm_pending.specs.EditLists.{IsResultEnd, end_name}
-use Rattle.gm_pending.specs.Results.{PendingOf, IsPrepared, IsRightInstance, rule_in, place_in, scene_in}
+use Rattle.gm_pending.specs.inner.Collected.{RewriteOf, as_list, concat_below, slot_in, rewrite_of, end_of, written_step, arc_by, arc_at, arcs_at, removed_of, removed_in}
+use Rattle.gm_pending.specs.inner.EditLists.{IsResultEnd, end_name}
+use Rattle.gm_pending.specs.inner.Results.{PendingOf, IsPrepared, IsRightInstance, rule_in, place_in, scene_in}
 use Rattle.gm_pending.proofs.Darts.{stays_there}
 use Rattle.gm_pending.proofs.Law.{law}
 use Rattle.gm_pending.proofs.Lefts.{not_left}

@@ -7,13 +7,13 @@ use Rattle.std.proofs.lemmas.List.{length-replicate, length_push, get_or_append_
 use Rattle.std.proofs.lemmas.Option.{none-some, same_Some}
 use Rattle.gm_model.specs.declared.value.Value.{Value}
 use Rattle.gm_arena.specs.declared.slot.Slot.{Slot}
-use Rattle.gm_arena.specs.ArenaMap.{ArenaMap, Dart, IsAt, IsLiveName}
-use Rattle.gm_arena.specs.Edits.{with_dart, free_dart}
-use Rattle.gm_arena.specs.Parts.{part_of}
-use Rattle.gm_arena.specs.Lawful.{IsLawful}
+use Rattle.gm_arena.specs.inner.ArenaMap.{ArenaMap, Dart, IsAt, IsLiveName}
+use Rattle.gm_arena.specs.inner.Edits.{with_dart, free_dart}
+use Rattle.gm_arena.specs.inner.Parts.{part_of}
+use Rattle.gm_arena.specs.inner.Lawful.{IsLawful}
 use Rattle.gm_arena.proofs.InsideLemmas.{is_some_at}
 use Rattle.gm_arena.proofs.MapLemmas.{name_below, get-with_dart_same, get-with_dart_other, IsAt-with_dart_same, slots-with_dart_other}
-use Rattle.gm_pending.specs.Written.{AreWhole, IsExtended, values_at}
+use Rattle.gm_pending.specs.inner.Written.{AreWhole, IsExtended, values_at}
 
 pub none_extended : (m : ArenaMap) (values : List Value) → IsExtended m values [] m
 none_extended m values = record {

@@ -8,12 +8,12 @@ use Rattle.gm_model.specs.Labels.{has}
 use Rattle.gm_model.specs.Maps.{IsEmbedAt, type_of}
 use Rattle.gm_model.specs.Unfolding.{IsArcAfter}
 use Rattle.gm_theory.proofs.Lists.{some_same}
-use Rattle.gm_theory.specs.Theorem.{Unfolded}
+use Rattle.gm_theory.specs.inner.Theorem.{Unfolded}
 use Rattle.gm_walk.specs.declared.at.At.{At}
 use Rattle.gm_walk.specs.declared.mark.Mark.{Mark}
-use Rattle.gm_pending.specs.Marks.{IsMarkedMore, HasDistinctKeys}
-use Rattle.gm_pending.specs.Reached.{AreResultDarts, IsFollowedTo, IsFollowed, IsGrown, IsSpreadTo}
-use Rattle.gm_pending.specs.Results.{PendingOf, IsPrepared, IsResultDart, IsUnfoldedIn, scene_in, name_of}
+use Rattle.gm_pending.specs.inner.Marks.{IsMarkedMore, HasDistinctKeys}
+use Rattle.gm_pending.specs.inner.Reached.{AreResultDarts, IsFollowedTo, IsFollowed, IsGrown, IsSpreadTo}
+use Rattle.gm_pending.specs.inner.Results.{PendingOf, IsPrepared, IsResultDart, IsUnfoldedIn, scene_in, name_of}
 use Rattle.gm_pending.proofs.Reached.{get_within}
 use Rattle.gm_pending.proofs.Spread.{label_within, spread_passes, spread_returns, spread_follows, spread_next}
 

@@ -9,19 +9,19 @@ use Rattle.gm_model.specs.declared.value.Value.TheVariants.{Int}
 use Rattle.gm_model.specs.Maps.{IsEmbedAt}
 use Rattle.gm_model.specs.Unfolding.{added_nodes}
 use Rattle.gm_arena.specs.declared.slot.Slot.{Slot}
-use Rattle.gm_arena.specs.ArenaMap.{IsLiveSlot, name_at}
+use Rattle.gm_arena.specs.inner.ArenaMap.{IsLiveSlot, name_at}
 use Rattle.gm_arena.proofs.MapLemmas.{name_below}
-use Rattle.gm_plan.specs.InArena.{slot_number}
+use Rattle.gm_plan.specs.inner.InArena.{slot_number}
 use Rattle.gm_theory.proofs.Lists.{some_same, none_some, contained_at, get_contained}
 use Rattle.gm_walk.specs.declared.at.At.TheVariants.{Old, New}
 use Rattle.gm_walk.specs.declared.mark.Mark.{Mark}
-use Rattle.gm_pending.specs.EditLists.{AreAddedValues, added_value}
-use Rattle.gm_pending.specs.Gathered.{AreDecidedBelow, AreDecidedFrom, AreKeptValues, IsAmongFirst, IsKeptValue, new_number}
-use Rattle.gm_pending.specs.Marks.{HasKey}
-use Rattle.gm_walk.specs.Keys.{key_of}
-use Rattle.gm_pending.specs.Reached.{AreReached}
-use Rattle.gm_pending.specs.Sources.{HasSourceNode, given_of}
-use Rattle.gm_pending.specs.Results.{PendingOf, IsPrepared, AreAllGiven, IsResultDart, IsValueIn, instances_of, name_of, rule_in}
+use Rattle.gm_pending.specs.inner.EditLists.{AreAddedValues, added_value}
+use Rattle.gm_pending.specs.inner.Gathered.{AreDecidedBelow, AreDecidedFrom, AreKeptValues, IsAmongFirst, IsKeptValue, new_number}
+use Rattle.gm_pending.specs.inner.Marks.{HasKey}
+use Rattle.gm_walk.specs.inner.Keys.{key_of}
+use Rattle.gm_pending.specs.inner.Reached.{AreReached}
+use Rattle.gm_pending.specs.inner.Sources.{HasSourceNode, given_of}
+use Rattle.gm_pending.specs.inner.Results.{PendingOf, IsPrepared, AreAllGiven, IsResultDart, IsValueIn, instances_of, name_of, rule_in}
 use Rattle.gm_pending.proofs.AddedDarts.{new_dart_name}
 use Rattle.gm_pending.proofs.Darts.{live_dart}
 use Rattle.gm_pending.proofs.Reached.{get_within}

@@ -10,15 +10,15 @@ use Rattle.gm_model.specs.declared.value.Value.{Value}
 use Rattle.gm_model.specs.Maps.{IsEmbedAt}
 use Rattle.gm_model.specs.Orbits.{IsPairBefore}
 use Rattle.gm_model.specs.Values.{IsValueOf}
-use Rattle.gm_arena.specs.ArenaMap.{ArenaMap}
-use Rattle.gm_plan.specs.Placed.{Placed}
+use Rattle.gm_arena.specs.inner.ArenaMap.{ArenaMap}
+use Rattle.gm_plan.specs.inner.Placed.{Placed}
 use Rattle.gm_theory.proofs.Lists.{some_same, none_some, contained_at, get_contained}
 use Rattle.gm_pending.specs.declared.decided_orbits.DecidedOrbits.{DecidedOrbits}
 use Rattle.gm_pending.specs.declared.deciding_instance.DecidingInstance.{DecidingInstance}
 use Rattle.gm_walk.specs.declared.mark.Mark.{Mark}
-use Rattle.gm_pending.specs.Answered.{instances_in, pending_as, AreDecidedOrbits}
-use Rattle.gm_pending.specs.Reached.{AreReached}
-use Rattle.gm_pending.specs.Results.{PendingOf, IsPrepared, AreDecidingInstances, IsDecidedIn, IsDecidingIn, instances_of, deciding_of, given_at, name_of, with_instances}
+use Rattle.gm_pending.specs.inner.Answered.{instances_in, pending_as, AreDecidedOrbits}
+use Rattle.gm_pending.specs.inner.Reached.{AreReached}
+use Rattle.gm_pending.specs.inner.Results.{PendingOf, IsPrepared, AreDecidingInstances, IsDecidedIn, IsDecidingIn, instances_of, deciding_of, given_at, name_of, with_instances}
 use Rattle.gm_pending.proofs.Answered.{answered_at}
 use Rattle.gm_pending.proofs.Answering.{kept_answers, kept_is, kept_prepared}
 

@@ -4,14 +4,14 @@ use Rattle.gm_model.specs.declared.rule.Side.TheVariants.{Right}
 use Rattle.gm_model.specs.declared.step.Step.TheVariants.{Absent}
 use Rattle.gm_model.specs.Rules.{has_word, step}
 use Rattle.gm_model.specs.Unfolding.{IsMadeArc, IsArcAfter}
-use Rattle.gm_arena.specs.ArenaMap.{IsAt, IsLiveSlot, name_at, alpha}
+use Rattle.gm_arena.specs.inner.ArenaMap.{IsAt, IsLiveSlot, name_at, alpha}
 use Rattle.gm_arena.proofs.InsideLemmas.{is_some_at}
 use Rattle.gm_arena.proofs.MapLemmas.{name_at-is}
-use Rattle.gm_plan.specs.Changes.{is_steady, made_step}
+use Rattle.gm_plan.specs.inner.Changes.{is_steady, made_step}
 use Rattle.gm_theory.proofs.Arcs.{arc_to}
 use Rattle.gm_theory.proofs.Tests.{and_true, true_not, true_or_false}
 use Rattle.gm_walk.specs.declared.at.At.TheVariants.{Old}
-use Rattle.gm_pending.specs.Results.{PendingOf, IsPrepared, rule_in, scene_in, IsResultDart}
+use Rattle.gm_pending.specs.inner.Results.{PendingOf, IsPrepared, rule_in, scene_in, IsResultDart}
 use Rattle.gm_pending.proofs.Collected.{steady_there}
 use Rattle.gm_pending.proofs.Darts.{old_result, result_dart}
 use Rattle.gm_pending.proofs.Law.{law}

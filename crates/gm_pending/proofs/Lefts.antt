@@ -2,7 +2,7 @@
 use Rattle.std.proofs.Common.{◌≡◌, ℕ, ◌<◌, ◌≤◌, not, false, IsTrue, inl, inr, arith}
 use Rattle.gm_model.specs.declared.rule.Side.TheVariants.{Left, Right}
 use Rattle.gm_model.specs.Rules.{Rule, has_word, is_added}
-use Rattle.gm_plan.specs.Plans.{IsLeftCount}
+use Rattle.gm_plan.specs.inner.Plans.{IsLeftCount}
 use Rattle.gm_theory.proofs.Tests.{and_true, true_not, true_or_false}
 
 module _ (rule : Rule) (left x : ℕ) (count : IsLeftCount rule left) (late : left ≤ x) where

@@ -4,12 +4,12 @@ use Rattle.std.specs.List.{zip}
 use Rattle.std.proofs.lemmas.List.{append_assoc, append-nil}
 use Rattle.std.proofs.lemmas.List.Elements.{All-from_get_or}
 use Rattle.gm_arena.specs.declared.slot.Slot.{Slot}
-use Rattle.gm_arena.specs.ArenaMap.{ArenaMap, IsLiveSlot, name_at}
-use Rattle.gm_arena.specs.Edits.{with_alpha, with_alphas}
-use Rattle.gm_pending.specs.Arcs.{Arc}
-use Rattle.gm_pending.specs.Arcs.{End}
-use Rattle.gm_pending.specs.Collected.{concat_below}
-use Rattle.gm_pending.specs.Written.{IsLiveEnd, slot_of, end_at, with_arcs}
+use Rattle.gm_arena.specs.inner.ArenaMap.{ArenaMap, IsLiveSlot, name_at}
+use Rattle.gm_arena.specs.inner.Edits.{with_alpha, with_alphas}
+use Rattle.gm_pending.specs.inner.Arcs.{Arc}
+use Rattle.gm_pending.specs.inner.Arcs.{End}
+use Rattle.gm_pending.specs.inner.Collected.{concat_below}
+use Rattle.gm_pending.specs.inner.Written.{IsLiveEnd, slot_of, end_at, with_arcs}
 
 concat_first : {A : Type 0} (f : ℕ → List A) (n : ℕ) → concat_below f (suc n) ≡ f 0 ++ concat_below (λ p. f (suc p)) n
 concat_first f zero = sym (append-nil (f 0))

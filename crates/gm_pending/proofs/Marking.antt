@@ -3,7 +3,7 @@ use Rattle.std.proofs.Common.{◌≡◌, ℕ, ◌<◌, true, List, Option, None,
 use Rattle.std.specs.Option.{is_some}
 use Rattle.std.proofs.lemmas.Bool.{false≢true}
 use Rattle.gm_walk.specs.declared.mark.Mark.{Mark}
-use Rattle.gm_pending.specs.Marks.{bit_of, HasKey, IsMarkedBy, IsQuick}
+use Rattle.gm_pending.specs.inner.Marks.{bit_of, HasKey, IsMarkedBy, IsQuick}
 
 -- a bit is one of 64
 pub bit_below : (bit key : ℕ) → bit ≡ bit_of key → bit < 64

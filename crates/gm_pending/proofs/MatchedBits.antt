@@ -2,11 +2,11 @@
 use Rattle.std.proofs.Common.{◌≡◌, ◌≢◌, ℕ, ◌+◌, ◌*◌, ◌<◌, ◌≤◌, length, slice_index_or, subst, arith}
 use Rattle.std.specs.Int.{bit_at}
 use Rattle.std.proofs.lemmas.Nat.Bits.{bit_at_ones}
-use Rattle.gm_plan.specs.InArena.{slot_number}
-use Rattle.gm_plan.specs.Lookup.{IsWithin}
-use Rattle.gm_plan.specs.Placed.{Placed}
-use Rattle.gm_pending.specs.Answered.{AreMatchedSeen}
-use Rattle.gm_pending.specs.Marks.{bit_of}
+use Rattle.gm_plan.specs.inner.InArena.{slot_number}
+use Rattle.gm_plan.specs.inner.Lookup.{IsWithin}
+use Rattle.gm_plan.specs.inner.Placed.{Placed}
+use Rattle.gm_pending.specs.inner.Answered.{AreMatchedSeen}
+use Rattle.gm_pending.specs.inner.Marks.{bit_of}
 
 -- those of all slots are those of all instances
 pub matched_seen : (placed : Placed) (bits : ℕ) → placed.positions * placed.nodes ≡ length placed.slots

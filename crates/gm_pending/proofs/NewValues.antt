@@ -11,15 +11,15 @@ use Rattle.gm_model.specs.Maps.{IsEmbedAt, type_of}
 use Rattle.gm_model.specs.NewValues.{IsValueAfter, Decided, Kept, Added}
 use Rattle.gm_model.specs.Rules.{has_word}
 use Rattle.gm_model.specs.Values.{kind_of, IsValueOf}
-use Rattle.gm_arena.specs.ArenaAsMap.{as_map}
-use Rattle.gm_arena.specs.Parts.{part_of}
-use Rattle.gm_arena.specs.Lawful.{AreGoodValues}
+use Rattle.gm_arena.specs.inner.ArenaAsMap.{as_map}
+use Rattle.gm_arena.specs.inner.Parts.{part_of}
+use Rattle.gm_arena.specs.inner.Lawful.{AreGoodValues}
 use Rattle.gm_arena.proofs.InsideLemmas.{part_long}
 use Rattle.gm_theory.proofs.Keeps.{rules_keep_generalised_maps}
 use Rattle.gm_theory.proofs.Tests.{both_true}
-use Rattle.gm_theory.specs.Theorem.{Unfolded}
-use Rattle.gm_pending.specs.EditLists.{AreAddedValues, added_value}
-use Rattle.gm_pending.specs.Results.{PendingOf, IsPrepared, IsGivenIn, IsUnfoldedIn, IsValueIn, rule_in, place_in}
+use Rattle.gm_theory.specs.inner.Theorem.{Unfolded}
+use Rattle.gm_pending.specs.inner.EditLists.{AreAddedValues, added_value}
+use Rattle.gm_pending.specs.inner.Results.{PendingOf, IsPrepared, IsGivenIn, IsUnfoldedIn, IsValueIn, rule_in, place_in}
 
 -- an entry of a part is one of the whole
 pub part_entry : (width : ℕ) (values : List Value) (number e : ℕ) (v : Value) → e < width → get_or (part_of width values number) e v ≡ get_or values (number * width + e) v

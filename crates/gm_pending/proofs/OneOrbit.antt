@@ -10,19 +10,19 @@ use Rattle.gm_model.specs.Maps.{IsEmbedAt, type_of}
 use Rattle.gm_model.specs.Matches.{IsFirstTurn}
 use Rattle.gm_model.specs.Orbits.{IsInOrbit}
 use Rattle.gm_model.specs.Rules.{Rule, has_word, step, width}
-use Rattle.gm_arena.specs.ArenaAsMap.{as_map}
+use Rattle.gm_arena.specs.inner.ArenaAsMap.{as_map}
 use Rattle.gm_theory.proofs.Arcs.{letter_arc, right_dart, same_instance}
 use Rattle.gm_theory.proofs.Keeps.{rules_keep_generalised_maps}
 use Rattle.gm_theory.proofs.Lists.{some_same, contained_at, get_contained}
 use Rattle.gm_theory.proofs.Turns.{first_turn}
 use Rattle.gm_theory.proofs.ValuesReadOff.{letter_step}
-use Rattle.gm_theory.specs.Theorem.{Unfolded, IsDartOf}
+use Rattle.gm_theory.specs.inner.Theorem.{Unfolded, IsDartOf}
 use Rattle.gm_walk.specs.declared.at.At.{At}
 use Rattle.gm_walk.specs.declared.mark.Mark.{Mark}
-use Rattle.gm_pending.specs.Marks.{reached_by, HasKey}
-use Rattle.gm_walk.specs.Keys.{key_of}
-use Rattle.gm_pending.specs.Reached.{AreMarkedTo, AreResultDarts, HasMark, IsAlwaysOneOrbit, IsClosed, IsGrown, IsSpreadTo, IsUnmarked}
-use Rattle.gm_pending.specs.Results.{PendingOf, IsPrepared, IsResultDart, IsUnfoldedIn, name_of, place_in, rule_in, scene_in}
+use Rattle.gm_pending.specs.inner.Marks.{reached_by, HasKey}
+use Rattle.gm_walk.specs.inner.Keys.{key_of}
+use Rattle.gm_pending.specs.inner.Reached.{AreMarkedTo, AreResultDarts, HasMark, IsAlwaysOneOrbit, IsClosed, IsGrown, IsSpreadTo, IsUnmarked}
+use Rattle.gm_pending.specs.inner.Results.{PendingOf, IsPrepared, IsResultDart, IsUnfoldedIn, name_of, place_in, rule_in, scene_in}
 use Rattle.gm_pending.proofs.Law.{law}
 use Rattle.gm_pending.proofs.Reached.{get_within, kept_at, kept_or_last, last_among}
 use Rattle.gm_pending.proofs.Spread.{closed_along, label_within, mark_kept, orbit_back, orbit_step, same_key, same_name}

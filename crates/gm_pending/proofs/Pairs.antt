@@ -12,14 +12,14 @@ use Rattle.gm_model.specs.Orbits.{IsInOrbit}
 use Rattle.gm_model.specs.Unfolding.{IsArcAfter}
 use Rattle.gm_model.specs.Labels.{has}
 use Rattle.gm_theory.proofs.Lists.{some_same, contained_at, get_contained}
-use Rattle.gm_theory.specs.Theorem.{Unfolded, IsDartOf}
+use Rattle.gm_theory.specs.inner.Theorem.{Unfolded, IsDartOf}
 use Rattle.gm_walk.specs.declared.at.At.{At}
 use Rattle.gm_walk.specs.declared.mark.Mark.{Mark}
-use Rattle.gm_pending.specs.Marks.{reached_by, HasKey, IsMarkedMore, HasDistinctKeys}
-use Rattle.gm_walk.specs.Keys.{key_of}
-use Rattle.gm_pending.specs.Pairs.{IsPair}
-use Rattle.gm_pending.specs.Reached.{AreResultDarts, HasMark, IsAdded, IsClosed, IsSpreadTo, IsFollowedBut, IsFollowedOut, IsGoneOn}
-use Rattle.gm_pending.specs.Results.{PendingOf, IsPrepared, IsResultDart, IsUnfoldedIn, name_of, scene_in}
+use Rattle.gm_pending.specs.inner.Marks.{reached_by, HasKey, IsMarkedMore, HasDistinctKeys}
+use Rattle.gm_walk.specs.inner.Keys.{key_of}
+use Rattle.gm_pending.specs.inner.Pairs.{IsPair}
+use Rattle.gm_pending.specs.inner.Reached.{AreResultDarts, HasMark, IsAdded, IsClosed, IsSpreadTo, IsFollowedBut, IsFollowedOut, IsGoneOn}
+use Rattle.gm_pending.specs.inner.Results.{PendingOf, IsPrepared, IsResultDart, IsUnfoldedIn, name_of, scene_in}
 use Rattle.gm_pending.proofs.Reached.{get_within, key_marked, last_at, last_among}
 use Rattle.gm_pending.proofs.Spread.{same_key, same_name, mark_kept, marked_kept, marked_or_last, after_map, dart_after, label_within, orbit_step, nothing_grown, grown_more, marked_now}
 

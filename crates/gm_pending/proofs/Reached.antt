@@ -9,9 +9,9 @@ use Rattle.std.proofs.lemmas.Option.{slice_get_within, slice_get-get_or}
 use Rattle.gm_theory.proofs.Lists.{some_same, none_some, contained_at, get_contained}
 use Rattle.gm_walk.specs.declared.mark.Mark.{Mark}
 use Rattle.gm_walk.specs.declared.at.At.{At}
-use Rattle.gm_plan.specs.Indices.{AreTheSame, IsOneMore}
-use Rattle.gm_pending.specs.Marks.{ByKey, bit_of, reached_by, HasKey, AreMarked, AreSeen, IsIndex, IsMarkedBy, IsMarkedMore, HasDistinctKeys}
-use Rattle.gm_walk.specs.Keys.{key_of}
+use Rattle.gm_plan.specs.inner.Indices.{AreTheSame, IsOneMore}
+use Rattle.gm_pending.specs.inner.Marks.{ByKey, bit_of, reached_by, HasKey, AreMarked, AreSeen, IsIndex, IsMarkedBy, IsMarkedMore, HasDistinctKeys}
+use Rattle.gm_walk.specs.inner.Keys.{key_of}
 
 -- ---- a list with one more element
 

@@ -8,21 +8,21 @@ use Rattle.gm_model.specs.GMap.{IsGMap}
 use Rattle.gm_model.specs.Maps.{IsEmbedAt, type_of}
 use Rattle.gm_model.specs.Orbits.{IsInOrbit, IsPathIn, IsPairBefore, follow}
 use Rattle.gm_model.specs.Rules.{has_word}
-use Rattle.gm_arena.specs.ArenaMap.{name_at}
+use Rattle.gm_arena.specs.inner.ArenaMap.{name_at}
 use Rattle.gm_theory.proofs.Arcs.{same_instance}
 use Rattle.gm_theory.proofs.Lists.{some_same, none_some, contained_at, get_contained}
 use Rattle.gm_theory.proofs.Results.{unfolding_generalised}
 use Rattle.gm_theory.proofs.RuleSteps.{word_below}
 use Rattle.gm_theory.proofs.Tests.{both_true, not_true, not_both}
 use Rattle.gm_theory.proofs.ValuesReach.{orbit_through}
-use Rattle.gm_theory.specs.Theorem.{Unfolded, IsDartOf}
+use Rattle.gm_theory.specs.inner.Theorem.{Unfolded, IsDartOf}
 use Rattle.gm_walk.specs.declared.at.At.{At}
 use Rattle.gm_walk.specs.declared.at.At.TheVariants.{Old, New}
 use Rattle.gm_walk.specs.declared.mark.Mark.{Mark}
-use Rattle.gm_pending.specs.Marks.{reached_by, HasKey, IsMarkedMore, HasDistinctKeys}
-use Rattle.gm_walk.specs.Keys.{key_of}
-use Rattle.gm_pending.specs.Reached.{AreResultDarts, HasMark, IsAdded, IsClosed, IsGrown, IsSpreadTo}
-use Rattle.gm_pending.specs.Results.{PendingOf, IsPrepared, IsResultDart, IsUnfoldedIn, rule_in, scene_in, name_of}
+use Rattle.gm_pending.specs.inner.Marks.{reached_by, HasKey, IsMarkedMore, HasDistinctKeys}
+use Rattle.gm_walk.specs.inner.Keys.{key_of}
+use Rattle.gm_pending.specs.inner.Reached.{AreResultDarts, HasMark, IsAdded, IsClosed, IsGrown, IsSpreadTo}
+use Rattle.gm_pending.specs.inner.Results.{PendingOf, IsPrepared, IsResultDart, IsUnfoldedIn, rule_in, scene_in, name_of}
 use Rattle.gm_pending.proofs.Darts.{same_slot, live_dart, result_dart}
 use Rattle.gm_pending.proofs.Law.{law}
 use Rattle.gm_pending.proofs.Reached.{kept_at, kept_or_last, last_among, get_within}

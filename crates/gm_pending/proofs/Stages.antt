@@ -6,16 +6,16 @@ use Rattle.gm_model.specs.declared.schema.Schema.{Schema}
 use Rattle.gm_model.specs.GMap.{IsGMap}
 use Rattle.gm_model.specs.Maps.{IsDart, IsGeneralised}
 use Rattle.gm_arena.specs.declared.slot.Slot.{Slot}
-use Rattle.gm_arena.specs.ArenaAsMap.{as_map}
-use Rattle.gm_arena.specs.ArenaMap.{ArenaMap, alpha}
-use Rattle.gm_arena.specs.Parts.{part_of}
-use Rattle.gm_arena.specs.Lawful.{AreGoodValues}
+use Rattle.gm_arena.specs.inner.ArenaAsMap.{as_map}
+use Rattle.gm_arena.specs.inner.ArenaMap.{ArenaMap, alpha}
+use Rattle.gm_arena.specs.inner.Parts.{part_of}
+use Rattle.gm_arena.specs.inner.Lawful.{AreGoodValues}
 use Rattle.gm_theory.proofs.Results.{unfolding_generalised}
-use Rattle.gm_pending.specs.Arcs.{Arc}
+use Rattle.gm_pending.specs.inner.Arcs.{Arc}
 use Rattle.gm_pending.specs.declared.changes.ValueAt.{ValueAt}
-use Rattle.gm_pending.specs.Results.{PendingOf, scene_in}
-use Rattle.gm_pending.specs.EditLists.{EditLists, HasSameRows, AreEditsOf, IsResultOf, IsUntouched}
-use Rattle.gm_pending.specs.Written.{IsWritable, IsSettable, CanRemove, IsExtended, end_at, with_arcs, with_values, without_darts}
+use Rattle.gm_pending.specs.inner.Results.{PendingOf, scene_in}
+use Rattle.gm_pending.specs.inner.EditLists.{EditLists, HasSameRows, AreEditsOf, IsResultOf, IsUntouched}
+use Rattle.gm_pending.specs.inner.Written.{IsWritable, IsSettable, CanRemove, IsExtended, end_at, with_arcs, with_values, without_darts}
 use Rattle.gm_pending.proofs.Committed
 use Rattle.gm_pending.proofs.Law.{law}
 use Rattle.gm_pending.proofs.NewValues.{added_good}

@@ -3,7 +3,7 @@ use Rattle.std.proofs.Common.{◌≡◌, true, false, IsTrue, refl, ap}
 use Rattle.std.proofs.lemmas.Bool.{eqb-true}
 use Rattle.gm_model.specs.declared.step.Step.{Step}
 use Rattle.gm_model.specs.declared.step.Step.TheVariants.{Absent, Exp, Imp}
-use Rattle.gm_plan.specs.Changes.{is_same}
+use Rattle.gm_plan.specs.inner.Changes.{is_same}
 
 pub same_step : (a b : Step) → IsTrue (is_same a b) → a ≡ b
 same_step Absent Absent h = refl

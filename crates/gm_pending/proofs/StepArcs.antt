@@ -4,13 +4,13 @@ use Rattle.std.specs.List.{Contains}
 use Rattle.gm_model.specs.declared.step.Step.{Step}
 use Rattle.gm_model.specs.declared.step.Step.TheVariants.{Absent, Exp, Imp}
 use Rattle.gm_arena.specs.declared.slot.Slot.{Slot}
-use Rattle.gm_arena.specs.ArenaMap.{ArenaMap}
-use Rattle.gm_plan.specs.Placed.{turn_at}
-use Rattle.gm_pending.specs.Arcs.{Arc}
+use Rattle.gm_arena.specs.inner.ArenaMap.{ArenaMap}
+use Rattle.gm_plan.specs.inner.Placed.{turn_at}
+use Rattle.gm_pending.specs.inner.Arcs.{Arc}
 use Rattle.gm_pending.specs.declared.rewrite.Arcs.{Arcs}
 use Rattle.gm_pending.specs.declared.rewrite.Arcs.TheVariants.{Freed, Made}
-use Rattle.gm_pending.specs.Collected.{RewriteOf, as_list, concat_below, written_step, arc_between, arcs_to, arc_by, arcs_at}
-use Rattle.gm_pending.specs.Written.{IsWritable, end_at, with_arcs}
+use Rattle.gm_pending.specs.inner.Collected.{RewriteOf, as_list, concat_below, written_step, arc_between, arcs_to, arc_by, arcs_at}
+use Rattle.gm_pending.specs.inner.Written.{IsWritable, end_at, with_arcs}
 use Rattle.gm_pending.proofs.Concat.{contains_concat}
 use Rattle.gm_pending.proofs.Whole.{contains_first}
 use Rattle.gm_pending.proofs.Writing.{AreWritten}

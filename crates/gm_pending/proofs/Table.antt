@@ -4,8 +4,8 @@ use Rattle.std.proofs.lemmas.Bool.{cases_eq, cases_lt, lt-ltb, le-ltb}
 use Rattle.std.proofs.lemmas.List.{get_or_append_left, get_or-append-add}
 use Rattle.std.proofs.lemmas.Nat.{mul-le}
 use Rattle.gm_arena.specs.declared.slot.Slot.{Slot}
-use Rattle.gm_pending.specs.Collected.{RewriteOf, concat_below, slot_in, end_of, left_slots_of, left_slots, made_in, AreSlots}
-use Rattle.gm_pending.specs.Written.{HasSlot, slot_of}
+use Rattle.gm_pending.specs.inner.Collected.{RewriteOf, concat_below, slot_in, end_of, left_slots_of, left_slots, made_in, AreSlots}
+use Rattle.gm_pending.specs.inner.Written.{HasSlot, slot_of}
 use Rattle.gm_pending.proofs.Concat.{length_same}
 
 module _ {A : Type 0} (f : ℕ → List A) (k : ℕ) (each : (i : ℕ) → length (f i) ≡ k) where

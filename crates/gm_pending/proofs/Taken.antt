@@ -4,15 +4,15 @@ use Rattle.std.specs.List.{Contains}
 use Rattle.std.proofs.lemmas.List.{length_push}
 use Rattle.std.proofs.lemmas.List.Elements.{Contains-append_left, Contains-push, Contains-push_cases}
 use Rattle.gm_arena.specs.declared.slot.Slot.{Slot}
-use Rattle.gm_arena.specs.ArenaMap.{ArenaMap, IsLiveSlot}
-use Rattle.gm_arena.specs.Lawful.{IsLawful}
+use Rattle.gm_arena.specs.inner.ArenaMap.{ArenaMap, IsLiveSlot}
+use Rattle.gm_arena.specs.inner.Lawful.{IsLawful}
 use Rattle.gm_arena.proofs.MapLemmas.{IsAt-name_at}
-use Rattle.gm_walk.specs.Room.{Room, TakesIn, Known, Added}
+use Rattle.gm_walk.specs.inner.Room.{Room, TakesIn, Known, Added}
 use Rattle.gm_pending.specs.declared.changes.ValueAt.{ValueAt}
-use Rattle.gm_pending.specs.EditLists.{EditLists, AreDistinct, AreEditsHere, AreEditsOf, IsReachedSumIn, IsTouchedBy, Matched, Valued}
-use Rattle.gm_pending.specs.OwnEdits.{AreTouched}
-use Rattle.gm_pending.specs.Results.{PendingOf, rule_in}
-use Rattle.gm_pending.specs.Touched.{AreTaken, IsSetAmong}
+use Rattle.gm_pending.specs.inner.EditLists.{EditLists, AreDistinct, AreEditsHere, AreEditsOf, IsReachedSumIn, IsTouchedBy, Matched, Valued}
+use Rattle.gm_pending.specs.inner.OwnEdits.{AreTouched}
+use Rattle.gm_pending.specs.inner.Results.{PendingOf, rule_in}
+use Rattle.gm_pending.specs.inner.Touched.{AreTaken, IsSetAmong}
 use Rattle.gm_pending.proofs.Whole.{contains_first, contains_later, contains_none}
 
 pub none_taken : AreTaken [] [] []

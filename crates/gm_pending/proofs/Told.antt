@@ -5,17 +5,17 @@ use Rattle.gm_model.specs.declared.rule.Side.TheVariants.{Left, Right}
 use Rattle.gm_model.specs.declared.step.Step.TheVariants.{Imp}
 use Rattle.gm_model.specs.Rules.{has_word, is_removed}
 use Rattle.gm_plan.proofs.Rows.{row_step_is}
-use Rattle.gm_plan.specs.Changes.{freed_step, has_bit, made_step}
-use Rattle.gm_plan.specs.Counts.{removed_nodes}
-use Rattle.gm_plan.specs.Placed.{Placed}
-use Rattle.gm_plan.specs.Plans.{AreRows}
-use Rattle.gm_plan.specs.Searches.{row_step}
+use Rattle.gm_plan.specs.inner.Changes.{freed_step, has_bit, made_step}
+use Rattle.gm_plan.specs.inner.Counts.{removed_nodes}
+use Rattle.gm_plan.specs.inner.Placed.{Placed}
+use Rattle.gm_plan.specs.inner.Plans.{AreRows}
+use Rattle.gm_plan.specs.inner.Searches.{row_step}
 use Rattle.gm_theory.proofs.RuleSteps.{step_within}
 use Rattle.gm_theory.proofs.Tests.{both_true}
 use Rattle.gm_pending.specs.declared.rewrite.Arcs.{Arcs}
 use Rattle.gm_pending.specs.declared.rewrite.Arcs.TheVariants.{Freed, Made}
-use Rattle.gm_pending.specs.Collected.{RewriteOf, RewriteRows, IsFitted, AreAlike, told_by, rewrite_of, as_list, concat_below, slot_in, left_slots, labels, written_step, arc_by, arcs_at, arcs_in, all_arcs, removed_in, all_removed}
-use Rattle.gm_pending.specs.Results.{PendingOf, IsPrepared, rule_in}
+use Rattle.gm_pending.specs.inner.Collected.{RewriteOf, RewriteRows, IsFitted, AreAlike, told_by, rewrite_of, as_list, concat_below, slot_in, left_slots, labels, written_step, arc_by, arcs_at, arcs_in, all_arcs, removed_in, all_removed}
+use Rattle.gm_pending.specs.inner.Results.{PendingOf, IsPrepared, rule_in}
 use Rattle.gm_pending.proofs.Ends.{made_turn}
 use Rattle.gm_pending.proofs.Unremoved.{stays, unfreed}
 

@@ -11,23 +11,23 @@ use Rattle.gm_model.specs.declared.schema.Embed.{Embed}
 use Rattle.gm_model.specs.declared.value.Value.{Value}
 use Rattle.gm_model.specs.Maps.{IsEmbedAt}
 use Rattle.gm_arena.specs.declared.slot.Slot.{Slot}
-use Rattle.gm_arena.specs.ArenaMap.{ArenaMap, name_at}
-use Rattle.gm_arena.specs.Edits.{with_value}
+use Rattle.gm_arena.specs.inner.ArenaMap.{ArenaMap, name_at}
+use Rattle.gm_arena.specs.inner.Edits.{with_value}
 use Rattle.gm_arena.proofs.InsideLemmas.{some_of}
-use Rattle.gm_plan.specs.Placed.{Placed}
+use Rattle.gm_plan.specs.inner.Placed.{Placed}
 use Rattle.gm_walk.specs.declared.at.At.{At}
 use Rattle.gm_walk.specs.declared.at.At.TheVariants.{Old, New}
 use Rattle.gm_pending.specs.declared.changes.ValueAt.{ValueAt}
 use Rattle.gm_pending.specs.declared.decided_orbits.DecidedOrbits.{DecidedOrbits}
 use Rattle.gm_pending.specs.declared.deciding_instance.DecidingInstance.{DecidingInstance}
 use Rattle.gm_walk.specs.declared.mark.Mark.{Mark}
-use Rattle.gm_pending.specs.Answered.{AreDecidedOrbits, pending_as}
-use Rattle.gm_pending.specs.EditLists.{AllGiven, AreNewValues}
-use Rattle.gm_pending.specs.Reached.{AreReached}
-use Rattle.gm_pending.specs.Results.{PendingOf, AreAllGiven, IsPrepared, IsValueIn, instances_of, name_of}
-use Rattle.gm_pending.specs.Sources.{given_of}
-use Rattle.gm_pending.specs.ToldEdits.{told_at, told_from, told_in, told_of, values_told}
-use Rattle.gm_pending.specs.Written.{with_values}
+use Rattle.gm_pending.specs.inner.Answered.{AreDecidedOrbits, pending_as}
+use Rattle.gm_pending.specs.inner.EditLists.{AllGiven, AreNewValues}
+use Rattle.gm_pending.specs.inner.Reached.{AreReached}
+use Rattle.gm_pending.specs.inner.Results.{PendingOf, AreAllGiven, IsPrepared, IsValueIn, instances_of, name_of}
+use Rattle.gm_pending.specs.inner.Sources.{given_of}
+use Rattle.gm_pending.specs.inner.ToldEdits.{told_at, told_from, told_in, told_of, values_told}
+use Rattle.gm_pending.specs.inner.Written.{with_values}
 use Rattle.gm_pending.proofs.Answered.{answered_at, answered_reached, unanswered_at}
 use Rattle.gm_pending.proofs.Gathered.{AreAllReached, AreGathered, AreGatheredBelow, AreGatheredFrom, all_below, all_gathered, all_reached, more_below, new_passed, none_below, none_gathered, old_gathered, value_at}
 use Rattle.gm_pending.proofs.GivenValues.{entry_given, entry_value}

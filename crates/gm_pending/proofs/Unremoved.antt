@@ -5,13 +5,13 @@ use Rattle.gm_model.specs.declared.rule.Side.TheVariants.{Left, Right}
 use Rattle.gm_model.specs.declared.step.Step.{Step}
 use Rattle.gm_model.specs.declared.step.Step.TheVariants.{Absent, Exp, Imp}
 use Rattle.gm_model.specs.Rules.{Rule, has_word, is_removed, step}
-use Rattle.gm_plan.specs.Changes.{freed_by, freed_step}
-use Rattle.gm_plan.specs.Counts.{removed_before, removed_nodes}
-use Rattle.gm_plan.specs.Searches.{row_step}
+use Rattle.gm_plan.specs.inner.Changes.{freed_by, freed_step}
+use Rattle.gm_plan.specs.inner.Counts.{removed_before, removed_nodes}
+use Rattle.gm_plan.specs.inner.Searches.{row_step}
 use Rattle.gm_theory.proofs.RuleSteps.{word_below}
 use Rattle.gm_theory.proofs.Tests.{both_true, true_or_false}
 use Rattle.gm_pending.specs.declared.rewrite.Arcs.TheVariants.{Freed}
-use Rattle.gm_pending.specs.Collected.{RewriteRows, IsFitted, told_by, concat_below, labels, arcs_at, arcs_in, all_arcs, removed_in, all_removed}
+use Rattle.gm_pending.specs.inner.Collected.{RewriteRows, IsFitted, told_by, concat_below, labels, arcs_at, arcs_in, all_arcs, removed_in, all_removed}
 use Rattle.gm_pending.proofs.Ends.{no_arcs, none_removed}
 
 module _ {A : Type 0} where

@@ -7,24 +7,24 @@ use Rattle.gm_model.specs.Components.{IsTogether, IsAssigned, IsKeeper, IsUnassi
 use Rattle.gm_model.specs.Maps.{IsEmbedAt, type_of}
 use Rattle.gm_model.specs.NewValues.{IsUndecided, LiesIn, IsValueAfter, Decided, Kept, Added}
 use Rattle.gm_model.specs.Rules.{has_word, is_preserved, width, hook_label}
-use Rattle.gm_arena.specs.ArenaAsMap.{as_map, value}
-use Rattle.gm_arena.specs.ArenaMap.{name_at}
-use Rattle.gm_plan.specs.InArena.{slot_number}
+use Rattle.gm_arena.specs.inner.ArenaAsMap.{as_map, value}
+use Rattle.gm_arena.specs.inner.ArenaMap.{name_at}
+use Rattle.gm_plan.specs.inner.InArena.{slot_number}
 use Rattle.gm_theory.proofs.Lists.{get_contained}
 use Rattle.gm_theory.proofs.NoFault.{one_keeper}
 use Rattle.gm_theory.proofs.Tests.{both_true}
 use Rattle.gm_theory.proofs.ValuesAcross.{new_together}
 use Rattle.gm_theory.proofs.ValuesReadOff.{read_off}
-use Rattle.gm_theory.specs.Theorem.{Unfolded, IsDartOf}
+use Rattle.gm_theory.specs.inner.Theorem.{Unfolded, IsDartOf}
 use Rattle.gm_walk.specs.declared.at.At.{At}
 use Rattle.gm_walk.specs.declared.at.At.TheVariants.{Old, New}
 use Rattle.gm_pending.specs.declared.deciding_instance.DecidingInstance.{DecidingInstance}
 use Rattle.gm_walk.specs.declared.mark.Mark.{Mark}
-use Rattle.gm_pending.specs.Marks.{HasKey, IsMarkedBy}
-use Rattle.gm_walk.specs.Keys.{key_of}
-use Rattle.gm_pending.specs.Reached.{AreReached}
-use Rattle.gm_pending.specs.Sources.{HasSourceNode, IsKeeperFor, IsOldValue, IsSourceOf, IsSourceValue, given_of}
-use Rattle.gm_pending.specs.Results.{PendingOf, IsPrepared, AreAllGiven, IsDecidedIn, IsGivenIn, IsResultDart, IsUnfoldedIn, IsValueIn, instances_of, rule_in, place_in, scene_in, name_of}
+use Rattle.gm_pending.specs.inner.Marks.{HasKey, IsMarkedBy}
+use Rattle.gm_walk.specs.inner.Keys.{key_of}
+use Rattle.gm_pending.specs.inner.Reached.{AreReached}
+use Rattle.gm_pending.specs.inner.Sources.{HasSourceNode, IsKeeperFor, IsOldValue, IsSourceOf, IsSourceValue, given_of}
+use Rattle.gm_pending.specs.inner.Results.{PendingOf, IsPrepared, AreAllGiven, IsDecidedIn, IsGivenIn, IsResultDart, IsUnfoldedIn, IsValueIn, instances_of, rule_in, place_in, scene_in, name_of}
 use Rattle.gm_pending.proofs.Darts.{live_dart}
 use Rattle.gm_pending.proofs.Law.{law}
 use Rattle.gm_pending.proofs.NewValues.{some_unfolding}

@@ -6,12 +6,12 @@ use Rattle.std.specs.Option.{option_map, option_map_or}
 use Rattle.std.proofs.lemmas.Bool.{cases_eq}
 use Rattle.std.proofs.lemmas.List.{get_or_default, get_or-set_same, length-set}
 use Rattle.std.proofs.lemmas.Option.{none-some}
-use Rattle.gm_arena.specs.ArenaMap.{ArenaMap, Dart, IsLiveName, alpha}
-use Rattle.gm_arena.specs.Edits.{with_alpha, without_dart, turned}
-use Rattle.gm_arena.specs.Lawful.{IsLawful}
+use Rattle.gm_arena.specs.inner.ArenaMap.{ArenaMap, Dart, IsLiveName, alpha}
+use Rattle.gm_arena.specs.inner.Edits.{with_alpha, without_dart, turned}
+use Rattle.gm_arena.specs.inner.Lawful.{IsLawful}
 use Rattle.gm_arena.proofs.InsideLemmas.{some_of, some_from_map}
 use Rattle.gm_arena.proofs.MapLemmas.{get-with_alpha_same, get-with_alpha_other, get-without_dart_same, get-without_dart_other}
-use Rattle.gm_pending.specs.Written.{AreWhole, values_at}
+use Rattle.gm_pending.specs.inner.Written.{AreWhole, values_at}
 
 -- ---- lists
 

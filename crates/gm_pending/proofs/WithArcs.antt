@@ -3,12 +3,12 @@ use Rattle.std.proofs.Common.{◌≡◌, ◌≢◌, ℕ, ◌≤◌, ◌⊎◌, L
 use Rattle.std.specs.FinMap.{get}
 use Rattle.std.specs.List.{Contains}
 use Rattle.std.proofs.lemmas.Bool.{cases_eq}
-use Rattle.gm_arena.specs.ArenaMap.{ArenaMap, IsLiveName, alpha}
-use Rattle.gm_arena.specs.Edits.{with_alpha}
+use Rattle.gm_arena.specs.inner.ArenaMap.{ArenaMap, IsLiveName, alpha}
+use Rattle.gm_arena.specs.inner.Edits.{with_alpha}
 use Rattle.gm_arena.proofs.MapLemmas.{alpha-with_alpha_other, alpha-with_alpha_label, get-with_alpha_other}
-use Rattle.gm_pending.specs.Arcs.{Arc}
-use Rattle.gm_pending.specs.Arcs.{End}
-use Rattle.gm_pending.specs.Written.{AreWhole, values_at, with_arcs}
+use Rattle.gm_pending.specs.inner.Arcs.{Arc}
+use Rattle.gm_pending.specs.inner.Arcs.{End}
+use Rattle.gm_pending.specs.inner.Written.{AreWhole, values_at, with_arcs}
 use Rattle.gm_pending.proofs.Whole.{live_turned, values_turned, whole_turned, alpha_turned, contains_first, contains_later, contains_either, contains_none}
 
 module _ (name : End → ℕ) where

@@ -7,13 +7,13 @@ use Rattle.std.proofs.lemmas.Bool.{cases_eq}
 use Rattle.std.proofs.lemmas.List.{get_or-set_same, get_or-set_other, length-set}
 use Rattle.gm_model.specs.declared.value.Value.{Value}
 use Rattle.gm_model.specs.declared.value.Value.TheVariants.{Int}
-use Rattle.gm_arena.specs.ArenaAsMap.{value}
-use Rattle.gm_arena.specs.ArenaMap.{ArenaMap, Dart, IsLiveName, alpha, name_at}
-use Rattle.gm_arena.specs.Edits.{put_if, revalued, with_value}
+use Rattle.gm_arena.specs.inner.ArenaAsMap.{value}
+use Rattle.gm_arena.specs.inner.ArenaMap.{ArenaMap, Dart, IsLiveName, alpha, name_at}
+use Rattle.gm_arena.specs.inner.Edits.{put_if, revalued, with_value}
 use Rattle.gm_arena.proofs.FilledLemmas.{get-insert_same, get-insert_other}
 use Rattle.gm_arena.proofs.InsideLemmas.{some_of, some_from_map}
 use Rattle.gm_pending.specs.declared.changes.ValueAt.{ValueAt}
-use Rattle.gm_pending.specs.Written.{values_at, with_values}
+use Rattle.gm_pending.specs.inner.Written.{values_at, with_values}
 use Rattle.gm_pending.proofs.Whole.{contains_first, contains_later, contains_either, contains_none, is_some-map}
 
 -- ---- the values of one dart

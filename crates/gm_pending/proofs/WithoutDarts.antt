@@ -3,12 +3,12 @@ use Rattle.std.proofs.Common.{◌≡◌, ◌≢◌, ℕ, ◌+◌, ◌-◌, List,
 use Rattle.std.specs.FinMap.{get}
 use Rattle.std.specs.List.{Contains}
 use Rattle.gm_arena.specs.declared.slot.Slot.{Slot}
-use Rattle.gm_arena.specs.ArenaMap.{ArenaMap, IsLiveSlot, name_at}
-use Rattle.gm_arena.specs.Edits.{IsAlone}
+use Rattle.gm_arena.specs.inner.ArenaMap.{ArenaMap, IsLiveSlot, name_at}
+use Rattle.gm_arena.specs.inner.Edits.{IsAlone}
 use Rattle.gm_arena.proofs.MapLemmas.{get-without_dart_same, get-without_dart_other, alpha-without_dart_other, slots-without_dart_other, IsLiveName-without_dart}
 use Rattle.std.proofs.lemmas.Bool.{cases_eq}
-use Rattle.gm_pending.specs.EditLists.{AreDistinct}
-use Rattle.gm_pending.specs.Written.{AreWhole, CanRemove, without_slot, without_darts}
+use Rattle.gm_pending.specs.inner.EditLists.{AreDistinct}
+use Rattle.gm_pending.specs.inner.Written.{AreWhole, CanRemove, without_slot, without_darts}
 use Rattle.gm_pending.proofs.Whole.{whole_without, contains_first, contains_later, contains_either, contains_none}
 
 -- a later slot keeps its dart

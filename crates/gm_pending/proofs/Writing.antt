@@ -3,12 +3,12 @@ use Rattle.std.proofs.Common.{◌≡◌, ℕ, zero, suc, ◌+◌, ◌<◌, List,
 use Rattle.std.specs.FinMap.{get}
 use Rattle.std.proofs.lemmas.Bool.{cases_eq}
 use Rattle.gm_arena.specs.declared.slot.Slot.{Slot}
-use Rattle.gm_arena.specs.ArenaMap.{ArenaMap, name_at}
-use Rattle.gm_arena.specs.Edits.{with_alpha}
-use Rattle.gm_pending.specs.Arcs.{Arc}
-use Rattle.gm_pending.specs.Arcs.{End}
-use Rattle.gm_pending.specs.Collected.{concat_below}
-use Rattle.gm_pending.specs.Written.{IsWritable, CanRemove, slot_of, end_at, with_arcs, without_slot, without_darts}
+use Rattle.gm_arena.specs.inner.ArenaMap.{ArenaMap, name_at}
+use Rattle.gm_arena.specs.inner.Edits.{with_alpha}
+use Rattle.gm_pending.specs.inner.Arcs.{Arc}
+use Rattle.gm_pending.specs.inner.Arcs.{End}
+use Rattle.gm_pending.specs.inner.Collected.{concat_below}
+use Rattle.gm_pending.specs.inner.Written.{IsWritable, CanRemove, slot_of, end_at, with_arcs, without_slot, without_darts}
 use Rattle.gm_pending.proofs.Concat.{concat_next}
 use Rattle.gm_pending.proofs.WithArcs.{arcs_frame}
 

@@ -1,14 +1,1 @@
-pub mod Arcs
-pub mod Answered
-pub mod Collected
-pub mod EditLists
-pub mod Gathered
-pub mod Marks
-pub mod Pairs
-pub mod Reached
-pub mod Results
-pub mod Sources
-pub mod ToldEdits
-pub mod OwnEdits
-pub mod Touched
-pub mod Written
+pub mod inner

@@ -1,8 +1,8 @@
 ghost use Rattle.std.specs.Prelude.{◌≡◌, ℕ, ◌+◌, ◌*◌, ◌<◌, ◌≤◌, length, IfOk};
-ghost use Rattle.gm_pending.specs.Collected.{AreAlike, told_by, rewrite_of};
-ghost use Rattle.gm_pending.specs.EditLists.{AllGiven, AreEditsOf, AreNewValues, IsReachedSumIn};
-ghost use Rattle.gm_pending.specs.ToldEdits.{values_told};
-ghost use Rattle.gm_pending.specs.Results.{rule_in};
+ghost use Rattle.gm_pending.specs.inner.Collected.{AreAlike, told_by, rewrite_of};
+ghost use Rattle.gm_pending.specs.inner.EditLists.{AllGiven, AreEditsOf, AreNewValues, IsReachedSumIn};
+ghost use Rattle.gm_pending.specs.inner.ToldEdits.{values_told};
+ghost use Rattle.gm_pending.specs.inner.Results.{rule_in};
 
 use crate::decided_orbits::OrbitsByEmbed;
 use crate::pending::Pending;
@@ -39,9 +39,9 @@ pub struct Changes<'a> {
 impl<'a> Model for Changes<'a> {
     ghost use Rattle.std.specs.Prelude.{◌≡◌, ◌+◌, ◌≤◌, length};
     ghost use Rattle.std.specs.Vec.{vec_capacity};
-    ghost use Rattle.gm_pending.specs.Collected.{told_by, left_slots};
-    ghost use Rattle.gm_pending.specs.EditLists.{EditLists, AreDistinct};
-    ghost use Rattle.gm_pending.specs.ToldEdits.{lists_told, values_told};
+    ghost use Rattle.gm_pending.specs.inner.Collected.{told_by, left_slots};
+    ghost use Rattle.gm_pending.specs.inner.EditLists.{EditLists, AreDistinct};
+    ghost use Rattle.gm_pending.specs.inner.ToldEdits.{lists_told, values_told};
 
     ghost Value = { EditLists };
 

@@ -3,14 +3,14 @@ ghost use Rattle.std.specs.FinMap.{get};
 ghost use Rattle.std.specs.List.{Contains};
 ghost use Rattle.std.specs.Option.{option_map};
 ghost use Rattle.gm_model.specs.Maps.{IsGeneralised};
-ghost use Rattle.gm_arena.specs.ArenaAsMap.{as_map};
-ghost use Rattle.gm_arena.specs.ArenaMap.{IsLiveSlot};
+ghost use Rattle.gm_arena.specs.inner.ArenaAsMap.{as_map};
+ghost use Rattle.gm_arena.specs.inner.ArenaMap.{IsLiveSlot};
 ghost use Rattle.gm_arena.specs.declared.slot.Slot.{Slot};
 ghost use Rattle.gm_pending.specs.declared.changes.ValueAt.{ValueAt};
-ghost use Rattle.gm_pending.specs.EditLists.{AreDistinct, AreEditsHere, AreEditsOf, HasSameRows, IsReachedSumIn, IsResultOf, IsUntouched, cost_of};
-ghost use Rattle.gm_pending.specs.OwnEdits.{AreTouched};
-ghost use Rattle.gm_pending.specs.Results.{PendingOf, rule_in};
-ghost use Rattle.gm_pending.specs.Touched.{AreTaken, touched_or};
+ghost use Rattle.gm_pending.specs.inner.EditLists.{AreDistinct, AreEditsHere, AreEditsOf, HasSameRows, IsReachedSumIn, IsResultOf, IsUntouched, cost_of};
+ghost use Rattle.gm_pending.specs.inner.OwnEdits.{AreTouched};
+ghost use Rattle.gm_pending.specs.inner.Results.{PendingOf, rule_in};
+ghost use Rattle.gm_pending.specs.inner.Touched.{AreTaken, touched_or};
 
 use crate::applied::Applied;
 use crate::changes::{Changes, ValueAt};
@@ -49,11 +49,11 @@ impl Model for Edits {
     ghost use Rattle.std.specs.Prelude.{◌≡◌, ◌+◌, ◌≤◌, length};
     ghost use Rattle.std.specs.Option.{option_map};
     ghost use Rattle.std.specs.Vec.{vec_capacity};
-    ghost use Rattle.gm_pending.specs.Collected.{IsFitted, rows_at, told_by, left_slots, all_removed};
-    ghost use Rattle.gm_pending.specs.OwnEdits.{OwnEdits, own_edits};
-    ghost use Rattle.gm_pending.specs.EditLists.{AreDistinct};
-    ghost use Rattle.gm_pending.specs.ToldEdits.{lists_told, values_told};
-    ghost use Rattle.gm_pending.specs.Touched.{touched_or};
+    ghost use Rattle.gm_pending.specs.inner.Collected.{IsFitted, rows_at, told_by, left_slots, all_removed};
+    ghost use Rattle.gm_pending.specs.inner.OwnEdits.{OwnEdits, own_edits};
+    ghost use Rattle.gm_pending.specs.inner.EditLists.{AreDistinct};
+    ghost use Rattle.gm_pending.specs.inner.ToldEdits.{lists_told, values_told};
+    ghost use Rattle.gm_pending.specs.inner.Touched.{touched_or};
 
     ghost Value = { OwnEdits };
 

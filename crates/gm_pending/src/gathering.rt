@@ -2,11 +2,11 @@
 ghost use Rattle.std.specs.Prelude.{◌≡◌, ℕ, ◌+◌, ◌*◌, ◌<◌, ◌≤◌, ◌++◌, length, IfOk, OnOk, IsTrue};
 ghost use Rattle.gm_model.specs.Rules.{is_added};
 ghost use Rattle.gm_model.specs.Unfolding.{added_nodes};
-ghost use Rattle.gm_pending.specs.EditLists.{AllGiven, AreAddedValues};
-ghost use Rattle.gm_pending.specs.Gathered.{AreDecidedBelow, AreKeptValues, new_number};
-ghost use Rattle.gm_pending.specs.Results.{IsPrepared, rule_in};
-ghost use Rattle.gm_pending.specs.Sources.{AreKeepers};
-ghost use Rattle.gm_pending.specs.ToldEdits.{told_of, values_told};
+ghost use Rattle.gm_pending.specs.inner.EditLists.{AllGiven, AreAddedValues};
+ghost use Rattle.gm_pending.specs.inner.Gathered.{AreDecidedBelow, AreKeptValues, new_number};
+ghost use Rattle.gm_pending.specs.inner.Results.{IsPrepared, rule_in};
+ghost use Rattle.gm_pending.specs.inner.Sources.{AreKeepers};
+ghost use Rattle.gm_pending.specs.inner.ToldEdits.{told_of, values_told};
 
 use crate::changes::ValueAt;
 use crate::decided_orbits::DecidedOrbits;

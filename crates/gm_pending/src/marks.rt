@@ -3,9 +3,9 @@ ghost use Rattle.std.specs.Prelude.{◌≡◌, ℕ, ◌*◌, List, ◌∷◌, �
 ghost use Rattle.std.specs.Int.{bit_at};
 ghost use Rattle.std.specs.Vec.{vec_capacity};
 ghost use Rattle.gm_walk.specs.declared.mark.Mark.{Mark};
-ghost use Rattle.gm_pending.specs.Marks.{bit_of, reached_by, HasKey, IsIndex, IsMarkedBy, IsMarkedMore, HasDistinctKeys};
-ghost use Rattle.gm_plan.specs.Indices.{index_at};
-ghost use Rattle.gm_walk.specs.Keys.{key_of};
+ghost use Rattle.gm_pending.specs.inner.Marks.{bit_of, reached_by, HasKey, IsIndex, IsMarkedBy, IsMarkedMore, HasDistinctKeys};
+ghost use Rattle.gm_plan.specs.inner.Indices.{index_at};
+ghost use Rattle.gm_walk.specs.inner.Keys.{key_of};
 
 use gm_arena::Slot;
 use gm_model::OutOfMemory;
@@ -39,9 +39,9 @@ impl Model for Marks {
     ghost use Rattle.std.specs.Prelude.{List};
     ghost use Rattle.gm_walk.specs.declared.mark.Mark.{Mark};
     ghost use Rattle.std.specs.Option.{option_map};
-    ghost use Rattle.gm_plan.specs.Indices.{index_at};
+    ghost use Rattle.gm_plan.specs.inner.Indices.{index_at};
     ghost use Rattle.std.specs.Vec.{vec_capacity};
-    ghost use Rattle.gm_pending.specs.Marks.{AreMarked, IsQuick};
+    ghost use Rattle.gm_pending.specs.inner.Marks.{AreMarked, IsQuick};
 
     ghost Value = { List Mark };
 

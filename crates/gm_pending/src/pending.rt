@@ -32,10 +32,10 @@ impl<'a, 'm> Model for Pending<'a, 'm> {
     ghost use Rattle.std.specs.Coded.{codes};
     ghost use Rattle.std.specs.Prelude.{◌≡◌, []};
     ghost use Rattle.gm_model.specs.contracts.expr.Expr as expr_block;
-    ghost use Rattle.gm_arena.specs.ArenaMap.{arena_code};
+    ghost use Rattle.gm_arena.specs.inner.ArenaMap.{arena_code};
     ghost use Rattle.gm_pending.specs.contracts.deciding_instance.DecidingInstance as instance_block;
-    ghost use Rattle.gm_pending.specs.Results.{PendingOf, IsPrepared};
-    ghost use Rattle.gm_pending.specs.Answered.{pending_as, AreDecidedOrbits, AreMatchedSeen, IsLookedUp};
+    ghost use Rattle.gm_pending.specs.inner.Results.{PendingOf, IsPrepared};
+    ghost use Rattle.gm_pending.specs.inner.Answered.{pending_as, AreDecidedOrbits, AreMatchedSeen, IsLookedUp};
 
     ghost Value = { PendingOf };
 
@@ -51,11 +51,11 @@ impl<'a, 'm> Pending<'a, 'm> {
     ghost use Rattle.gm_model.specs.Maps.{IsSound};
     ghost use Rattle.gm_model.specs.Rules.{rule_of};
     ghost use Rattle.gm_model.specs.Unfolding.{IsArcAfter, IsMadeArc};
-    ghost use Rattle.gm_arena.specs.ArenaAsMap.{as_map};
-    ghost use Rattle.gm_plan.specs.Changes.{AreMadeLabels, MakesNone};
-    ghost use Rattle.gm_plan.specs.InArena.{AreMatched, slot_number};
-    ghost use Rattle.gm_plan.specs.Lookup.{IsWithin, IsAtSlot};
-    ghost use Rattle.gm_pending.specs.Results.{IsPrepared, pending_of, scene_in, rule_in, name_of, IsResultDart, IsRightInstance};
+    ghost use Rattle.gm_arena.specs.inner.ArenaAsMap.{as_map};
+    ghost use Rattle.gm_plan.specs.inner.Changes.{AreMadeLabels, MakesNone};
+    ghost use Rattle.gm_plan.specs.inner.InArena.{AreMatched, slot_number};
+    ghost use Rattle.gm_plan.specs.inner.Lookup.{IsWithin, IsAtSlot};
+    ghost use Rattle.gm_pending.specs.inner.Results.{IsPrepared, pending_of, scene_in, rule_in, name_of, IsResultDart, IsRightInstance};
 
     /// Takes the match of a rule in a sound map. It counts no step.
     pub fn build<L: Ledger>(

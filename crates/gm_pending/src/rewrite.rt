@@ -1,9 +1,9 @@
 ghost use Rattle.std.specs.Prelude.{◌≡◌, ℕ, ◌+◌, ◌*◌, ◌<◌, ◌≤◌, ◌++◌, length, slice_index_or, OnOk, IsTrue};
 ghost use Rattle.std.specs.Vec.{vec_capacity};
 ghost use Rattle.gm_model.specs.declared.step.Step.{Step};
-ghost use Rattle.gm_plan.specs.Changes.{has_bit};
-ghost use Rattle.gm_pending.specs.Collected.{told_by, end_of, written_step, slot_in, left_slots_of, left_slots, made_in, AreSlots};
-ghost use Rattle.gm_pending.specs.Written.{HasSlot, slot_of};
+ghost use Rattle.gm_plan.specs.inner.Changes.{has_bit};
+ghost use Rattle.gm_pending.specs.inner.Collected.{told_by, end_of, written_step, slot_in, left_slots_of, left_slots, made_in, AreSlots};
+ghost use Rattle.gm_pending.specs.inner.Written.{HasSlot, slot_of};
 
 use gm_arena::Slot;
 use gm_model::{MOST_LABELS, OutOfMemory, Step};
@@ -37,7 +37,7 @@ pub(crate) struct Rewrite<'a> {
 }
 
 impl<'a> Model for Rewrite<'a> {
-    ghost use Rattle.gm_pending.specs.Collected.{RewriteRows, IsFitted, rows_at};
+    ghost use Rattle.gm_pending.specs.inner.Collected.{RewriteRows, IsFitted, rows_at};
 
     ghost Value = { RewriteRows };
 

@@ -4,12 +4,12 @@ ghost use Rattle.gm_model.specs.declared.schema.Embed.{Embed};
 ghost use Rattle.gm_model.specs.Maps.{IsEmbedAt};
 ghost use Rattle.gm_model.specs.Values.{IsValueOf};
 ghost use Rattle.gm_pending.specs.declared.deciding_instance.DecidingInstance.{DecidingInstance};
-ghost use Rattle.gm_pending.specs.Reached.{AreReached};
-ghost use Rattle.gm_pending.specs.Sources.{HasSourceNode, IsKeeperFor, IsOldValue, IsSourceOf, IsUnreached, given_of};
+ghost use Rattle.gm_pending.specs.inner.Reached.{AreReached};
+ghost use Rattle.gm_pending.specs.inner.Sources.{HasSourceNode, IsKeeperFor, IsOldValue, IsSourceOf, IsUnreached, given_of};
 ghost use Rattle.gm_model.specs.Rules.{is_added, is_preserved};
-ghost use Rattle.gm_arena.specs.ArenaMap.{IsLiveSlot};
-ghost use Rattle.gm_plan.specs.InArena.{slot_number};
-ghost use Rattle.gm_pending.specs.Results.{IsPrepared, IsAsked, AreAllGiven, IsResultDart, IsValueIn, instances_of, given_at, with_instances, name_of, place_of, rule_in};
+ghost use Rattle.gm_arena.specs.inner.ArenaMap.{IsLiveSlot};
+ghost use Rattle.gm_plan.specs.inner.InArena.{slot_number};
+ghost use Rattle.gm_pending.specs.inner.Results.{IsPrepared, IsAsked, AreAllGiven, IsResultDart, IsValueIn, instances_of, given_at, with_instances, name_of, place_of, rule_in};
 
 use crate::decided_orbits::DecidedOrbits;
 use crate::deciding_instance::DecidingInstance;

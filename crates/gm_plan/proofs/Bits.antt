@@ -4,7 +4,7 @@ use mir.Val.{bits}
 use Rattle.std.specs.Int.{Width, bit_at}
 use Rattle.std.proofs.lemmas.Bool.{cases_eq, eq-eqb, false≢true}
 use Rattle.std.proofs.lemmas.Nat.Bits.{bit_at_set_same, bit_at_set_other}
-use Rattle.gm_plan.specs.Changes.{has_bit}
+use Rattle.gm_plan.specs.inner.Changes.{has_bit}
 
 -- of the first numbers, so many of them, those that are out have no bit, and no later number has one
 pub record AreTold (IsOut : ℕ → Type 0) (count set : ℕ) : Type 0 where

@@ -4,7 +4,7 @@ use Rattle.std.specs.Prelude.{if◌then◌else◌, not, ◌&&◌}
 use Rattle.gm_model.specs.declared.rule.Side.TheVariants.{Left, Right}
 use Rattle.gm_model.specs.declared.step.Step.TheVariants.{Absent}
 use Rattle.gm_model.specs.Rules.{Rule, has_word, step}
-use Rattle.gm_plan.specs.Changes.{freed_step, is_steady, made_step}
+use Rattle.gm_plan.specs.inner.Changes.{freed_step, is_steady, made_step}
 
 module _ (rule : Rule) (x i : ℕ) where
   pub is_made : has_word rule Right x ≡ true → is_steady rule x i ≡ false → step rule Right x i ≡ made_step rule x i

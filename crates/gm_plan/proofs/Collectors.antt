@@ -8,7 +8,7 @@ use Rattle.gm_model.specs.declared.rule.RuleTable.{RuleTable}
 use Rattle.gm_model.specs.declared.rule.Set.{Set}
 use Rattle.gm_model.specs.Rules.{Assignment, RuleNode, assignment_of, node_of, rule_of}
 use Rattle.gm_model.specs.Trees.{Tree, tree_of}
-use Rattle.gm_plan.specs.Collecting.{Collects, CollectsNothing, SetsCollect, collects}
+use Rattle.gm_plan.specs.inner.Collecting.{Collects, CollectsNothing, SetsCollect, collects}
 
 some_mapped : {X Y : Type 0} (f : X → Y) (found : Option X) (y : Y) → option_map f found ≡ Some y → (x : X) × (found ≡ Some x) × (f x ≡ y)
 some_mapped f (Some x) y h = (x, refl, cc)

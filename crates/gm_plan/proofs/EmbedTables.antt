@@ -8,9 +8,9 @@ use Rattle.gm_model.specs.declared.schema.Embed.{Embed}
 use Rattle.gm_model.specs.declared.schema.Schema.{Schema}
 use Rattle.gm_model.specs.Maps.{IsEmbedAt, type_of}
 use Rattle.gm_model.specs.Rules.{Rule}
-use Rattle.gm_embcheck.specs.NodeSets.{IsIn}
+use Rattle.gm_embcheck.specs.inner.NodeSets.{IsIn}
 use Rattle.gm_plan.specs.declared.sources.Sources.{Sources}
-use Rattle.gm_plan.specs.Sources.{AreSources, IsSources}
+use Rattle.gm_plan.specs.inner.Sources.{AreSources, IsSources}
 use Rattle.gm_plan.proofs.Rows.{row_old, row_new}
 
 -- one mark more in a table of nodes

@@ -9,7 +9,7 @@ use Rattle.gm_model.specs.declared.rule.Link.{Link}
 use Rattle.gm_model.specs.declared.step.Step.{Step}
 use Rattle.gm_model.specs.declared.step.Step.TheVariants.{Exp}
 use Rattle.gm_model.specs.Rules.{link_from}
-use Rattle.gm_plan.specs.Searches.{StepsLead, IsAtMost, found_nodes, IsRankedLink}
+use Rattle.gm_plan.specs.inner.Searches.{StepsLead, IsAtMost, found_nodes, IsRankedLink}
 use Rattle.gm_plan.proofs.Distinct.{distinct_push}
 use Rattle.gm_plan.proofs.Search.{below_or_at, same_end, leads_on, IsDoneWithin, IsFollowed}
 use Rattle.gm_theory.proofs.Lists.{none_some, some_same}

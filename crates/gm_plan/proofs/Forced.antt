@@ -9,10 +9,10 @@ use Rattle.gm_model.specs.declared.rule.Side.TheVariants.{Left}
 use Rattle.gm_model.specs.declared.step.Step.{Step}
 use Rattle.gm_model.specs.declared.step.Step.TheVariants.{Absent, Exp, Imp}
 use Rattle.gm_model.specs.Rules.{Rule, link_from, step}
-use Rattle.gm_plan.specs.Paths.{IsLastLink, ArePaths}
-use Rattle.gm_plan.specs.Plans.{AreRows}
-use Rattle.gm_plan.specs.Tested.{IsForcedStep, begins_with, is_walked, is_end, is_step, tested_step}
-use Rattle.gm_plan.specs.Tested.IsForcedStep.{Free, Turns, EndsOwn, EndsOther}
+use Rattle.gm_plan.specs.inner.Paths.{IsLastLink, ArePaths}
+use Rattle.gm_plan.specs.inner.Plans.{AreRows}
+use Rattle.gm_plan.specs.inner.Tested.{IsForcedStep, begins_with, is_walked, is_end, is_step, tested_step}
+use Rattle.gm_plan.specs.inner.Tested.IsForcedStep.{Free, Turns, EndsOwn, EndsOther}
 use Rattle.gm_plan.proofs.Rows.{read_row}
 
 begins : (hooks : List ℕ) (x : ℕ) → begins_with hooks x ≡ true → slice_get hooks 0 ≡ Some x

@@ -11,9 +11,9 @@ use Rattle.gm_model.specs.declared.step.Step.TheVariants.{Exp}
 use Rattle.gm_model.specs.Matches.{IsPathTo, IsPathBefore}
 use Rattle.gm_model.specs.Rules.{Rule, has_word, step, IsLinked}
 use Rattle.gm_model.specs.Structure.{Leads, IsJoined, any_label}
-use Rattle.gm_plan.specs.Paths.{IsLastLink, ArePaths}
-use Rattle.gm_plan.specs.Plans.{IsPlanned, AreSteps}
-use Rattle.gm_plan.specs.Searches.{row_step, HasLabelsBelow, HasEndsWithin, StepsLead, IsAtMost, found_nodes, IsRankedLink, IsSearchedBy}
+use Rattle.gm_plan.specs.inner.Paths.{IsLastLink, ArePaths}
+use Rattle.gm_plan.specs.inner.Plans.{IsPlanned, AreSteps}
+use Rattle.gm_plan.specs.inner.Searches.{row_step, HasLabelsBelow, HasEndsWithin, StepsLead, IsAtMost, found_nodes, IsRankedLink, IsSearchedBy}
 use Rattle.gm_plan.proofs.Distinct.{few_below}
 use Rattle.gm_plan.proofs.Hooks.{hook_left}
 use Rattle.gm_plan.proofs.Orders.{at_most_not_smaller}

@@ -6,7 +6,7 @@ use Rattle.std.specs.List.{All, Contains}
 use Rattle.gm_model.specs.declared.rule.Side.TheVariants.{Left}
 use Rattle.gm_model.specs.declared.schema.Schema.{Schema}
 use Rattle.gm_model.specs.Rules.{Rule, has_word}
-use Rattle.gm_plan.specs.Plans.{IsPlanned}
+use Rattle.gm_plan.specs.inner.Plans.{IsPlanned}
 use Rattle.gm_plan.proofs.Distinct.{few_below}
 use Rattle.gm_theory.proofs.Lists.{get_contained}
 use Rattle.gm_theory.proofs.RuleLinks.{contains_has}

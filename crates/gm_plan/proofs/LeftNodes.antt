@@ -5,7 +5,7 @@ use Rattle.std.specs.Option.{is_some}
 use Rattle.gm_model.specs.declared.rule.Side.TheVariants.{Left}
 use Rattle.gm_model.specs.declared.word.Letter.{Letter}
 use Rattle.gm_model.specs.Rules.{Rule, has_word, word_at}
-use Rattle.gm_plan.specs.Plans.{IsLeftCount}
+use Rattle.gm_plan.specs.inner.Plans.{IsLeftCount}
 use Rattle.gm_theory.proofs.RuleSteps.{word_below}
 use Rattle.gm_theory.proofs.Tests.{not_both}
 

@@ -6,10 +6,10 @@ use Rattle.std.proofs.lemmas.Bool.{cases_eq, false≢true}
 use Rattle.std.proofs.lemmas.Option.{get_or_from_slice_get}
 use Rattle.gm_arena.specs.declared.slot.Slot.{Slot}
 use Rattle.gm_model.specs.Orbits.{IsPairBefore}
-use Rattle.gm_plan.specs.InArena.{slot_number}
-use Rattle.gm_plan.specs.Placed.{Placed, slot_at}
+use Rattle.gm_plan.specs.inner.InArena.{slot_number}
+use Rattle.gm_plan.specs.inner.Placed.{Placed, slot_at}
 use Rattle.gm_theory.proofs.Lists.{some_same}
-use Rattle.gm_plan.specs.Lookup.{BySlot, IsWithin, IsAtSlot, IsLookupUpTo, IsLookup}
+use Rattle.gm_plan.specs.inner.Lookup.{BySlot, IsWithin, IsAtSlot, IsLookupUpTo, IsLookup}
 use Rattle.gm_plan.proofs.Indices.{other_key}
 
 -- the slot of an instance is the one that was answered

@@ -1,7 +1,7 @@
 -- The order of paths: shorter first, then by labels.
 use Rattle.std.proofs.Common.{◌≡◌, ℕ, ◌<◌, ◌⊎◌, inl, inr, List, [], ◌∷◌, ◌++◌, length, refl, ap, ◌∙◌, arith, length-append}
 use Rattle.gm_model.specs.Matches.{IsSmallerPath}
-use Rattle.gm_plan.specs.Searches.{IsAtMost}
+use Rattle.gm_plan.specs.inner.Searches.{IsAtMost}
 use Rattle.gm_theory.proofs.LeastPaths.{smaller_trans, not_smaller}
 
 -- how two paths compare behind their first labels i and j

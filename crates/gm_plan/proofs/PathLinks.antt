@@ -7,7 +7,7 @@ use Rattle.gm_model.specs.declared.rule.Link.{Link}
 use Rattle.gm_model.specs.declared.rule.Side.TheVariants.{Left}
 use Rattle.gm_model.specs.Matches.{IsSmallerPath}
 use Rattle.gm_model.specs.Rules.{Rule, has_word, link_from}
-use Rattle.gm_plan.specs.Paths.{IsLastLink, ArePaths}
+use Rattle.gm_plan.specs.inner.Paths.{IsLastLink, ArePaths}
 use Rattle.gm_theory.proofs.Lists.{contained_at, find_passes, none_some, some_same}
 use Rattle.gm_theory.proofs.Tests.{true_or_false, not_both}
 

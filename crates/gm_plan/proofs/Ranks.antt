@@ -4,7 +4,7 @@ use Rattle.std.proofs.lemmas.Bool.{cases_lt}
 use Rattle.std.proofs.lemmas.List.{get_or-replicate, get_or-set_other, get_or-set_same, get_or_past, length-replicate, take_more}
 use Rattle.std.proofs.lemmas.List.Elements.{Contains-append_cases, Contains-append_left, Contains-append_right}
 use Rattle.std.specs.List.{Contains}
-use Rattle.gm_plan.specs.Searches.{rank_at, AreHookRanks}
+use Rattle.gm_plan.specs.inner.Searches.{rank_at, AreHookRanks}
 use Rattle.gm_plan.proofs.Extended.{only_element}
 use Rattle.gm_theory.proofs.Lists.{none_some, some_same}
 use Rattle.gm_theory.proofs.Tests.{same_or_not}

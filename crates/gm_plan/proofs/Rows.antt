@@ -8,8 +8,8 @@ use Rattle.std.specs.List.{slice_get}
 use Rattle.std.specs.Option.{option_and_then}
 use Rattle.gm_model.specs.declared.step.Step.{Step}
 use Rattle.gm_model.specs.declared.step.Step.TheVariants.{Absent, Exp}
-use Rattle.gm_plan.specs.Plans.{AreRows}
-use Rattle.gm_plan.specs.Searches.{row_step}
+use Rattle.gm_plan.specs.inner.Plans.{AreRows}
+use Rattle.gm_plan.specs.inner.Searches.{row_step}
 
 cell : (rows : List (List Step)) (x i : ℕ) (row : Option (List Step)) (s : Step) → slice_get rows x ≡ row → option_and_then (λ row. slice_get row i) row ≡ Some s → row_step rows x i ≡ s
 cell rows x i None s e f = absurd (cc)

@@ -10,7 +10,7 @@ use Rattle.gm_model.specs.declared.step.Step.{Step}
 use Rattle.gm_model.specs.declared.step.Step.TheVariants.{Exp}
 use Rattle.gm_model.specs.Matches.{IsSmallerPath}
 use Rattle.gm_model.specs.Orbits.{HasNoRepeats, IsPairBefore}
-use Rattle.gm_plan.specs.Searches.{StepsLead, IsAtMost, IsRankedLink, IsSearch, IsSearchedBy}
+use Rattle.gm_plan.specs.inner.Searches.{StepsLead, IsAtMost, IsRankedLink, IsSearch, IsSearchedBy}
 use Rattle.gm_plan.proofs.Orders.{smaller_push, smaller_last, at_most_trans, at_most_push}
 use Rattle.gm_theory.proofs.LeastPaths.{smaller_trans}
 use Rattle.gm_theory.proofs.Lists.{none_some}

@@ -10,10 +10,10 @@ use Rattle.gm_model.specs.declared.step.Step.TheVariants.{Absent}
 use Rattle.gm_model.specs.Orbits.{IsPairBefore}
 use Rattle.gm_model.specs.Rules.{Rule, step}
 use Rattle.gm_plan.specs.declared.tested.Test.{Test}
-use Rattle.gm_plan.specs.Plans.{AreRows}
-use Rattle.gm_plan.specs.Paths.{ArePaths}
-use Rattle.gm_plan.specs.Searches.{row_step}
-use Rattle.gm_plan.specs.Tested.{IsForcedStep, IsListed, IsTest, AreListed, AreTests, test_of, tested_step}
+use Rattle.gm_plan.specs.inner.Plans.{AreRows}
+use Rattle.gm_plan.specs.inner.Paths.{ArePaths}
+use Rattle.gm_plan.specs.inner.Searches.{row_step}
+use Rattle.gm_plan.specs.inner.Tested.{IsForcedStep, IsListed, IsTest, AreListed, AreTests, test_of, tested_step}
 use Rattle.gm_plan.proofs.Forced.{forced_at, kept_at}
 use Rattle.gm_plan.proofs.Rows.{row_new, row_old, row_step_is}
 use Rattle.gm_model.specs.declared.rule.Link.{Link}

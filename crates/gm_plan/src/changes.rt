@@ -2,8 +2,8 @@
 ghost use Rattle.std.specs.Prelude.{◌≡◌, ℕ, ◌<◌, ◌≤◌, ◌↔◌, length, IfOk, IsTrue};
 ghost use Rattle.gm_model.specs.declared.rule.Side.TheVariants.{Left, Right};
 ghost use Rattle.gm_model.specs.Rules.{rule_of, has_word, is_removed};
-ghost use Rattle.gm_plan.specs.Changes.{AreMadeLabels, AreRemovedNodes, MakesNone, freed_step, is_steady, made_step};
-ghost use Rattle.gm_plan.specs.Plans.{AreRows, AreSteps};
+ghost use Rattle.gm_plan.specs.inner.Changes.{AreMadeLabels, AreRemovedNodes, MakesNone, freed_step, is_steady, made_step};
+ghost use Rattle.gm_plan.specs.inner.Plans.{AreRows, AreSteps};
 
 use crate::sides::Sides;
 use crate::table::{Row, StepAt, rows_of};

@@ -2,7 +2,7 @@
 ghost use Rattle.std.specs.Prelude.{◌≡◌, false, ◌↔◌, IsTrue};
 ghost use Rattle.gm_model.specs.Rules.{rule_of};
 ghost use Rattle.gm_model.specs.Trees.{tree_of};
-ghost use Rattle.gm_plan.specs.Collecting.{Collects, CollectsNothing, SetsCollect, collects};
+ghost use Rattle.gm_plan.specs.inner.Collecting.{Collects, CollectsNothing, SetsCollect, collects};
 
 use gm_model::{Expr, RuleTable, Set};
 

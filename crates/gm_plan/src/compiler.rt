@@ -2,8 +2,8 @@ ghost use Rattle.std.specs.Prelude.{◌≡◌, ◌≤◌, MatchResult, length};
 ghost use Rattle.gm_model.specs.Rules.{rule_of};
 ghost use Rattle.gm_model.specs.Kinds.{IsTyped};
 ghost use Rattle.gm_model.specs.Structure.{IsInRange, IsWithinLimits};
-ghost use Rattle.gm_plan.specs.Plans.{IsPlanned, plan_of};
-ghost use Rattle.gm_plan.specs.Refusals.{IsRefusal};
+ghost use Rattle.gm_plan.specs.inner.Plans.{IsPlanned, plan_of};
+ghost use Rattle.gm_plan.specs.inner.Refusals.{IsRefusal};
 
 use crate::plan::Plan;
 use gm_model::{OutOfMemory, RuleFault, RuleTable, Schema};

@@ -1,7 +1,7 @@
 //! Instances of a rule by the numbers of darts.
 ghost use Rattle.std.specs.Prelude.{◌≡◌, ℕ, None, MatchOption, IfOk, OnErr, nat_eq};
 ghost use Rattle.std.specs.HashMap.{get};
-ghost use Rattle.gm_plan.specs.Indices.{index_at, AreTheSame, IsElsewhere, IsOneMore, IsPlaceOf};
+ghost use Rattle.gm_plan.specs.inner.Indices.{index_at, AreTheSame, IsElsewhere, IsOneMore, IsPlaceOf};
 
 use gm_model::OutOfMemory;
 use std::alloc::Global;

@@ -1,6 +1,6 @@
 ghost use Rattle.std.specs.Prelude.{◌≡◌, ℕ, ◌*◌, ◌<◌, ◌≤◌, IfOk, Some, length};
 ghost use Rattle.std.specs.List.{All};
-ghost use Rattle.gm_plan.specs.Placed.{slot_at, turn_at, HasRowsOf};
+ghost use Rattle.gm_plan.specs.inner.Placed.{slot_at, turn_at, HasRowsOf};
 
 use gm_arena::Slot;
 use gm_model::OutOfMemory;
@@ -20,7 +20,7 @@ pub struct Instances {
 }
 
 impl Model for Instances {
-    ghost use Rattle.gm_plan.specs.Placed.{Placed, IsPlaced, placed_of};
+    ghost use Rattle.gm_plan.specs.inner.Placed.{Placed, IsPlaced, placed_of};
 
     ghost Value = { Placed };
 

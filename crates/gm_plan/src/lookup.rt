@@ -1,7 +1,7 @@
 //! Which instance lies at a slot.
 ghost use Rattle.std.specs.Prelude.{◌≡◌, ◌≢◌, ℕ, ◌+◌, ◌/◌, ◌%◌, ◌<◌, ◌≤◌, MatchOption, IfOk, OnOk};
-ghost use Rattle.gm_plan.specs.InArena.{slot_number};
-ghost use Rattle.gm_plan.specs.Lookup.{IsWithin, IsAtSlot, IsLookupUpTo, IsLookupIn};
+ghost use Rattle.gm_plan.specs.inner.InArena.{slot_number};
+ghost use Rattle.gm_plan.specs.inner.Lookup.{IsWithin, IsAtSlot, IsLookupUpTo, IsLookupIn};
 
 use crate::instances::Instances;
 use gm_arena::Slot;

@@ -7,9 +7,9 @@ ghost use Rattle.gm_model.specs.declared.rule.Link.{Link};
 ghost use Rattle.gm_model.specs.declared.rule.Side.TheVariants.{Left};
 ghost use Rattle.gm_model.specs.declared.step.Step.TheVariants.{Exp};
 ghost use Rattle.gm_model.specs.Rules.{rule_of};
-ghost use Rattle.gm_plan.specs.Paths.{ArePaths};
-ghost use Rattle.gm_plan.specs.Plans.{IsPlanned, AreSteps};
-ghost use Rattle.gm_plan.specs.Searches.{row_step, HasLabelsBelow, HasEndsWithin, rank_at, AreHookRanks, IsSearched};
+ghost use Rattle.gm_plan.specs.inner.Paths.{ArePaths};
+ghost use Rattle.gm_plan.specs.inner.Plans.{IsPlanned, AreSteps};
+ghost use Rattle.gm_plan.specs.inner.Searches.{row_step, HasLabelsBelow, HasEndsWithin, rank_at, AreHookRanks, IsSearched};
 
 use crate::table::Row;
 use gm_model::{Link, MOST_NODES, OutOfMemory, RuleTable, Schema, Step};

@@ -41,7 +41,7 @@ impl<'b> Model for Plan<'b> {
     ghost use Rattle.std.specs.Coded.{codes};
     ghost use Rattle.gm_model.specs.contracts.expr.Expr as expr_block;
     ghost use Rattle.gm_model.specs.Rules.{rule_of};
-    ghost use Rattle.gm_plan.specs.Plans.{PlanOf, IsCompiled};
+    ghost use Rattle.gm_plan.specs.inner.Plans.{PlanOf, IsCompiled};
 
     ghost Value = { PlanOf };
 
@@ -60,13 +60,13 @@ impl<'b> Plan<'b> {
     ghost use Rattle.gm_model.specs.Maps.{IsEmbedAt, type_of};
     ghost use Rattle.gm_model.specs.Rules.{rule_of, has_word, link_from, step};
     ghost use Rattle.gm_model.specs.Unfolding.{added_nodes};
-    ghost use Rattle.gm_plan.specs.Changes.{freed_step, made_step, AreMadeLabels, AreRemovedNodes};
-    ghost use Rattle.gm_plan.specs.Collecting.{Collects, CollectsNothing};
-    ghost use Rattle.gm_plan.specs.Counts.{removed_nodes};
-    ghost use Rattle.gm_plan.specs.Paths.{ArePaths, IsLastLink};
-    ghost use Rattle.gm_plan.specs.Plans.{AreRows, IsPlanned, IsLeftCount, plan_of};
-    ghost use Rattle.gm_plan.specs.Sources.{HasExactLetters};
-    ghost use Rattle.gm_plan.specs.Tested.{AreTests, IsForcedStep};
+    ghost use Rattle.gm_plan.specs.inner.Changes.{freed_step, made_step, AreMadeLabels, AreRemovedNodes};
+    ghost use Rattle.gm_plan.specs.inner.Collecting.{Collects, CollectsNothing};
+    ghost use Rattle.gm_plan.specs.inner.Counts.{removed_nodes};
+    ghost use Rattle.gm_plan.specs.inner.Paths.{ArePaths, IsLastLink};
+    ghost use Rattle.gm_plan.specs.inner.Plans.{AreRows, IsPlanned, IsLeftCount, plan_of};
+    ghost use Rattle.gm_plan.specs.inner.Sources.{HasExactLetters};
+    ghost use Rattle.gm_plan.specs.inner.Tested.{AreTests, IsForcedStep};
 
     /// The plan of a rule that is accepted.
     pub(crate) fn new(

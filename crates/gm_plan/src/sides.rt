@@ -2,8 +2,8 @@ ghost use Rattle.std.specs.Prelude.{◌≡◌, ℕ, ◌<◌, ◌≤◌, length, 
 ghost use Rattle.gm_model.specs.declared.rule.Side.TheVariants.{Left, Right};
 ghost use Rattle.gm_model.specs.Rules.{rule_of, has_word};
 ghost use Rattle.gm_model.specs.Unfolding.{added_nodes};
-ghost use Rattle.gm_plan.specs.Counts.{removed_nodes};
-ghost use Rattle.gm_plan.specs.Plans.{AreSteps, IsLeftCount};
+ghost use Rattle.gm_plan.specs.inner.Counts.{removed_nodes};
+ghost use Rattle.gm_plan.specs.inner.Plans.{AreSteps, IsLeftCount};
 
 use crate::table::Row;
 use gm_model::{OutOfMemory, RuleTable, Side};

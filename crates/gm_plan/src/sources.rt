@@ -5,10 +5,10 @@ ghost use Rattle.gm_model.specs.declared.step.Step.TheVariants.{Absent, Imp};
 ghost use Rattle.gm_model.specs.Components.{IsAssigned, HasLetterIn};
 ghost use Rattle.gm_model.specs.Labels.{has};
 ghost use Rattle.gm_model.specs.Rules.{rule_of, has_word, letters};
-ghost use Rattle.gm_embcheck.specs.Bounds.{HasBounds};
-ghost use Rattle.gm_embcheck.specs.NodeSets.{IsIn};
-ghost use Rattle.gm_plan.specs.Plans.{AreSteps, IsPlanned};
-ghost use Rattle.gm_plan.specs.Sources.{AreSources, HasExactLetters, IsSources};
+ghost use Rattle.gm_embcheck.specs.inner.Bounds.{HasBounds};
+ghost use Rattle.gm_embcheck.specs.inner.NodeSets.{IsIn};
+ghost use Rattle.gm_plan.specs.inner.Plans.{AreSteps, IsPlanned};
+ghost use Rattle.gm_plan.specs.inner.Sources.{AreSources, HasExactLetters, IsSources};
 
 use crate::collecting::has_collectors;
 use crate::table::Row;

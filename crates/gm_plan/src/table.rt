@@ -1,7 +1,7 @@
 //! The table that has a step for each node at each label.
 ghost use Rattle.std.specs.Prelude.{◌≡◌, ℕ, ◌<◌, Some, slice_get, IfOk};
 ghost use Rattle.gm_model.specs.declared.step.Step.{Step};
-ghost use Rattle.gm_plan.specs.Plans.{AreRows};
+ghost use Rattle.gm_plan.specs.inner.Plans.{AreRows};
 
 use gm_model::{MOST_LABELS, OutOfMemory, Step};
 use std::alloc::Global;

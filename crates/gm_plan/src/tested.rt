@@ -3,10 +3,10 @@ ghost use Rattle.std.specs.Prelude.{◌≡◌, ◌+◌, ◌<◌, ◌≤◌, leng
 ghost use Rattle.std.specs.List.{list_any};
 ghost use Rattle.gm_model.specs.declared.rule.Side.TheVariants.{Left};
 ghost use Rattle.gm_model.specs.Rules.{rule_of};
-ghost use Rattle.gm_plan.specs.Paths.{ArePaths};
-ghost use Rattle.gm_plan.specs.Plans.{AreRows, AreSteps, IsPlanned};
-ghost use Rattle.gm_plan.specs.Searches.{row_step};
-ghost use Rattle.gm_plan.specs.Tested.{AreListed, AreTests, is_end, is_step, is_walked, tested_step};
+ghost use Rattle.gm_plan.specs.inner.Paths.{ArePaths};
+ghost use Rattle.gm_plan.specs.inner.Plans.{AreRows, AreSteps, IsPlanned};
+ghost use Rattle.gm_plan.specs.inner.Searches.{row_step};
+ghost use Rattle.gm_plan.specs.inner.Tested.{AreListed, AreTests, is_end, is_step, is_walked, tested_step};
 
 use crate::paths::{Paths, least_paths};
 use crate::table::{Row, StepAt, rows_of};

@@ -19,24 +19,24 @@ use Rattle.gm_model.specs.Rules.{Rule, rule_of}
 use Rattle.gm_model.specs.Runs.{IsOutcome, IsLineOutcome}
 use Rattle.gm_model.specs.Budgets.{IsLineBudget}
 use Rattle.gm_model.specs.Runs as runs
-use Rattle.gm_apply.specs.Outcomes.{IsRefusedFor}
+use Rattle.gm_apply.specs.inner.Outcomes.{IsRefusedFor}
 use Rattle.gm_pending.specs.declared.applied.Applied.{Applied}
 use Rattle.gm_apply.specs.declared.refusal.Refusal.{Refusal}
 use Rattle.gm_apply.specs.declared.refusal.Refusal.TheVariants as refusals
-use Rattle.gm_arena.specs.ArenaAsMap.{as_map}
+use Rattle.gm_arena.specs.inner.ArenaAsMap.{as_map}
 use Rattle.gm_arena.specs.declared.slot.Slot.{Slot}
-use Rattle.gm_arena.specs.ArenaMap.{ArenaMap, IsAt}
-use Rattle.gm_arena.specs.Lawful.{IsLawful}
-use Rattle.gm_match.specs.Outcome as matches
-use Rattle.gm_pending.specs.EditLists.{HasSameRows}
-use Rattle.gm_plan.specs.Plans.{PlanOf, IsPlanned}
-use Rattle.gm_theory.specs.Outcomes.{IsGoodLine}
-use Rattle.gm_theory.specs.Suited.{IsRuleOf}
+use Rattle.gm_arena.specs.inner.ArenaMap.{ArenaMap, IsAt}
+use Rattle.gm_arena.specs.inner.Lawful.{IsLawful}
+use Rattle.gm_match.specs.inner.Outcome as matches
+use Rattle.gm_pending.specs.inner.EditLists.{HasSameRows}
+use Rattle.gm_plan.specs.inner.Plans.{PlanOf, IsPlanned}
+use Rattle.gm_theory.specs.inner.Outcomes.{IsGoodLine}
+use Rattle.gm_theory.specs.inner.Suited.{IsRuleOf}
 use Rattle.gm_run.specs.declared.outcome.Outcome.{Outcome}
 use Rattle.gm_run.specs.declared.outcome.Outcome.TheVariants as outcomes
-use Rattle.gm_run.specs.Lines.{cause_of}
-use Rattle.gm_run.specs.Progress.{rules_of, IsPlanFor, ArePlansFor}
-use Rattle.gm_run.specs.Standing.{HasLine, WasDone, WasRefused, IsUnapplied}
+use Rattle.gm_run.specs.inner.Lines.{cause_of}
+use Rattle.gm_run.specs.inner.Progress.{rules_of, IsPlanFor, ArePlansFor}
+use Rattle.gm_run.specs.inner.Standing.{HasLine, WasDone, WasRefused, IsUnapplied}
 
 -- ---- one line
 

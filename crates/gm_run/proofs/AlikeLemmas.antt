@@ -7,10 +7,10 @@ use Rattle.gm_model.specs.Maps.{Map, IsDart, IsEmbedAt, IsGeneralised, IsMap, Is
 use Rattle.gm_model.specs.Matches.{Placement, IsInstance}
 use Rattle.gm_model.specs.Rules.{Rule}
 use Rattle.gm_model.specs.Values.{IsValueOf}
-use Rattle.gm_theory.specs.OneMatch.{IsLike}
+use Rattle.gm_theory.specs.inner.OneMatch.{IsLike}
 use Rattle.gm_apply.proofs.LikeOrbits.{orbit_same, orbit_live}
 use Rattle.gm_apply.proofs.LikePlaces.{AreLikeAt}
-use Rattle.gm_run.specs.Alike.{AreAlike}
+use Rattle.gm_run.specs.inner.Alike.{AreAlike}
 
 pub alike_self : (m : Map) → AreAlike m m
 alike_self m = record {

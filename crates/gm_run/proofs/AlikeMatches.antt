@@ -19,7 +19,7 @@ use Rattle.gm_theory.proofs.RuleLinks.{linked_in_range}
 use Rattle.gm_theory.proofs.RuleSteps.{step_back}
 use Rattle.gm_theory.proofs.Turns.{hook_label_up_to}
 use Rattle.gm_theory.proofs.Walks.{walk_keeps}
-use Rattle.gm_run.specs.Alike.{AreAlike}
+use Rattle.gm_run.specs.inner.Alike.{AreAlike}
 use Rattle.gm_run.proofs.AlikeLemmas.{Suits, label_there, suits_too}
 
 -- a step is met by neighbours that are the same at its ends

@@ -10,7 +10,7 @@ use Rattle.gm_theory.proofs.Agreement.{one_match}
 use Rattle.gm_apply.proofs.LikePlaces.{AreLikeAt, same_map}
 use Rattle.gm_apply.proofs.LikeResults.{AreLikeResults, results_like}
 use Rattle.gm_apply.proofs.LikeValues.{value_after_there}
-use Rattle.gm_run.specs.Alike.{AreAlike, unvalued}
+use Rattle.gm_run.specs.inner.Alike.{AreAlike, unvalued}
 use Rattle.gm_run.proofs.AlikeLemmas.{Suits}
 
 module _ (app : Application) (suits : Suits app.rule app.map) (after end : Map) (alike : AreAlike after end) where

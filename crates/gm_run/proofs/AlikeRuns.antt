@@ -11,9 +11,9 @@ use Rattle.gm_model.specs.Maps.{Map, IsSchema, IsSound}
 use Rattle.gm_model.specs.Rules.{Rule}
 use Rattle.gm_model.specs.Runs.{Outcome, State, start_of, IsRun, AreInOrder}
 use Rattle.gm_theory.proofs.RunsFound.{Stands, all_suited, scripts_have_runs, stands_first}
-use Rattle.gm_theory.specs.Outcomes.{HasRun, IsGoodStat}
-use Rattle.gm_theory.specs.Suited.{IsSuited}
-use Rattle.gm_run.specs.Alike.{AreAlike, AreAlikeStates}
+use Rattle.gm_theory.specs.inner.Outcomes.{HasRun, IsGoodStat}
+use Rattle.gm_theory.specs.inner.Suited.{IsSuited}
+use Rattle.gm_run.specs.inner.Alike.{AreAlike, AreAlikeStates}
 use Rattle.gm_run.proofs.AlikeLemmas.{alike_sound}
 use Rattle.gm_run.proofs.OneRun.{one_run, one_within}
 

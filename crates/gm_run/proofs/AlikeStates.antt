@@ -3,7 +3,7 @@ use Rattle.std.proofs.Common.{List, [], ◌∷◌, Option, Some, None, refl}
 use Rattle.gm_model.specs.Histories.{Group}
 use Rattle.gm_model.specs.Maps.{Map}
 use Rattle.gm_model.specs.Runs.{State}
-use Rattle.gm_run.specs.Alike.{AreAllAlike, AreAlikeGroups, AreAlikeStates}
+use Rattle.gm_run.specs.inner.Alike.{AreAllAlike, AreAlikeGroups, AreAlikeStates}
 use Rattle.gm_run.proofs.AlikeLemmas.{alike_self}
 
 all_alike_self : (maps : List Map) → AreAllAlike maps maps

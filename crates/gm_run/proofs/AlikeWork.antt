@@ -12,11 +12,11 @@ use Rattle.gm_apply.proofs.LikePlaces.{AreLikeAt}
 use Rattle.gm_apply.proofs.LikeResults.{AreLikeResults, results_like}
 use Rattle.gm_apply.proofs.LikeScenes.{unfolding_there}
 use Rattle.gm_apply.proofs.LikeValues.{reached_sum_there, read_sum_there}
-use Rattle.gm_theory.specs.Theorem.{Unfolded, Unfolds, IsDartOf}
+use Rattle.gm_theory.specs.inner.Theorem.{Unfolded, Unfolds, IsDartOf}
 use Rattle.gm_theory.proofs.Agreement.{one_match}
 use Rattle.gm_theory.proofs.Found.{HasNoRepeat, found_match}
 use Rattle.gm_theory.proofs.Turns.{some_position_walked}
-use Rattle.gm_run.specs.Alike.{AreAlike}
+use Rattle.gm_run.specs.inner.Alike.{AreAlike}
 use Rattle.gm_run.proofs.AlikeLemmas.{Suits, suits_too, alike_at, alike_back}
 use Rattle.gm_run.proofs.AlikeMatches.{app_over, hook_darts_there, candidate_there, steps_there, broken_there, match_there, distinct_there, first_repeat_there}
 use Rattle.gm_run.proofs.Endings.{IsEnd, Breaks, Repeats, Fits, found_end_there, Ends, IsRefusedBy}

@@ -17,28 +17,28 @@ use Rattle.gm_model.specs.Orbits.{HasCount}
 use Rattle.gm_model.specs.Rules.{Rule}
 use Rattle.gm_model.specs.Runs.{State, Turn, Taken, Passed, AreLeads, AreTurns, IsStep, GoesOver, behind_each, is_done_turn, is_passed, is_refused_turn, line_at, told}
 use Rattle.gm_model.specs.Runs as runs
-use Rattle.gm_arena.specs.ArenaAsMap.{as_map}
-use Rattle.gm_arena.specs.ArenaMap.{ArenaMap}
-use Rattle.gm_arena.specs.Lawful.{IsLawful}
+use Rattle.gm_arena.specs.inner.ArenaAsMap.{as_map}
+use Rattle.gm_arena.specs.inner.ArenaMap.{ArenaMap}
+use Rattle.gm_arena.specs.inner.Lawful.{IsLawful}
 use Rattle.gm_arena.proofs.Keys.{darts_counted}
 use Rattle.gm_apply.proofs.Counting.{count_same}
-use Rattle.gm_theory.specs.Outcomes.{IsGoodEach, IsGoodLine, IsSoundOf}
-use Rattle.gm_theory.specs.Suited.{IsRuleOf}
+use Rattle.gm_theory.specs.inner.Outcomes.{IsGoodEach, IsGoodLine, IsSoundOf}
+use Rattle.gm_theory.specs.inner.Suited.{IsRuleOf}
 use Rattle.gm_theory.proofs.TurnsFound.{LineFound, line_costs, line_found}
 use Rattle.gm_theory.proofs.ValuesLists.{AreDistinct, IsIn, contains_in, distinct_list, in_contained, in_middle, split_at}
 use Rattle.gm_theory.proofs.ValuesUnique.{one_count}
-use Rattle.gm_undo.specs.Costs.{MayTake, cost_to}
-use Rattle.gm_undo.specs.Kept.{HistoryOf}
-use Rattle.gm_undo.specs.Standing.{StandsFor, AreGroupsAlike, group_start}
+use Rattle.gm_undo.specs.inner.Costs.{MayTake, cost_to}
+use Rattle.gm_undo.specs.inner.Kept.{HistoryOf}
+use Rattle.gm_undo.specs.inner.Standing.{StandsFor, AreGroupsAlike, group_start}
 use Rattle.gm_run.specs.declared.each.Counts.{Counts}
 use Rattle.gm_run.specs.declared.outcome.Outcome.{Outcome}
 use Rattle.gm_run.specs.declared.outcome.Outcome.TheVariants as outcomes
 use Rattle.gm_run.specs.declared.standing.Open.TheVariants as opens
 use Rattle.gm_run.specs.declared.standing.Standing.{Standing}
-use Rattle.gm_run.specs.Alike.{AreAlike, AreAlikeStates}
-use Rattle.gm_run.specs.Progress.{IsLeft, BehindAll, WithinEach}
-use Rattle.gm_run.specs.Standing.{HasLine, WasDone, WasRefused, HasOpen, HasStep, IsStopped, MayGoBack, Remembers, StandsAt, entered_by, told_behind}
-use Rattle.gm_run.specs.Turns.{AreTallied, HasTurn, HaveTurns, StopsAtTurn, StopsWithin, counted, entered_by_turn, entered_turns, told_by, within_turns}
+use Rattle.gm_run.specs.inner.Alike.{AreAlike, AreAlikeStates}
+use Rattle.gm_run.specs.inner.Progress.{IsLeft, BehindAll, WithinEach}
+use Rattle.gm_run.specs.inner.Standing.{HasLine, WasDone, WasRefused, HasOpen, HasStep, IsStopped, MayGoBack, Remembers, StandsAt, entered_by, told_behind}
+use Rattle.gm_run.specs.inner.Turns.{AreTallied, HasTurn, HaveTurns, StopsAtTurn, StopsWithin, counted, entered_by_turn, entered_turns, told_by, within_turns}
 use Rattle.gm_run.proofs.OneRun.{one_each_leads}
 use Rattle.gm_run.proofs.Tallies.{costs_of, costs_together, cost_of, no_costs, passed_on, taken_on, tallied_sound, turns_of, unchanged, within_all}
 

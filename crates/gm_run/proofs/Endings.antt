@@ -17,7 +17,7 @@ use Rattle.gm_model.specs.Trees.{Tree}
 use Rattle.gm_model.specs.Unfolding.{added_nodes}
 use Rattle.gm_apply.proofs.LikeApplications.{here, there, staying_there, pre_value_there, pre_no_value_there, meets_pre_there, ready_there}
 use Rattle.gm_apply.proofs.LikePlaces.{AreLikeAt, same_map}
-use Rattle.gm_theory.specs.OneMatch.{IsLike}
+use Rattle.gm_theory.specs.inner.OneMatch.{IsLike}
 use Rattle.gm_theory.proofs.LikeCandidates.{instance_there, repeat_like, candidates_like, steps_like, found_like}
 use Rattle.gm_theory.proofs.Agreement.{met_alike}
 use Rattle.gm_theory.proofs.Found.{HasNoRepeat, IsFound, found_match, match_found}

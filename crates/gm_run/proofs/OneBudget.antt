@@ -12,7 +12,7 @@ use Rattle.gm_model.specs.Maps.{dimension}
 use Rattle.gm_model.specs.Matches.{Placement, IsMatch}
 use Rattle.gm_model.specs.Orbits.{IsPairBefore}
 use Rattle.gm_model.specs.Trees.{Tree}
-use Rattle.gm_theory.specs.Theorem.{Unfolded, Unfolds, IsDartOf}
+use Rattle.gm_theory.specs.inner.Theorem.{Unfolded, Unfolds, IsDartOf}
 use Rattle.gm_theory.proofs.Agreement.{one_match}
 use Rattle.gm_theory.proofs.LikeCandidates.{candidates_like}
 use Rattle.gm_theory.proofs.Lists.{none_some, some_same}

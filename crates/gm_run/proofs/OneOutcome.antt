@@ -13,14 +13,14 @@ use Rattle.gm_apply.proofs.LikeApplications.{gone_there}
 use Rattle.gm_apply.proofs.LikePlaces.{AreLikeAt, places_back}
 use Rattle.gm_apply.proofs.LikeScenes.{unfolding_there}
 use Rattle.gm_apply.proofs.LikeValues.{result_there}
-use Rattle.gm_theory.specs.Values.{KeepsWellEmbedded}
+use Rattle.gm_theory.specs.inner.Values.{KeepsWellEmbedded}
 use Rattle.gm_theory.proofs.Candidates.{match_is_candidate}
 use Rattle.gm_theory.proofs.Found.{hook_darts}
 use Rattle.gm_theory.proofs.LikeCandidates.{candidates_like}
 use Rattle.gm_theory.proofs.ValuesKept.{rules_keep_well_embedded_maps}
-use Rattle.gm_theory.specs.OneMatch.{IsLike}
+use Rattle.gm_theory.specs.inner.OneMatch.{IsLike}
 use Rattle.gm_theory.proofs.ValuesUnique.{one_count}
-use Rattle.gm_run.specs.Alike.{AreAlike}
+use Rattle.gm_run.specs.inner.Alike.{AreAlike}
 use Rattle.gm_run.proofs.AlikeLemmas.{Suits, suits_too, alike_at, alike_back}
 use Rattle.gm_run.proofs.AlikeMatches.{candidate_there}
 use Rattle.gm_run.proofs.AlikeWork.{ends_there, refused_there, budget_there}

@@ -19,15 +19,15 @@ use Rattle.gm_model.specs.Maps.{Map, IsDart, IsGeneralised, IsSchema, dimension}
 use Rattle.gm_model.specs.Orbits.{IsLead}
 use Rattle.gm_model.specs.Rules.{Rule}
 use Rattle.gm_model.specs.Runs.{Outcome, Done, Refused, State, Turn, Taken, Passed, AreLeads, AreTurns, IsLineOutcome, IsOutcome, IsStep, IsDoneHere, IsRefusedHere, IsSkipped, GoesBack, HasNoPast, GoesForth, HasNoFuture, Begins, Ends, IsTakenBack, GoesOver, IsRun, application_of, behind_done, behind_each, is_done_turn, line_at, standing_at, told}
-use Rattle.gm_theory.specs.Outcomes.{IsGoodEach, IsGoodLine, IsSoundOf}
-use Rattle.gm_theory.specs.Suited.{IsRuleOf, IsSuited}
+use Rattle.gm_theory.specs.inner.Outcomes.{IsGoodEach, IsGoodLine, IsSoundOf}
+use Rattle.gm_theory.specs.inner.Suited.{IsRuleOf, IsSuited}
 use Rattle.gm_theory.proofs.RunsFound.{GoesOn, Stands, goes_on}
 use Rattle.gm_theory.proofs.TurnsFound.{each_line, line_costs, rule_accepted}
 use Rattle.gm_theory.proofs.ValuesLists.{in_contained, contains_in}
 use Rattle.gm_apply.proofs.Counting.{count_same}
 use Rattle.gm_apply.proofs.LikeOrbits.{orbit_same}
 use Rattle.gm_theory.proofs.ValuesUnique.{one_count}
-use Rattle.gm_run.specs.Alike.{AreAlike, AreAllAlike, AreAlikeGroups, AreAlikeStates}
+use Rattle.gm_run.specs.inner.Alike.{AreAlike, AreAllAlike, AreAlikeGroups, AreAlikeStates}
 use Rattle.gm_run.proofs.AlikeLemmas.{Suits, alike_back, alike_generalised}
 use Rattle.gm_run.proofs.OneBudget.{one_budget, placed_sorted, same_sorted}
 use Rattle.gm_run.proofs.OneOutcome.{one_outcome, same_budget}

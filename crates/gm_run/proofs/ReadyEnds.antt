@@ -14,7 +14,7 @@ use Rattle.gm_apply.proofs.LikePlaces.{AreLikeAt, same_map}
 use Rattle.gm_apply.proofs.LikeResults.{AreLikeResults, results_like, results_back, right_of}
 use Rattle.gm_apply.proofs.LikeScenes.{unfolding_there}
 use Rattle.gm_apply.proofs.LikeValues.{decider_there, first_valueless_there, gives_there}
-use Rattle.gm_theory.specs.Theorem.{Unfolded, Unfolds, IsDartOf}
+use Rattle.gm_theory.specs.inner.Theorem.{Unfolded, Unfolds, IsDartOf}
 use Rattle.gm_theory.proofs.Agreement.{one_match}
 use Rattle.gm_theory.proofs.Walks.{pair_order}
 use Rattle.gm_run.proofs.AlikeLemmas.{Suits}

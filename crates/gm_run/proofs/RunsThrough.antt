@@ -18,9 +18,9 @@ use Rattle.gm_theory.proofs.Lists.{none_some, some_same}
 use Rattle.gm_theory.proofs.RunsFound.{GoesOn, Stands, goes_on}
 use Rattle.gm_theory.proofs.Tests.{not_both, true_or_false}
 use Rattle.gm_theory.proofs.TurnsFound.{LineCosts, LineFound, each_line, line_costs, line_found, rule_accepted}
-use Rattle.gm_theory.specs.Outcomes.{IsGoodEach, IsGoodLine, IsSoundOf}
-use Rattle.gm_theory.specs.Suited.{IsRuleOf, IsSuited}
-use Rattle.gm_run.specs.Alike.{AreAlike}
+use Rattle.gm_theory.specs.inner.Outcomes.{IsGoodEach, IsGoodLine, IsSoundOf}
+use Rattle.gm_theory.specs.inner.Suited.{IsRuleOf, IsSuited}
+use Rattle.gm_run.specs.inner.Alike.{AreAlike}
 use Rattle.gm_run.proofs.AlikeLemmas.{Suits}
 use Rattle.gm_run.proofs.AlikeResults.{done_alike}
 

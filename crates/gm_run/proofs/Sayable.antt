@@ -14,13 +14,13 @@ use Rattle.gm_model.specs.Maps.{Map}
 use Rattle.gm_model.specs.Rules.{Rule}
 use Rattle.gm_model.specs.Runs.{State, IsOutcome, IsLineOutcome, IsStep, IsDoneHere, IsRefusedHere, IsSkipped, GoesBack, HasNoPast, GoesForth, HasNoFuture, Begins, Ends, IsTakenBack, GoesOver, IsRun}
 use Rattle.gm_model.specs.Runs as runs
-use Rattle.gm_theory.specs.Suited.{IsSuited}
+use Rattle.gm_theory.specs.inner.Suited.{IsSuited}
 use Rattle.gm_theory.proofs.Lists.{none_some}
 use Rattle.gm_theory.proofs.RuleSteps.{word_below}
 use Rattle.gm_theory.proofs.RunsFound.{GoesOn, Stands, goes_on}
 use Rattle.gm_run.specs.declared.outcome.Outcome.{Outcome}
-use Rattle.gm_run.specs.Lines.{Tells}
-use Rattle.gm_run.specs.Printing.{SpeaksOf, IsSayable, CanBePrinted}
+use Rattle.gm_run.specs.inner.Lines.{Tells}
+use Rattle.gm_run.specs.inner.Printing.{SpeaksOf, IsSayable, CanBePrinted}
 use Rattle.gm_run.proofs.Telling.{as_many}
 
 cause_speaks_of : (app : Application) (cause : Cause) → IsRefused app cause → SpeaksOf (length app.rule.nodes) (length app.map.schema.embeds) (runs.Refused cause)

@@ -15,22 +15,22 @@ use Rattle.gm_model.specs.Runs.{State, IsLineOutcome, IsStep, IsDoneHere, IsRefu
 use Rattle.gm_model.specs.Runs as runs
 use Rattle.gm_apply.specs.declared.refusal.Refusal.{Refusal}
 use Rattle.gm_apply.specs.declared.refusal.Refusal.TheVariants as refusals
-use Rattle.gm_arena.specs.ArenaAsMap.{as_map}
-use Rattle.gm_arena.specs.ArenaMap.{ArenaMap}
-use Rattle.gm_theory.specs.Outcomes.{IsGoodLine, IsSoundOf}
-use Rattle.gm_theory.specs.Suited.{IsRuleOf}
+use Rattle.gm_arena.specs.inner.ArenaAsMap.{as_map}
+use Rattle.gm_arena.specs.inner.ArenaMap.{ArenaMap}
+use Rattle.gm_theory.specs.inner.Outcomes.{IsGoodLine, IsSoundOf}
+use Rattle.gm_theory.specs.inner.Suited.{IsRuleOf}
 use Rattle.gm_theory.proofs.TurnsFound.{LineFound, line_costs, line_found}
-use Rattle.gm_undo.specs.Costs.{MayTake}
-use Rattle.gm_undo.specs.Kept.{HistoryOf}
-use Rattle.gm_undo.specs.Standing.{StandsFor}
+use Rattle.gm_undo.specs.inner.Costs.{MayTake}
+use Rattle.gm_undo.specs.inner.Kept.{HistoryOf}
+use Rattle.gm_undo.specs.inner.Standing.{StandsFor}
 use Rattle.gm_run.specs.declared.outcome.Outcome.{Outcome}
 use Rattle.gm_run.specs.declared.outcome.Outcome.TheVariants as outcomes
 use Rattle.gm_run.specs.declared.standing.Open.{Open}
 use Rattle.gm_run.specs.declared.standing.Open.TheVariants as opens
 use Rattle.gm_run.specs.declared.standing.Standing.{Standing}
-use Rattle.gm_run.specs.Alike.{AreAlike, AreAlikeStates}
-use Rattle.gm_run.specs.Progress.{IsLeft, BehindAll}
-use Rattle.gm_run.specs.Standing.{HasLine, WasDone, WasRefused, HasOpen, HasStep, IsInGroup, IsStopped, IsUnapplied, MayGoBack, Remembers, StandsAt, entered_by, group_behind, told_behind}
+use Rattle.gm_run.specs.inner.Alike.{AreAlike, AreAlikeStates}
+use Rattle.gm_run.specs.inner.Progress.{IsLeft, BehindAll}
+use Rattle.gm_run.specs.inner.Standing.{HasLine, WasDone, WasRefused, HasOpen, HasStep, IsInGroup, IsStopped, IsUnapplied, MayGoBack, Remembers, StandsAt, entered_by, group_behind, told_behind}
 use Rattle.gm_run.proofs.OneRun.{budget_alike}
 
 -- ---- what goes back

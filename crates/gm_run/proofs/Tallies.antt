@@ -9,11 +9,11 @@ use Rattle.gm_model.specs.Rules.{Rule}
 use Rattle.gm_model.specs.Runs.{Turn, Taken, Passed, IsLineOutcome, AreTurns, is_done_turn, is_passed, is_refused_turn, line_at}
 use Rattle.gm_model.specs.Runs as runs
 use Rattle.gm_model.specs.declared.schema.Schema.{Schema}
-use Rattle.gm_theory.specs.Outcomes.{IsGoodLine, IsSoundOf}
-use Rattle.gm_theory.specs.Suited.{IsRuleOf}
+use Rattle.gm_theory.specs.inner.Outcomes.{IsGoodLine, IsSoundOf}
+use Rattle.gm_theory.specs.inner.Suited.{IsRuleOf}
 use Rattle.gm_theory.proofs.TurnsFound.{line_costs}
-use Rattle.gm_run.specs.Alike.{AreAlike}
-use Rattle.gm_run.specs.Turns.{AreTallied}
+use Rattle.gm_run.specs.inner.Alike.{AreAlike}
+use Rattle.gm_run.specs.inner.Turns.{AreTallied}
 use Rattle.gm_run.proofs.OneRun.{budget_alike, one_line, one_line_budget}
 
 abbrev pub no_costs : TurnCosts

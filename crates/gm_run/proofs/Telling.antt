@@ -6,7 +6,7 @@ use Rattle.std.proofs.lemmas.Option.{get_or_from_slice_get, slice_get-get_or, sl
 use Rattle.gm_arena.proofs.InsideLemmas.{some_from_map}
 use Rattle.gm_model.specs.Runs as runs
 use Rattle.gm_run.specs.declared.outcome.Outcome.{Outcome}
-use Rattle.gm_run.specs.Lines.{outcome_of, Tells}
+use Rattle.gm_run.specs.inner.Lines.{outcome_of, Tells}
 
 -- the lines tell these outcomes and no others
 pub told_once : (lines : List Outcome) (told others : List runs.Outcome) → Tells lines told → Tells lines others → told ≡ others

@@ -13,20 +13,20 @@ use Rattle.gm_model.specs.Maps.{Map, IsSound}
 use Rattle.gm_model.specs.Rules.{Rule}
 use Rattle.gm_model.specs.Runs.{State, start_of, AreInOrder, IsRun, IsStep, IsDoneHere, IsRefusedHere, IsSkipped, GoesBack, HasNoPast, GoesForth, HasNoFuture, Begins, Ends, IsTakenBack, GoesOver, behind_each, is_done_turn}
 use Rattle.gm_model.specs.Runs as runs
-use Rattle.gm_arena.specs.ArenaAsMap.{as_map}
-use Rattle.gm_arena.specs.ArenaMap.{ArenaMap}
-use Rattle.gm_theory.specs.Suited.{IsSuited}
+use Rattle.gm_arena.specs.inner.ArenaAsMap.{as_map}
+use Rattle.gm_arena.specs.inner.ArenaMap.{ArenaMap}
+use Rattle.gm_theory.specs.inner.Suited.{IsSuited}
 use Rattle.gm_theory.proofs.RunsFound.{GoesOn, Stands, goes_on, stands_first}
-use Rattle.gm_undo.specs.Costs.{MayTake}
-use Rattle.gm_undo.specs.Standing.{StandsFor}
+use Rattle.gm_undo.specs.inner.Costs.{MayTake}
+use Rattle.gm_undo.specs.inner.Standing.{StandsFor}
 use Rattle.gm_run.specs.declared.outcome.Outcome.{Outcome}
 use Rattle.gm_run.specs.declared.standing.Open.{Open}
 use Rattle.gm_run.specs.declared.standing.Open.TheVariants as opens
 use Rattle.gm_run.specs.declared.standing.Standing.{Standing}
-use Rattle.gm_run.specs.Alike.{AreAlike, AreAlikeStates}
-use Rattle.gm_run.specs.Lines.{Tells}
-use Rattle.gm_run.specs.Progress.{IsCutShort, IsLeft, BehindAll}
-use Rattle.gm_run.specs.Standing.{HasOpen, HasStep, IsAllowed, IsInGroup, IsStopped, StandsAt}
+use Rattle.gm_run.specs.inner.Alike.{AreAlike, AreAlikeStates}
+use Rattle.gm_run.specs.inner.Lines.{Tells}
+use Rattle.gm_run.specs.inner.Progress.{IsCutShort, IsLeft, BehindAll}
+use Rattle.gm_run.specs.inner.Standing.{HasOpen, HasStep, IsAllowed, IsInGroup, IsStopped, StandsAt}
 use Rattle.gm_run.proofs.AlikeStates.{states_alike_self}
 use Rattle.gm_run.proofs.Courses.{IsCourse, course_on, run_of, split, together, within_of}
 use Rattle.gm_run.proofs.OneRun.{one_bounds, one_run, one_within}

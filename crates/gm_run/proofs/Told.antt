@@ -15,8 +15,8 @@ use Rattle.gm_model.specs.Reports.{rule_name, outcome_words, outcome_line, outco
 use Rattle.gm_model.specs.Rules.{Rule, rule_of}
 use Rattle.gm_model.specs.Runs as runs
 use Rattle.gm_run.specs.declared.outcome.Outcome.{Outcome}
-use Rattle.gm_run.specs.Lines.{outcome_of, Tells}
-use Rattle.gm_run.specs.Printing.{CanBePrinted, IsSayable, SpeaksOf, line_text}
+use Rattle.gm_run.specs.inner.Lines.{outcome_of, Tells}
+use Rattle.gm_run.specs.inner.Printing.{CanBePrinted, IsSayable, SpeaksOf, line_text}
 use Rattle.gm_run.proofs.Telling.{IsToldAt, told_at, behind, last_taken}
 
 -- words, and then more of them

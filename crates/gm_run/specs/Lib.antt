@@ -1,6 +1,1 @@
-pub mod Alike
-pub mod Lines
-pub mod Printing
-pub mod Progress
-pub mod Standing
-pub mod Turns
+pub mod inner

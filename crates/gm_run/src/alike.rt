@@ -8,8 +8,8 @@ ghost use Rattle.gm_model.specs.Budgets.{Bounds, no_entries, IsRunWithin};
 ghost use Rattle.gm_model.specs.Maps.{Map, IsSchema, IsSound};
 ghost use Rattle.gm_model.specs.Rules.{Rule};
 ghost use Rattle.gm_model.specs.Runs.{Outcome, State, start_of, IsRun, AreInOrder};
-ghost use Rattle.gm_theory.specs.Outcomes.{IsGoodStat};
-ghost use Rattle.gm_run.specs.Alike.{AreAlike, AreAlikeStates};
+ghost use Rattle.gm_theory.specs.inner.Outcomes.{IsGoodStat};
+ghost use Rattle.gm_run.specs.inner.Alike.{AreAlike, AreAlikeStates};
 
 /// What an application of an accepted rule to a sound map leaves, each map alike is: so a map that is
 /// left can be listed. And from a map alike the statements have a run with the same outcomes and the

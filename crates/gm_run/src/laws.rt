@@ -6,8 +6,8 @@ ghost use Rattle.gm_model.specs.Budgets.{Bounds, no_entries, IsRunWithin};
 ghost use Rattle.gm_model.specs.Maps.{Map, IsSchema, IsSound};
 ghost use Rattle.gm_model.specs.Rules.{Rule};
 ghost use Rattle.gm_model.specs.Runs.{Outcome, Undone, Dropped, State, start_of, IsRun, IsStep};
-ghost use Rattle.gm_theory.specs.Outcomes.{IsGoodStat};
-ghost use Rattle.gm_run.specs.Alike.{AreAlikeStates};
+ghost use Rattle.gm_theory.specs.inner.Outcomes.{IsGoodStat};
+ghost use Rattle.gm_run.specs.inner.Alike.{AreAlikeStates};
 
 /// From a sound map, statements over accepted rules have one run at most: the outcomes, causes and
 /// all, and the state that they leave, with the maps to which undo and redo lead. And each run has

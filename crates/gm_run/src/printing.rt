@@ -6,8 +6,8 @@ ghost use Rattle.gm_model.specs.Rules.{node_of, rule_of};
 ghost use Rattle.gm_model.specs.Runs.{is_done};
 ghost use Rattle.gm_model.specs.Statements.{stat_of};
 ghost use Rattle.gm_model.specs.Runs as runs;
-ghost use Rattle.gm_run.specs.Lines.{outcome_of, Tells};
-ghost use Rattle.gm_run.specs.Printing.{CanBePrinted, IsNamed, SpeaksOf, line_text};
+ghost use Rattle.gm_run.specs.inner.Lines.{outcome_of, Tells};
+ghost use Rattle.gm_run.specs.inner.Printing.{CanBePrinted, IsNamed, SpeaksOf, line_text};
 
 use crate::done_line::put_done_line;
 use crate::outcome::{Outcome, Report};

@@ -9,12 +9,12 @@ ghost use Rattle.gm_model.specs.Kinds.{AreGoodParams};
 ghost use Rattle.gm_model.specs.Maps.{IsSound};
 ghost use Rattle.gm_model.specs.Rules.{Rule, rule_of};
 ghost use Rattle.gm_model.specs.Runs.{State};
-ghost use Rattle.gm_arena.specs.ArenaAsMap.{as_map};
+ghost use Rattle.gm_arena.specs.inner.ArenaAsMap.{as_map};
 ghost use Rattle.gm_run.specs.declared.standing.Open.TheVariants as opens;
-ghost use Rattle.gm_match.specs.Outcome.{application_of};
-ghost use Rattle.gm_pending.specs.EditLists.{HasSameRows};
-ghost use Rattle.gm_apply.specs.Outcomes.{IsRefusedFor};
-ghost use Rattle.gm_run.specs.Standing.{StandsAt, HasStep, IsInGroup, MayGoBack, Remembers};
+ghost use Rattle.gm_match.specs.inner.Outcome.{application_of};
+ghost use Rattle.gm_pending.specs.inner.EditLists.{HasSameRows};
+ghost use Rattle.gm_apply.specs.inner.Outcomes.{IsRefusedFor};
+ghost use Rattle.gm_run.specs.inner.Standing.{StandsAt, HasStep, IsInGroup, MayGoBack, Remembers};
 
 use crate::outcome::Outcome;
 use gm_apply::{Applied, Refusal, apply};

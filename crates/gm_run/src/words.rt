@@ -3,8 +3,8 @@ ghost use Rattle.std.specs.Prelude.{◌≡◌, ◌++◌, ◌<◌, IsSomeAnd, OnO
 ghost use Rattle.gm_model.specs.Rules.{name_at, node_of};
 ghost use Rattle.gm_model.specs.Reports.{instance_words, embed_name};
 ghost use Rattle.gm_model.specs.Runs as runs;
-ghost use Rattle.gm_run.specs.Lines.{outcome_of, cause_of};
-ghost use Rattle.gm_run.specs.Printing.{SpeaksOf, refusal_words, told_words};
+ghost use Rattle.gm_run.specs.inner.Lines.{outcome_of, cause_of};
+ghost use Rattle.gm_run.specs.inner.Printing.{SpeaksOf, refusal_words, told_words};
 
 use crate::outcome::Outcome;
 use gm_apply::{Applied, Refusal};

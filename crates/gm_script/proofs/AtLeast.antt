@@ -9,14 +9,14 @@ use Rattle.gm_model.specs.Names.{Mention}
 use Rattle.gm_model.specs.Reading.{Part, ArePlaced, IsReadAs, IsWithin, symbols_in}
 use Rattle.gm_model.specs.Rules.{Rule}
 use Rattle.gm_model.specs.Symbols.{Symbol, Mark, marks_of}
-use Rattle.gm_text.specs.SchemaAnswers.{IsNoToken, AtStray, AtEnd}
+use Rattle.gm_text.specs.inner.SchemaAnswers.{IsNoToken, AtStray, AtEnd}
 use Rattle.gm_text.specs.SchemaText.{LimitOf, Again, no_labels}
 use Rattle.gm_text.proofs.AtLeast.{IsAnswered, Read, Ended as EndedAt, Passed as PassedAt, answered}
 use Rattle.gm_text.proofs.Machine.{Along, IsRead}
 use Rattle.gm_text.proofs.TextMarks.{text_end}
-use Rattle.gm_script.specs.Comparing.{◌>>=◌}
-use Rattle.gm_script.specs.Faults.{IsFaultOf}
-use Rattle.gm_script.specs.Reading.{Been, State, At, Ended, first_state, can_end, move, sight_of, role_in, role_at, never}
+use Rattle.gm_script.specs.inner.Comparing.{◌>>=◌}
+use Rattle.gm_script.specs.inner.Faults.{IsFaultOf}
+use Rattle.gm_script.specs.inner.Reading.{Been, State, At, Ended, first_state, can_end, move, sight_of, role_in, role_at, never}
 use Rattle.gm_script.specs.ScriptText.{ValueForm, StatForm, Applies, GoesOver, Says, Undo, Redo, Group, Close, Role, passed_of, IsSentence, IsPlacedAt, IsWritten, index_of, value_as, mask_of, AreParams, IsOfRule, ScriptText, Disagreement, UnknownRuleAt, HookCountAt, ParamsAt, DisagreesAt, UnknownRule, HookCount, Params, IsFirstDisagreement}
 use Rattle.gm_script.specs.declared.fault.ScriptFault.{ScriptFault}
 use Rattle.gm_script.specs.declared.fault.ScriptFault.TheVariants as faults

@@ -9,8 +9,8 @@ use Rattle.gm_model.specs.declared.value.Kind.TheVariants as kinds
 use Rattle.gm_model.specs.declared.value.Value.{Value}
 use Rattle.gm_model.specs.Rules.{Rule}
 use Rattle.gm_script.specs.ScriptText.{ValueForm, Plain, Truth, Pair, Triple, StatForm, value_as, index_of, AreParams, IsOfRule, IsStat, AreStats, Disagreement, HookCountAt, DisagreesAt, Disagrees, UnknownRule, HookCount, Params}
-use Rattle.gm_script.specs.Comparing.{value_for, params_for, hooks_by, hooks_in, stat_of, stat_with, stat_of_rule, stat_at, named_stat, stat_by, stat_for, stats_for, ◌>>=◌}
-use Rattle.gm_script.specs.Reading.{HeldStat}
+use Rattle.gm_script.specs.inner.Comparing.{value_for, params_for, hooks_by, hooks_in, stat_of, stat_with, stat_of_rule, stat_at, named_stat, stat_by, stat_for, stats_for, ◌>>=◌}
+use Rattle.gm_script.specs.inner.Reading.{HeldStat}
 use Rattle.gm_script.specs.declared.sight.Head.{Head}
 use Rattle.gm_script.specs.declared.sight.Head.TheVariants as heads
 use Rattle.gm_script.proofs.Drafts.{DraftStat, form_by, form_of}

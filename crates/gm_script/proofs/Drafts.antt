@@ -6,7 +6,7 @@ use Rattle.gm_model.specs.Reading.{Part, word, number, sign}
 use Rattle.gm_script.specs.ScriptText.{ValueForm, Plain, Pair, Triple, StatForm, Applies, GoesOver, Says, Undo, Redo, Group, Close, Role, Fixed, StatAt, RuleAt, Hook, mask_of, spell_signed, spell_values, spell_labels, spell_stats, spell_stat, IsStatForm, AreNested}
 use Rattle.gm_text.specs.SchemaText.{no_labels}
 use Rattle.gm_text.specs.ValueText.{Signed}
-use Rattle.gm_script.specs.Reading.{Been, head_word, is_minus}
+use Rattle.gm_script.specs.inner.Reading.{Been, head_word, is_minus}
 use Rattle.gm_script.specs.declared.sight.Head.{Head}
 use Rattle.gm_script.specs.declared.sight.Head.TheVariants as heads
 use Rattle.gm_script.specs.declared.spot.Spot.{Spot}

@@ -4,10 +4,10 @@ use Rattle.gm_model.specs.declared.limit.LimitKind.{LimitKind}
 use Rattle.gm_model.specs.Symbols.{Mark, marks_of}
 use Rattle.gm_model.specs.Reading.{LimitStandsAt}
 use Rattle.gm_text.specs.SchemaText.{Passed, LimitOf, Again}
-use Rattle.gm_text.specs.Machine.{Stop, Ends, Passes, run}
+use Rattle.gm_text.specs.inner.Machine.{Stop, Ends, Passes, run}
 use Rattle.gm_text.proofs.Machine.{reading_runs, ends_run, passes_run}
 use Rattle.gm_script.specs.ScriptText.{StatForm, passed_of, spelling, IsSentence, IsWritten, IsTextFault, IsLimitFault, IsAgainFault}
-use Rattle.gm_script.specs.Reading.{State, Ended, first_state, move, role_at, never}
+use Rattle.gm_script.specs.inner.Reading.{State, Ended, first_state, move, role_at, never}
 use Rattle.gm_script.proofs.Grammar.{grammar}
 
 module _ (n : ℕ) (text : List ℕ) where

@@ -4,8 +4,8 @@ use Rattle.std.specs.Option.{option_map}
 use Rattle.gm_model.specs.Symbols.{Symbol, Word, Numeral, Sign, Gone, Stray, End}
 use Rattle.gm_model.specs.Reading.{Part, the_end}
 use Rattle.gm_script.specs.ScriptText.{StatForm, Role, Fixed, StatAt, RuleAt, passed_of, spelling, IsForm, IsSentence}
-use Rattle.gm_text.specs.Machine.{IsGrammar}
-use Rattle.gm_script.specs.Reading.{Been, State, At, Ended, no_been, first_state, can_end, been_behind, move, next_spot, sight_of, role_in, role_at, never}
+use Rattle.gm_text.specs.inner.Machine.{IsGrammar}
+use Rattle.gm_script.specs.inner.Reading.{Been, State, At, Ended, no_been, first_state, can_end, been_behind, move, next_spot, sight_of, role_in, role_at, never}
 use Rattle.gm_script.specs.declared.sight.Head.TheVariants as heads
 use Rattle.gm_script.specs.declared.sight.Sight.{Sight}
 use Rattle.gm_script.specs.declared.sight.Sight.TheVariants as sights

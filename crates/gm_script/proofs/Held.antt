@@ -13,7 +13,7 @@ use Rattle.gm_model.specs.Symbols.{Symbol, Word, Numeral}
 use Rattle.gm_text.specs.SchemaText.{LimitOf, Again, no_labels, with_label}
 use Rattle.gm_text.specs.ValueText.{greatest, integer}
 use Rattle.gm_script.specs.ScriptText.{ValueForm, Plain, Truth, Pair, Triple, StatForm}
-use Rattle.gm_script.specs.Reading.{HeldStat, Held, Been, been_of, been_behind, head_word, number_passes, passed_in, sight_of, next_spot, next_head, hold, hold_head, hold_number, hold_vector, new_stat, within_behind, whole_stat, ended_by, put_first, IsInText}
+use Rattle.gm_script.specs.inner.Reading.{HeldStat, Held, Been, been_of, been_behind, head_word, number_passes, passed_in, sight_of, next_spot, next_head, hold, hold_head, hold_number, hold_vector, new_stat, within_behind, whole_stat, ended_by, put_first, IsInText}
 use Rattle.gm_script.specs.declared.sight.Head.{Head}
 use Rattle.gm_script.specs.declared.sight.Sight.{Sight}
 use Rattle.gm_script.specs.declared.sight.Sight.TheVariants as sights

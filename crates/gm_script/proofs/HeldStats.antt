@@ -6,7 +6,7 @@ use Rattle.gm_model.specs.Tokens.{bytes_of}
 use Rattle.gm_text.specs.SchemaText.{no_labels}
 use Rattle.gm_text.specs.ValueText.{integer}
 use Rattle.gm_script.specs.ScriptText.{ValueForm, Plain, Truth, Pair, Triple, StatForm, IsWritten, mask_of}
-use Rattle.gm_script.specs.Reading.{HeldStat, IsInText}
+use Rattle.gm_script.specs.inner.Reading.{HeldStat, IsInText}
 use Rattle.gm_script.proofs.Drafts.{DraftStat, form_of}
 
 -- the value as it is held before its kind is known: three numbers as a vector

@@ -3,11 +3,11 @@ use Rattle.std.proofs.Common.{◌≡◌, ℕ, ◌^◌, ◌<◌, List, Result, Ok
 use Rattle.gm_model.specs.Rules.{Rule}
 use Rattle.gm_model.specs.Statements.{Stat}
 use Rattle.gm_model.specs.declared.token.Token.{Token}
-use Rattle.gm_text.specs.Cursor.{Cursor}
-use Rattle.gm_text.specs.Lexing.{rest_of, IsNumberRead}
-use Rattle.gm_script.specs.Faults.{of_text, IsFaultOf}
-use Rattle.gm_script.specs.Reading.{HeldStat, Held, Stop, taken_at, ended_by, put_first, read_from, Fails, ReadsOn, IsInText, IsSeenNext, with_hook, ◌>>=◌}
-use Rattle.gm_script.specs.SoFar.{IsSoFar}
+use Rattle.gm_text.specs.inner.Cursor.{Cursor}
+use Rattle.gm_text.specs.inner.Lexing.{rest_of, IsNumberRead}
+use Rattle.gm_script.specs.inner.Faults.{of_text, IsFaultOf}
+use Rattle.gm_script.specs.inner.Reading.{HeldStat, Held, Stop, taken_at, ended_by, put_first, read_from, Fails, ReadsOn, IsInText, IsSeenNext, with_hook, ◌>>=◌}
+use Rattle.gm_script.specs.inner.SoFar.{IsSoFar}
 use Rattle.gm_script.specs.declared.fault.ScriptFault.{ScriptFault}
 use Rattle.gm_script.specs.declared.reader.TextFault.{TextFault}
 use Rattle.gm_script.specs.declared.sight.Sight.{Sight}

@@ -11,8 +11,8 @@ use Rattle.gm_model.specs.declared.word.Mask.{Mask}
 use Rattle.gm_text.specs.SchemaText.{no_labels, with_label}
 use Rattle.gm_script.specs.ScriptText.{ValueForm, Plain, Truth, Pair, Triple, LineForm, EachForm, StatForm, Applies, GoesOver, Says, Undo, Redo, Group, Close, Role, Fixed, StatAt, RuleAt, Hook, Size, passed_of, mask_of, spell_signed, spell_value, spell_values, spell_params, spell_line, spell_labels, spell_each, spell_stats, IsStatForm, AreNested, IsSentence}
 use Rattle.gm_text.specs.ValueText.{Signed}
-use Rattle.gm_text.specs.Machine.{Leads}
-use Rattle.gm_script.specs.Reading.{Been, State, At, Ended, first_state, is_whole, move, role_at, role_in, never, next_spot, next_word, next_head, within_behind, been_behind, begun_behind, head_word, sight_of_word}
+use Rattle.gm_text.specs.inner.Machine.{Leads}
+use Rattle.gm_script.specs.inner.Reading.{Been, State, At, Ended, first_state, is_whole, move, role_at, role_in, never, next_spot, next_word, next_head, within_behind, been_behind, begun_behind, head_word, sight_of_word}
 use Rattle.gm_script.specs.declared.sight.Head.{Head}
 use Rattle.gm_script.specs.declared.sight.Head.TheVariants as heads
 use Rattle.gm_script.specs.declared.sight.Sight.{Sight}

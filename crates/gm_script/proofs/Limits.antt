@@ -11,7 +11,7 @@ use Rattle.gm_model.specs.Symbols.{Symbol, Word, Numeral}
 use Rattle.gm_text.specs.SchemaText.{LimitOf, Again, passed_by}
 use Rattle.gm_text.specs.ValueText.{greatest}
 use Rattle.gm_script.specs.ScriptText.{LabelBehind, passed_of}
-use Rattle.gm_script.specs.Reading.{Been, head_word, passed_in, label_passes, next_spot, next_word, next_head, sight_of, role_in}
+use Rattle.gm_script.specs.inner.Reading.{Been, head_word, passed_in, label_passes, next_spot, next_word, next_head, sight_of, role_in}
 use Rattle.gm_script.specs.declared.sight.Head.{Head}
 use Rattle.gm_script.specs.declared.sight.Sight.{Sight}
 use Rattle.gm_script.specs.declared.sight.Sight.TheVariants as sights

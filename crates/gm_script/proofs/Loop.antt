@@ -9,13 +9,13 @@ use Rattle.gm_model.specs.Tokens.{Item, Lexed, EndAt, items_of}
 use Rattle.gm_model.specs.Rules.{Rule}
 use Rattle.gm_text.specs.SchemaText.{Passed}
 use Rattle.gm_script.specs.ScriptText.{ScriptText, Disagreement}
-use Rattle.gm_script.specs.Comparing.{stat_for, stats_for}
-use Rattle.gm_script.specs.Comparing as comparing
-use Rattle.gm_script.specs.Faults.{of_text, IsFaultOf, Says, unless}
-use Rattle.gm_script.specs.Reading.{HeldStat, Held, Stop, before_head, been_of, sight_of, symbol_at, next_spot, passed_in, hold, hold_head, hold_number, hold_vector, taken, taken_at, finished, read_from, ended_by, put_first, nothing, stats_of, Fails, IsStray, ◌>>=◌, IsInText}
-use Rattle.gm_text.specs.Cursor.{Cursor}
-use Rattle.gm_text.specs.Lexing.{rest_of}
-use Rattle.gm_script.specs.SoFar.{behind, Holds, Adds, IsSoFar, IsCompared}
+use Rattle.gm_script.specs.inner.Comparing.{stat_for, stats_for}
+use Rattle.gm_script.specs.inner.Comparing as comparing
+use Rattle.gm_script.specs.inner.Faults.{of_text, IsFaultOf, Says, unless}
+use Rattle.gm_script.specs.inner.Reading.{HeldStat, Held, Stop, before_head, been_of, sight_of, symbol_at, next_spot, passed_in, hold, hold_head, hold_number, hold_vector, taken, taken_at, finished, read_from, ended_by, put_first, nothing, stats_of, Fails, IsStray, ◌>>=◌, IsInText}
+use Rattle.gm_text.specs.inner.Cursor.{Cursor}
+use Rattle.gm_text.specs.inner.Lexing.{rest_of}
+use Rattle.gm_script.specs.inner.SoFar.{behind, Holds, Adds, IsSoFar, IsCompared}
 use Rattle.gm_script.specs.declared.fault.ScriptFault.{ScriptFault}
 use Rattle.gm_script.specs.declared.fault.ScriptFault.TheVariants as faults
 use Rattle.gm_script.specs.declared.reader.TextFault.{TextFault}

@@ -7,7 +7,7 @@ use Rattle.gm_model.specs.declared.token.TokenKind.TheVariants as kinds
 use Rattle.gm_model.specs.Tokens.{Item, Lexed, Front, Lexeme, size_of, item_before, items_from, is_letter, is_name_byte, front_of, IsLexeme}
 use Rattle.gm_text.proofs.Fronts.{front_of-letter}
 use Rattle.gm_text.proofs.Items.{items_from-taken}
-use Rattle.gm_script.specs.Reading.{IsLead, sight_of_word}
+use Rattle.gm_script.specs.inner.Reading.{IsLead, sight_of_word}
 use Rattle.gm_script.specs.declared.sight.Sight.TheVariants as sights
 
 and_both : (a c : Bool) → a && c ≡ true → (a ≡ true) × (c ≡ true)

@@ -8,7 +8,7 @@ use Rattle.gm_model.specs.declared.word.Mask.{Mask}
 use Rattle.gm_text.specs.SchemaText.{no_labels, with_label}
 use Rattle.gm_script.specs.ScriptText.{ValueForm, Plain, Truth, Pair, Triple, LineForm, EachForm, StatForm, Applies, GoesOver, Says, Bare, Undo, Redo, Group, Close, Role, Fixed, StatAt, RuleAt, Hook, LabelBehind, Size, bare_word, spell_signed, spell_value, spell_values, spell_params, spell_labels, spell_stats, spelling, IsPlacedAt, IsWritten}
 use Rattle.gm_text.specs.ValueText.{Signed}
-use Rattle.gm_script.specs.Reading.{Been, State, At, Ended, first_state, move, sight_of, role_in, role_at}
+use Rattle.gm_script.specs.inner.Reading.{Been, State, At, Ended, first_state, move, sight_of, role_in, role_at}
 use Rattle.gm_script.specs.declared.sight.Sight.{Sight}
 use Rattle.gm_script.specs.declared.sight.Sight.TheVariants as sights
 use Rattle.gm_script.specs.declared.spot.Spot.{Spot}

@@ -3,7 +3,7 @@ use Rattle.std.proofs.Common.{◌≡◌, ◌≢◌, suc, List, [], ◌∷◌, le
 use Rattle.std.specs.Option.{option_map, option_and_then}
 use Rattle.gm_model.specs.declared.rule.Param.{Param}
 use Rattle.gm_model.specs.declared.value.Value.{Value}
-use Rattle.gm_script.specs.Comparing.{value_for, params_for}
+use Rattle.gm_script.specs.inner.Comparing.{value_for, params_for}
 
 none_then : (o : Option Value) → option_and_then (λ (v : Value). option_map (λ vs. v ∷ vs) (let none : Option (List Value) = None in none)) o ≡ None
 none_then None = refl

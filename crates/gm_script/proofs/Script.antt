@@ -3,10 +3,10 @@ use Rattle.std.proofs.Common.{◌≡◌, ℕ, List, Ok, Err, subst}
 use Rattle.gm_model.specs.Statements.{Stat}
 use Rattle.gm_model.specs.Rules.{Rule}
 use Rattle.gm_script.specs.ScriptText.{IsWritten, ScriptText, Disagreement, UnknownRuleAt, HookCountAt, ParamsAt, IsFirstDisagreement}
-use Rattle.gm_script.specs.Comparing.{stats_for}
-use Rattle.gm_script.specs.Faults.{IsFaultOf, Says}
+use Rattle.gm_script.specs.inner.Comparing.{stats_for}
+use Rattle.gm_script.specs.inner.Faults.{IsFaultOf, Says}
 use Rattle.gm_script.proofs.HeldStats.{AreOfText}
-use Rattle.gm_script.specs.Reading.{HeldStat}
+use Rattle.gm_script.specs.inner.Reading.{HeldStat}
 use Rattle.gm_script.specs.declared.fault.ScriptFault.{ScriptFault}
 use Rattle.gm_script.specs.declared.fault.ScriptFault.TheVariants as faults
 use Rattle.gm_script.proofs.Compared.{AllAgree, stats_agree}

@@ -5,7 +5,7 @@ use Rattle.std.proofs.lemmas.Slice.Eq.{bytes_eq-Decides}
 use Rattle.std.specs.Str.{bytes_eq}
 use Rattle.gm_model.specs.Names.{reserved, is_among}
 use Rattle.gm_model.specs.Symbols.{Symbol, Word, Numeral, Sign, Gone, Stray, End}
-use Rattle.gm_script.specs.Reading.{head_word, sight_of, sight_of_word, sight_of_rarer_word, sight_of_sign}
+use Rattle.gm_script.specs.inner.Reading.{head_word, sight_of, sight_of_word, sight_of_rarer_word, sight_of_sign}
 use Rattle.gm_script.specs.declared.sight.Head.{Head}
 use Rattle.gm_script.specs.declared.sight.Head.TheVariants as heads
 use Rattle.gm_script.specs.declared.sight.Sight.{Sight}

@@ -4,9 +4,9 @@ use Rattle.std.proofs.lemmas.List.{length-take, length-drop, take-append-drop, t
 use Rattle.gm_model.specs.declared.token.Token.{Token}
 use Rattle.gm_model.specs.declared.token.TokenKind.TheVariants as tokens
 use Rattle.gm_model.specs.Tokens.{Lexed, items_from, bytes_of}
-use Rattle.gm_text.specs.Cursor.{Cursor}
-use Rattle.gm_text.specs.Lexing.{rest_of, IsNumberRead, IsSignRead}
-use Rattle.gm_script.specs.Reading.{sight_of, sight_of_word, sight_of_sign, symbol_at, IsLead, IsSeenNext}
+use Rattle.gm_text.specs.inner.Cursor.{Cursor}
+use Rattle.gm_text.specs.inner.Lexing.{rest_of, IsNumberRead, IsSignRead}
+use Rattle.gm_script.specs.inner.Reading.{sight_of, sight_of_word, sight_of_sign, symbol_at, IsLead, IsSeenNext}
 use Rattle.gm_script.specs.declared.sight.Sight.{Sight}
 use Rattle.gm_script.specs.declared.sight.Sight.TheVariants as sights
 use Rattle.gm_script.proofs.Tokens.{token_stands}

@@ -12,12 +12,12 @@ use Rattle.gm_model.specs.Reading.{Part, symbols_in, IsWithin, TextEndsAt, Limit
 use Rattle.gm_model.specs.Rules.{Rule}
 use Rattle.gm_text.specs.SchemaText.{Passed, LimitOf, Again}
 use Rattle.gm_script.specs.ScriptText.{StatForm, Role, Fixed, passed_of, spelling, IsForm, IsSentence, IsPlacedAt}
-use Rattle.gm_text.specs.Machine as machine
-use Rattle.gm_text.specs.Machine.{run}
+use Rattle.gm_text.specs.inner.Machine as machine
+use Rattle.gm_text.specs.inner.Machine.{run}
 use Rattle.gm_text.proofs.Machine.{run_ends, run_passes, ended_is, passing_is}
-use Rattle.gm_script.specs.Reading.{HeldStat, Held, Been, been_of, been_behind, first_state, State, At, Ended, Stop, Ends, Passes, Lost, can_end, move, role_at, role_in, never, sight_of, next_spot, passed_in, hold, symbol_at, taken_at, finished, read_from, whole_stat, ended_by, put_first, nothing, stats_of, Fails, ◌>>=◌, IsInText}
+use Rattle.gm_script.specs.inner.Reading.{HeldStat, Held, Been, been_of, been_behind, first_state, State, At, Ended, Stop, Ends, Passes, Lost, can_end, move, role_at, role_in, never, sight_of, next_spot, passed_in, hold, symbol_at, taken_at, finished, read_from, whole_stat, ended_by, put_first, nothing, stats_of, Fails, ◌>>=◌, IsInText}
 use Rattle.gm_script.proofs.HeldStats.{AreHeld, AreOfText}
-use Rattle.gm_script.specs.Faults.{of_text, IsFaultOf}
+use Rattle.gm_script.specs.inner.Faults.{of_text, IsFaultOf}
 use Rattle.gm_script.specs.declared.reader.TextFault.{TextFault}
 use Rattle.gm_script.specs.declared.reader.TextFault.TheVariants as faults
 use Rattle.gm_script.specs.declared.sight.Sight.{Sight}

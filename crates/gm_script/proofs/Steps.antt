@@ -8,7 +8,7 @@ use Rattle.gm_model.specs.Symbols.{Symbol, Word, Numeral, Sign}
 use Rattle.gm_model.specs.Reading.{Part, word, number, sign, the_end}
 use Rattle.gm_text.specs.SchemaText.{no_labels, with_label}
 use Rattle.gm_script.specs.ScriptText.{ValueForm, StatForm, Plain, Truth, Pair, Triple, Role, Fixed, StatAt, RuleAt, LabelBehind, spell_value, spell_values, spell_labels, spell_stats, spelling, IsForm, IsStatForm}
-use Rattle.gm_script.specs.Reading.{Been, head_word, sight_of, next_spot, next_word, next_head, within_behind, can_end, is_whole, been_behind, begun_behind, role_in}
+use Rattle.gm_script.specs.inner.Reading.{Been, head_word, sight_of, next_spot, next_word, next_head, within_behind, can_end, is_whole, been_behind, begun_behind, role_in}
 use Rattle.gm_script.specs.declared.sight.Head.{Head}
 use Rattle.gm_script.specs.declared.sight.Head.TheVariants as heads
 use Rattle.gm_script.specs.declared.sight.Sight.{Sight}

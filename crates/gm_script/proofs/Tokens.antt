@@ -3,7 +3,7 @@ use Rattle.std.proofs.Common.{◌≡◌, ℕ, zero, suc, ◌+◌, ◌-◌, ◌<�
 use Rattle.gm_model.specs.declared.token.Token.{Token}
 use Rattle.gm_model.specs.Tokens.{Item, Lexed, StrayAt, EndAt, Front, Gap, Lexeme, Stray, front_of, size_of, item_before, items_from, items_at, items_of}
 use Rattle.gm_text.proofs.Fronts.{size_of-front_of}
-use Rattle.gm_script.specs.Reading.{IsInText}
+use Rattle.gm_script.specs.inner.Reading.{IsInText}
 
 -- each token of the items lies in the text
 abbrev pub AreInText : List ℕ → List Item → Type 0

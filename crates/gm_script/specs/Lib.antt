@@ -1,7 +1,2 @@
 pub mod ScriptText
-pub mod Reading
-pub mod Comparing
-pub mod Faults
-pub mod SoFar
-pub mod Agreement
-pub mod FirstRules
+pub mod inner

@@ -2,7 +2,7 @@
 ghost use Rattle.std.specs.Prelude.{◌≢◌, ◌⊎◌, ℕ, List};
 ghost use Rattle.gm_model.specs.Statements.{Stat};
 ghost use Rattle.gm_model.specs.Rules.{Rule};
-ghost use Rattle.gm_script.specs.Faults.{IsFaultOf};
+ghost use Rattle.gm_script.specs.inner.Faults.{IsFaultOf};
 ghost use Rattle.gm_script.specs.ScriptText.{ScriptText};
 ghost use Rattle.gm_script.specs.declared.fault.ScriptFault.{ScriptFault};
 ghost use Rattle.gm_script.specs.declared.fault.ScriptFault.TheVariants.{OutOfMemory};

@@ -1,11 +1,11 @@
 //! The statements of a text, compared with a book one after another.
 ghost use Rattle.std.specs.Prelude.{◌≡◌, ◌++◌, ◌∷◌, ℕ, List, [], Some, map, OnOk, IfOk, IfErr, IfSome};
 ghost use Rattle.gm_model.specs.Rules.{rule_of};
-ghost use Rattle.gm_script.specs.Comparing as comparing;
-ghost use Rattle.gm_script.specs.Comparing.{stat_for, stats_for};
-ghost use Rattle.gm_script.specs.Faults.{Compares};
-ghost use Rattle.gm_script.specs.Reading.{HeldStat, IsInText};
-ghost use Rattle.gm_script.specs.SoFar.{IsKnown};
+ghost use Rattle.gm_script.specs.inner.Comparing as comparing;
+ghost use Rattle.gm_script.specs.inner.Comparing.{stat_for, stats_for};
+ghost use Rattle.gm_script.specs.inner.Faults.{Compares};
+ghost use Rattle.gm_script.specs.inner.Reading.{HeldStat, IsInText};
+ghost use Rattle.gm_script.specs.inner.SoFar.{IsKnown};
 
 use crate::fault::ScriptFault;
 use crate::near::{NameLead, index_of_name};
@@ -86,7 +86,7 @@ impl Model for Compared {
     ghost use Rattle.std.specs.Prelude.{List, Result};
     ghost use Rattle.gm_model.specs.Statements.{Stat};
     ghost use Rattle.gm_script.specs.declared.fault.ScriptFault.{ScriptFault};
-    ghost use Rattle.gm_script.specs.Faults.{unless};
+    ghost use Rattle.gm_script.specs.inner.Faults.{unless};
 
     ghost Value = { Result (List Stat) ScriptFault };
 

@@ -64,7 +64,7 @@ impl From<OutOfMemory> for ScriptFault {
 }
 
 impl From<TextFault> for ScriptFault {
-    ghost use Rattle.gm_script.specs.Faults.{of_text};
+    ghost use Rattle.gm_script.specs.inner.Faults.{of_text};
 
     ghost from_gives = { λ fault given. given ≡ of_text fault };
 

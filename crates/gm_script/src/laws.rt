@@ -5,7 +5,7 @@ ghost use Rattle.gm_model.specs.declared.limit.LimitKind.{LimitKind};
 ghost use Rattle.gm_model.specs.Statements.{Stat};
 ghost use Rattle.gm_model.specs.Rules.{Rule};
 ghost use Rattle.gm_model.specs.Runs.{AreInOrder};
-ghost use Rattle.gm_script.specs.Agreement.{Agrees};
+ghost use Rattle.gm_script.specs.inner.Agreement.{Agrees};
 ghost use Rattle.gm_script.specs.ScriptText.{ScriptText, StandsForNoScript, IsTextFault, IsLimitFault, IsAgainFault, Disagreement, IsFirstDisagreement};
 
 /// A text stands for one script at most under a book, whose labels go up to `n`.

@@ -3,9 +3,9 @@ ghost use Rattle.std.specs.Prelude.{◌≡◌, ◌+◌, ◌-◌, ◌<◌, ◌≤
 ghost use Rattle.gm_model.specs.Rules.{rule_of};
 ghost use Rattle.gm_model.specs.Tokens.{bytes_of, IsLexeme};
 ghost use Rattle.gm_model.specs.declared.token.TokenKind.TheVariants.{Name};
-ghost use Rattle.gm_script.specs.Reading.{sight_of_word, IsInText, IsLead, IsNameLead, IsSeenNext};
+ghost use Rattle.gm_script.specs.inner.Reading.{sight_of_word, IsInText, IsLead, IsNameLead, IsSeenNext};
 ghost use Rattle.gm_script.specs.ScriptText.{index_of};
-ghost use Rattle.gm_script.specs.SoFar.{IsKnown};
+ghost use Rattle.gm_script.specs.inner.SoFar.{IsKnown};
 ghost use Rattle.gm_script.specs.declared.sight.Sight.{Sight};
 
 use crate::rules::RulesByName;

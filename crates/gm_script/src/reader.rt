@@ -6,11 +6,11 @@ ghost use Rattle.gm_model.specs.Statements.{stat_of};
 ghost use Rattle.gm_model.specs.Tokens.{EndAt};
 ghost use Rattle.gm_text.specs.SchemaText.{LimitOf};
 ghost use Rattle.gm_text.specs.ValueText as numbers;
-ghost use Rattle.gm_script.specs.Comparing as comparing;
-ghost use Rattle.gm_script.specs.Faults.{IsFaultOf};
-ghost use Rattle.gm_script.specs.Reading as reading;
-ghost use Rattle.gm_script.specs.Reading.{Gives, IsInText, passed_of};
-ghost use Rattle.gm_script.specs.SoFar.{Adds, IsCompared, IsKnown, IsSoFar};
+ghost use Rattle.gm_script.specs.inner.Comparing as comparing;
+ghost use Rattle.gm_script.specs.inner.Faults.{IsFaultOf};
+ghost use Rattle.gm_script.specs.inner.Reading as reading;
+ghost use Rattle.gm_script.specs.inner.Reading.{Gives, IsInText, passed_of};
+ghost use Rattle.gm_script.specs.inner.SoFar.{Adds, IsCompared, IsKnown, IsSoFar};
 
 use crate::comparing::Compared;
 use crate::fault::ScriptFault;
@@ -73,7 +73,7 @@ pub(crate) struct Draft {
 }
 
 impl Model for Draft {
-    ghost use Rattle.gm_script.specs.Reading.{HeldStat};
+    ghost use Rattle.gm_script.specs.inner.Reading.{HeldStat};
 
     ghost Value = { HeldStat };
 
@@ -166,7 +166,7 @@ pub(crate) struct Reader {
 }
 
 impl Model for Reader {
-    ghost use Rattle.gm_script.specs.Reading.{Held};
+    ghost use Rattle.gm_script.specs.inner.Reading.{Held};
 
     ghost Value = { Held };
 

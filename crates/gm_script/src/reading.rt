@@ -5,12 +5,12 @@
 ghost use Rattle.std.specs.Prelude.{◌≡◌, ◌∷◌, ℕ, [], length, map, OnOk, IfOk, IfErr, IfSome};
 ghost use Rattle.gm_model.specs.Rules.{rule_of};
 ghost use Rattle.gm_model.specs.Tokens.{EndAt};
-ghost use Rattle.gm_text.specs.Lexing.{rest_of};
+ghost use Rattle.gm_text.specs.inner.Lexing.{rest_of};
 ghost use Rattle.gm_script.specs.ScriptText.{ScriptText};
-ghost use Rattle.gm_script.specs.Faults.{IsFaultOf};
-ghost use Rattle.gm_script.specs.FirstRules.{first_rules};
-ghost use Rattle.gm_script.specs.Reading.{nothing, read_from, Fails, ReadsOn, IsInText};
-ghost use Rattle.gm_script.specs.SoFar.{BeginsLine, ReadsNext, IsCompared, IsKnown, IsSoFar};
+ghost use Rattle.gm_script.specs.inner.Faults.{IsFaultOf};
+ghost use Rattle.gm_script.specs.inner.FirstRules.{first_rules};
+ghost use Rattle.gm_script.specs.inner.Reading.{nothing, read_from, Fails, ReadsOn, IsInText};
+ghost use Rattle.gm_script.specs.inner.SoFar.{BeginsLine, ReadsNext, IsCompared, IsKnown, IsSoFar};
 
 use crate::comparing::Compared;
 use crate::fault::ScriptFault;

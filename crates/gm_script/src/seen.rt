@@ -4,10 +4,10 @@ ghost use Rattle.gm_model.specs.Tokens as tokens;
 ghost use Rattle.gm_model.specs.Tokens.{bytes_of, EndAt, IsLexeme};
 ghost use Rattle.gm_model.specs.declared.token.TokenKind.TheVariants.{Name};
 ghost use Rattle.gm_model.specs.Rules.{rule_of};
-ghost use Rattle.gm_text.specs.Lexing.{rest_of};
-ghost use Rattle.gm_script.specs.Reading as reading;
-ghost use Rattle.gm_script.specs.Reading.{IsNext, IsSeenNext, IsStray};
-ghost use Rattle.gm_script.specs.SoFar.{IsKnown};
+ghost use Rattle.gm_text.specs.inner.Lexing.{rest_of};
+ghost use Rattle.gm_script.specs.inner.Reading as reading;
+ghost use Rattle.gm_script.specs.inner.Reading.{IsNext, IsSeenNext, IsStray};
+ghost use Rattle.gm_script.specs.inner.SoFar.{IsKnown};
 ghost use Rattle.gm_script.specs.declared.sight.Head.{Head};
 ghost use Rattle.gm_script.specs.declared.sight.Sight.{Sight};
 

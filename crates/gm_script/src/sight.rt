@@ -1,7 +1,7 @@
 ghost use Rattle.std.specs.Prelude.{◌≡◌, ◌≤◌, length, false, bytes_eq};
 ghost use Rattle.gm_model.specs.Tokens.{bytes_of, IsLexeme};
 ghost use Rattle.gm_model.specs.Symbols.{symbol_of_kind};
-ghost use Rattle.gm_script.specs.Reading as reading;
+ghost use Rattle.gm_script.specs.inner.Reading as reading;
 
 use gm_text::{Lexer, Token, TokenKind, is_reserved};
 

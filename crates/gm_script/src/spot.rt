@@ -1,6 +1,6 @@
 ghost use Rattle.std.specs.Prelude.{◌≡◌, Some, None, if◌then◌else◌};
-ghost use Rattle.gm_script.specs.Reading as reading;
-ghost use Rattle.gm_script.specs.Reading.{HeldStat};
+ghost use Rattle.gm_script.specs.inner.Reading as reading;
+ghost use Rattle.gm_script.specs.inner.Reading.{HeldStat};
 
 use crate::sight::{Head, Sight};
 

@@ -2,7 +2,7 @@
 ghost use Rattle.std.specs.Prelude.{◌≡◌, None, Some, IsTrue, IsFalse};
 ghost use Rattle.gm_text.specs.ValueText as numbers;
 ghost use Rattle.gm_script.specs.ScriptText as script;
-ghost use Rattle.gm_script.specs.Comparing.{value_for, params_for};
+ghost use Rattle.gm_script.specs.inner.Comparing.{value_for, params_for};
 
 use gm_model::{Kind, Param, Value};
 

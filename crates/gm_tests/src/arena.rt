@@ -1,6 +1,6 @@
 //! Slots that are free are used again.
 ghost use Rattle.std.specs.Prelude.{◌≡◌, ℕ, ◌+◌, ◌<◌, ◌≤◌, []};
-ghost use Rattle.gm_arena.specs.ArenaMap.{alpha};
+ghost use Rattle.gm_arena.specs.inner.ArenaMap.{alpha};
 
 use crate::expect::expect_number;
 use gm_arena::{Arena, Steps};

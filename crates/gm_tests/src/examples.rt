@@ -13,8 +13,8 @@ ghost use Rattle.gm_model.specs.Matches.{Placement, IsMatch};
 ghost use Rattle.gm_model.specs.Orbits.{IsWalk};
 ghost use Rattle.gm_model.specs.Structure.{IsInRange};
 ghost use Rattle.gm_model.specs.Trees.{Number, Truth};
-ghost use Rattle.gm_theory.specs.Examples.{IsLawfulExample, IsWorkedExample, BreaksMaps, planar, polygonal, triangulation, square, on_square, twisted, four_triangles, triangulating, on_edge, two_edges, splitting, relabelled, pointless, hookless, unfinished, miscounted, merging, contradicting, turning};
-ghost use Rattle.gm_theory.specs.ExamplesOutcomes.{drop_at, merging_alone, split_if, valueless, crowded, late, pair_on, spoiling_square, torn, overdue, misnamed, astray, setting, outsized, too_great};
+ghost use Rattle.gm_theory.specs.inner.Examples.{IsLawfulExample, IsWorkedExample, BreaksMaps, planar, polygonal, triangulation, square, on_square, twisted, four_triangles, triangulating, on_edge, two_edges, splitting, relabelled, pointless, hookless, unfinished, miscounted, merging, contradicting, turning};
+ghost use Rattle.gm_theory.specs.inner.ExamplesOutcomes.{drop_at, merging_alone, split_if, valueless, crowded, late, pair_on, spoiling_square, torn, overdue, misnamed, astray, setting, outsized, too_great};
 ghost use Rattle.std.specs.Prelude.{[], ◌∷◌, false, pos, true};
 
 use gm_theory::{

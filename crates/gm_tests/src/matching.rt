@@ -2,8 +2,8 @@
 ghost use Rattle.std.specs.Prelude.{◌≡◌};
 ghost use Rattle.gm_model.specs.Maps.{IsGeneralised, IsSound};
 ghost use Rattle.gm_model.specs.Rules.{rule_of, width};
-ghost use Rattle.gm_arena.specs.ArenaAsMap.{as_map};
-ghost use Rattle.gm_walk.specs.Walks.{AreLive};
+ghost use Rattle.gm_arena.specs.inner.ArenaAsMap.{as_map};
+ghost use Rattle.gm_walk.specs.inner.Walks.{AreLive};
 
 use crate::expect::expect_same;
 use crate::texts::{SQUARE, are_same, map, plan};

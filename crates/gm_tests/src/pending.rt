@@ -2,9 +2,9 @@
 ghost use Rattle.std.specs.Prelude.{◌≡◌, []};
 ghost use Rattle.gm_model.specs.Maps.{IsSound};
 ghost use Rattle.gm_model.specs.Rules.{rule_of};
-ghost use Rattle.gm_arena.specs.ArenaAsMap.{as_map};
-ghost use Rattle.gm_plan.specs.InArena.{AreMatched};
-ghost use Rattle.gm_plan.specs.Plans.{IsLeftCount};
+ghost use Rattle.gm_arena.specs.inner.ArenaAsMap.{as_map};
+ghost use Rattle.gm_plan.specs.inner.InArena.{AreMatched};
+ghost use Rattle.gm_plan.specs.inner.Plans.{IsLeftCount};
 
 use crate::expect::expect_same;
 use crate::texts::{are_same, map, plan};

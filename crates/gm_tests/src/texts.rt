@@ -5,7 +5,7 @@ ghost use Rattle.gm_model.specs.Kinds.{IsTyped};
 ghost use Rattle.gm_model.specs.Maps.{IsSchema, IsSound};
 ghost use Rattle.gm_model.specs.Rules.{rule_of};
 ghost use Rattle.gm_model.specs.Structure.{IsInRange, IsWithinLimits};
-ghost use Rattle.gm_arena.specs.ArenaAsMap.{as_map};
+ghost use Rattle.gm_arena.specs.inner.ArenaAsMap.{as_map};
 
 use gm_arena::{Arena, Steps};
 use gm_mapfile::{MapRead, read_map};

@@ -1,8 +1,8 @@
 //! Walks in a square of eight darts.
 ghost use Rattle.std.specs.Prelude.{◌≡◌};
-ghost use Rattle.gm_walk.specs.Lent.{slots_of};
-ghost use Rattle.gm_walk.specs.Room.{Fits};
-ghost use Rattle.gm_walk.specs.Walks.{AreLive, IsWord};
+ghost use Rattle.gm_walk.specs.inner.Lent.{slots_of};
+ghost use Rattle.gm_walk.specs.inner.Room.{Fits};
+ghost use Rattle.gm_walk.specs.inner.Walks.{AreLive, IsWord};
 
 use crate::expect::{expect_number, expect_same};
 use crate::texts::{SQUARE, map};

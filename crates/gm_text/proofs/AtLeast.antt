@@ -2,8 +2,8 @@
 use Rattle.std.proofs.Common.{◌≡◌, ℕ, Bool, List, [], ◌∷◌, ◌++◌, Option, Some, None, Result, Ok, Err, refl, ap, ◌∙◌}
 use Rattle.gm_model.specs.Symbols.{Symbol, Mark}
 use Rattle.gm_model.specs.Reading.{Part, IsReadAs, TextEndsAt, LimitStandsAt}
-use Rattle.gm_text.specs.Machine.{Stop, Ends, Passes, IsGrammar, limit_place, run}
-use Rattle.gm_text.specs.SchemaAnswers.{IsNoToken}
+use Rattle.gm_text.specs.inner.Machine.{Stop, Ends, Passes, IsGrammar, limit_place, run}
+use Rattle.gm_text.specs.inner.SchemaAnswers.{IsNoToken}
 use Rattle.gm_text.proofs.Machine.{stepped, Refused, Limited, Moved, IsRead, run_reads, run_ends, run_passes, read_is, ended_is, passing_is}
 
 -- no token stands at the last mark, and there is one

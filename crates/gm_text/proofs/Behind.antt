@@ -4,9 +4,9 @@ use Rattle.std.proofs.lemmas.List.{length-map}
 use Rattle.gm_model.specs.declared.token.Token.{Token}
 use Rattle.gm_model.specs.Symbols.{Mark, mark_of}
 use Rattle.gm_model.specs.Tokens.{Item, Lexed}
-use Rattle.gm_text.specs.Cursor.{Cursor}
-use Rattle.gm_text.specs.Lexing.{rest_of, IsBehindToken, GoesOverTokens}
-use Rattle.gm_text.specs.SchemaAnswers.{marks_left, IsNext}
+use Rattle.gm_text.specs.inner.Cursor.{Cursor}
+use Rattle.gm_text.specs.inner.Lexing.{rest_of, IsBehindToken, GoesOverTokens}
+use Rattle.gm_text.specs.inner.SchemaAnswers.{marks_left, IsNext}
 
 pub behind_next : (old new : Cursor) (token : Token) → IsNext old token new → IsBehindToken old new
 behind_next old new token is = record { before = []; token = token; items = is.items; here = is.here }

@@ -3,7 +3,7 @@ use Rattle.std.proofs.Common.{◌≡◌, ℕ, Bool, cond, List, [], ◌∷◌, O
 use Rattle.std.specs.Option.{option_map}
 use Rattle.gm_model.specs.Symbols.{Symbol, Mark}
 use Rattle.gm_model.specs.Reading.{Part}
-use Rattle.gm_text.specs.Machine.{Stop, Ends, Passes, Leads, run}
+use Rattle.gm_text.specs.inner.Machine.{Stop, Ends, Passes, Leads, run}
 use Rattle.gm_text.proofs.Machine.{Refused, Limited, Moved, stepped}
 
 abbrev pub carried : {State Other What : Type 0} → (State → Other) → Result State (Stop State What) → Result Other (Stop Other What)

@@ -1,6 +1,6 @@
 -- Texts that are written one part after another: how far they came where memory was wanting.
 use Rattle.std.proofs.Common.{◌≡◌, ℕ, List, [], ◌++◌, refl, append_assoc, append-nil, sym, rules}
-use Rattle.gm_text.specs.SchemaPrinting.{IsCut}
+use Rattle.gm_text.specs.inner.SchemaPrinting.{IsCut}
 
 -- the part behind those that are done is written too
 pub written_behind : (before done part : List ℕ) {middle after : List ℕ} → middle ≡ before ++ done → after ≡ middle ++ part → after ≡ before ++ (done ++ part)

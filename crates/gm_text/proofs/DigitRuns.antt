@@ -9,7 +9,7 @@ use Rattle.std.proofs.lemmas.Simd.{length-chunk, get_or-chunk}
 use lib.Lanes.{chunk}
 use Rattle.gm_model.specs.Symbols.{value_after, value_of}
 use Rattle.gm_model.specs.Tokens.{is_digit}
-use Rattle.gm_text.specs.Digits.{digit_of, is_small, number_behind}
+use Rattle.gm_text.specs.inner.Digits.{digit_of, is_small, number_behind}
 use Rattle.gm_text.proofs.Values.{digit_bounds}
 
 -- digits have the value of the numbers that they are

@@ -8,7 +8,7 @@ use Rattle.std.proofs.lemmas.List.{length-take-le, length-append, length-replica
 use Rattle.std.proofs.lemmas.List.Sums.{prefix_len_passes}
 use Rattle.std.proofs.lemmas.Simd.{Each1-from_get_or, Each1-weaker, Each1-chunk, bytes_below, zip2_splat_left, tops_compared, mask_l-mod}
 use lib.Lanes.{Each1, number_l, mask_l, top, zip2}
-use Rattle.gm_text.specs.Digits.{is_small, number_behind, HasDigits}
+use Rattle.gm_text.specs.inner.Digits.{is_small, number_behind, HasDigits}
 
 -- ---- the number of eight digits
 

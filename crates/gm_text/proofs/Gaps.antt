@@ -5,7 +5,7 @@ use Rattle.std.proofs.lemmas.Bool.{cases_lt, eqb-true, not-false}
 use Rattle.std.proofs.lemmas.List.Folds.{length-prefix_len}
 use Rattle.std.proofs.lemmas.List.Sums.{prefix_len-le-length, prefix_len_passes, prefix_len_stops}
 use Rattle.gm_model.specs.Tokens.{is_blank, is_hash, is_line_feed, items_at}
-use Rattle.gm_text.specs.Lexing.{IsGap, blank, comment}
+use Rattle.gm_text.specs.inner.Lexing.{IsGap, blank, comment}
 use Rattle.gm_text.proofs.Fronts.{front_of-blank, front_of-hash}
 use Rattle.gm_text.proofs.Items.{items_at-gap}
 

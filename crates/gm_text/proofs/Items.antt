@@ -3,7 +3,7 @@ use Rattle.std.proofs.Common.{◌≡◌, ℕ, zero, suc, ◌+◌, ◌-◌, ◌<�
 use Rattle.std.proofs.lemmas.List.{drop_more, drop-drop, drop_all}
 use Rattle.gm_model.specs.declared.token.Token.{Token}
 use Rattle.gm_model.specs.Tokens.{Item, Lexed, StrayAt, EndAt, Front, Gap, Stray, size_of, item_before, items_from, items_at}
-use Rattle.gm_text.specs.Lexing.{front_at, IsTokenAt}
+use Rattle.gm_text.specs.inner.Lexing.{front_at, IsTokenAt}
 use Rattle.gm_text.proofs.Fronts.{size_of-front_of}
 
 -- bytes that belong to what stood before are passed over

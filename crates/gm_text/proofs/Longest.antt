@@ -8,7 +8,7 @@ use Rattle.gm_model.specs.declared.token.Token.{Token}
 use Rattle.gm_model.specs.declared.token.TokenKind.{TokenKind}
 use Rattle.gm_model.specs.declared.token.TokenKind.TheVariants as kinds
 use Rattle.gm_model.specs.Tokens.{is_digit, is_name_byte, begins_two_byte_sign, IsLexeme, IsLongest, HasNoLexeme, Front, Gap, Lexeme, Stray, front_of}
-use Rattle.gm_text.specs.Lexing.{front_at, IsTokenAt}
+use Rattle.gm_text.specs.inner.Lexing.{front_at, IsTokenAt}
 use Rattle.gm_text.proofs.Fronts.{IsSized, size_of-front_of, front_cases, front_of-letter, front_of-digit, front_of-underscore, front_of-two, front_of-sign}
 
 -- ---- bytes of one test

@@ -4,7 +4,7 @@ use Rattle.std.proofs.lemmas.List.{append-nil}
 use Rattle.std.specs.Option.{option_map}
 use Rattle.gm_model.specs.Symbols.{Symbol, Mark, symbols}
 use Rattle.gm_model.specs.Reading.{Part, symbols_in, last_place, Begins, IsWithin, IsReadAs, TextEndsAt, LimitStandsAt}
-use Rattle.gm_text.specs.Machine.{Stop, Ends, Passes, Leads, IsGrammar, limit_place, step, run}
+use Rattle.gm_text.specs.inner.Machine.{Stop, Ends, Passes, Leads, IsGrammar, limit_place, step, run}
 
 -- the place of the last mark, behind one at the place `last`
 abbrev pub last_of : ℕ → List Mark → ℕ

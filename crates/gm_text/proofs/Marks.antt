@@ -4,8 +4,8 @@ use Rattle.gm_model.specs.declared.token.Token.{Token}
 use Rattle.gm_model.specs.Tokens.{Lexed, StrayAt, EndAt, items_at, bytes_of}
 use Rattle.gm_model.specs.Symbols.{Stray, End, Mark, symbol_of_kind, mark_of, marks_at}
 use Rattle.gm_text.specs.declared.fault.LexFault.{LexFault}
-use Rattle.gm_text.specs.Cursor.{Cursor}
-use Rattle.gm_text.specs.Lexing.{rest_of, items_read, after}
+use Rattle.gm_text.specs.inner.Cursor.{Cursor}
+use Rattle.gm_text.specs.inner.Lexing.{rest_of, items_read, after}
 
 -- the marks of a lexer's text from its place on
 abbrev pub marks_from : Cursor → List Mark

@@ -3,9 +3,9 @@ use Rattle.std.proofs.Common.{◌≡◌, ℕ, Bool, true, false, cond, List, [],
 use Rattle.std.specs.Prelude.{IsTrue, is_some}
 use Rattle.gm_model.specs.Symbols.{Symbol, Mark}
 use Rattle.gm_model.specs.Reading.{Part, in_role}
-use Rattle.gm_text.specs.Machine.{Stop, Ends, Passes, IsGrammar, limit_place, step, run}
+use Rattle.gm_text.specs.inner.Machine.{Stop, Ends, Passes, IsGrammar, limit_place, step, run}
 use Rattle.gm_text.proofs.Machine.{last_of, stepped, Refused, Limited, Moved}
-use Rattle.gm_text.specs.Nested.{Nested, Outside, Inside, Nesting, role_at, move_inside, move, IsApart, LeadsInside, LeadsNested, IsNestedSentence, HasPieces}
+use Rattle.gm_text.specs.inner.Nested.{Nested, Outside, Inside, Nesting, role_at, move_inside, move, IsApart, LeadsInside, LeadsNested, IsNestedSentence, HasPieces}
 
 module _ {Outer Inner Role InnerRole What : Type 0} (nesting : Nesting Outer Inner Role InnerRole) (limit_of : Role → Symbol → Option What) (stands_before : Role → Bool) where
   abbrev Led : Nested Outer Inner → List (Part Role) → Nested Outer Inner → Type 0

@@ -6,13 +6,13 @@ use Rattle.gm_model.specs.declared.schema.Embed.{Embed}
 use Rattle.gm_model.specs.declared.schema.Schema.{Schema}
 use Rattle.gm_model.specs.Symbols.{Symbol, Word, Mark, symbols}
 use Rattle.gm_model.specs.Reading.{Part, IsWithin, IsReadAs, TextEndsAt, LimitStandsAt, symbols_in}
-use Rattle.gm_text.specs.Cursor.{Cursor}
-use Rattle.gm_text.specs.Machine.{Stop, Ends, Passes, Leads, run}
-use Rattle.gm_text.specs.Nested.{Nested, Outside, Inside}
-use Rattle.gm_text.specs.Nested as nested
+use Rattle.gm_text.specs.inner.Cursor.{Cursor}
+use Rattle.gm_text.specs.inner.Machine.{Stop, Ends, Passes, Leads, run}
+use Rattle.gm_text.specs.inner.Nested.{Nested, Outside, Inside}
+use Rattle.gm_text.specs.inner.Nested as nested
 use Rattle.gm_text.specs.SchemaText.{SchemaForm, Role, Fixed, LimitOf, Again, limit_of, passed_of, embed_of, schema_of, spell, beyond, IsSentence}
-use Rattle.gm_text.specs.SchemaReading.{State, AtDim, AtEmbeds, role_at, move, Around, AtRest, standing, never, Stands}
-use Rattle.gm_text.specs.SchemaAnswers.{marks_left, IsSchemaRead, IsSchemaSkipped, IsSchemaFault, IsSkipFault}
+use Rattle.gm_text.specs.inner.SchemaReading.{State, AtDim, AtEmbeds, role_at, move, Around, AtRest, standing, never, Stands}
+use Rattle.gm_text.specs.inner.SchemaAnswers.{marks_left, IsSchemaRead, IsSchemaSkipped, IsSchemaFault, IsSkipFault}
 use Rattle.gm_text.specs.declared.schema_fault.SchemaFault.{SchemaFault}
 use Rattle.gm_text.specs.declared.schema_fault.SchemaFault.TheVariants as faults
 use Rattle.gm_text.proofs.Machine.{reading_runs, ends_run, passes_run}

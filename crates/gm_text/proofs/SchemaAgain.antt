@@ -14,12 +14,12 @@ use Rattle.gm_model.specs.Labels.{has}
 use Rattle.gm_model.specs.Symbols.{Symbol, Word, Numeral, Sign, Mark, symbols, marks_of}
 use Rattle.gm_model.specs.Tokens.{is_digit, begins_two_byte_sign, IsLexeme}
 use Rattle.gm_model.specs.Reading.{Part, IsWithin, symbols_in, word, sign}
-use Rattle.gm_text.specs.Cursor.{Cursor}
-use Rattle.gm_text.specs.Machine.{Leads, run}
+use Rattle.gm_text.specs.inner.Cursor.{Cursor}
+use Rattle.gm_text.specs.inner.Machine.{Leads, run}
 use Rattle.gm_text.specs.SchemaText.{LabelForm, EmbedForm, SchemaForm, Role, Fixed, EmbedWord, NameAt, LabelAt, passed_of, no_labels, with_label, with_labels, embed_of, names_in, kind_word, schema_of, spell_labels, spell_embed, spell_embeds, spell, IsEmbed, IsForm, IsSentence, beyond, labels_below, labels_in, labels_text, embed_line, canonical}
-use Rattle.gm_text.specs.SchemaReading.{State, AtDim, AtEmbeds, role_at, move, never, Stands}
-use Rattle.gm_text.specs.SchemaAnswers.{IsSchemaRead}
-use Rattle.gm_text.specs.SchemaPrinting.{AreParts, BeginNoEmbed, StandsBefore}
+use Rattle.gm_text.specs.inner.SchemaReading.{State, AtDim, AtEmbeds, role_at, move, never, Stands}
+use Rattle.gm_text.specs.inner.SchemaAnswers.{IsSchemaRead}
+use Rattle.gm_text.specs.inner.SchemaPrinting.{AreParts, BeginNoEmbed, StandsBefore}
 use Rattle.gm_text.proofs.Printed.{Stops, symbols_from, symbols_of-from, symbols_from-blank, symbols_from-word_blank, symbols_from-decimal, symbols_from-decimal_blank, symbols_from-sign, IsLexeme-decimal}
 use Rattle.gm_text.proofs.SchemaGrammar.{spell_before, led_form}
 use Rattle.gm_text.proofs.SchemaMasks.{label_forms, built, none_above, built_whole}

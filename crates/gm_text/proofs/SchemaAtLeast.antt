@@ -4,11 +4,11 @@ use Rattle.gm_model.specs.declared.schema.Embed.{Embed}
 use Rattle.gm_model.specs.declared.schema.Schema.{Schema}
 use Rattle.gm_model.specs.Symbols.{Symbol, Word, Mark}
 use Rattle.gm_model.specs.Reading.{TextEndsAt, LimitStandsAt}
-use Rattle.gm_text.specs.Cursor.{Cursor}
-use Rattle.gm_text.specs.Machine.{Stop, Ends, Passes, run}
+use Rattle.gm_text.specs.inner.Cursor.{Cursor}
+use Rattle.gm_text.specs.inner.Machine.{Stop, Ends, Passes, run}
 use Rattle.gm_text.specs.SchemaText.{Role, LimitOf, Again, limit_of, passed_of, IsSentence}
-use Rattle.gm_text.specs.SchemaReading.{State, AtDim, AtTop, AtEmbeds, AtName, AtOrbit, AtLabel, AtKind, role_at, move, is_whole, never}
-use Rattle.gm_text.specs.SchemaAnswers.{IsNoToken, AtStray, AtEnd, marks_left, IsSchemaRead, IsSchemaSkipped, IsSchemaFault, IsSkipFault}
+use Rattle.gm_text.specs.inner.SchemaReading.{State, AtDim, AtTop, AtEmbeds, AtName, AtOrbit, AtLabel, AtKind, role_at, move, is_whole, never}
+use Rattle.gm_text.specs.inner.SchemaAnswers.{IsNoToken, AtStray, AtEnd, marks_left, IsSchemaRead, IsSchemaSkipped, IsSchemaFault, IsSkipFault}
 use Rattle.gm_text.specs.declared.schema_fault.SchemaFault.{SchemaFault}
 use Rattle.gm_text.specs.declared.schema_fault.SchemaFault.TheVariants as faults
 use Rattle.gm_text.proofs.AtLeast.{cut, behind_all}

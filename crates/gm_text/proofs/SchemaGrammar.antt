@@ -13,9 +13,9 @@ use Rattle.gm_model.specs.declared.word.Mask.{Mask}
 use Rattle.gm_model.specs.Names.{Mention, reserved, is_among}
 use Rattle.gm_model.specs.Symbols.{Symbol, Word, Numeral, Sign, Gone, Stray, End}
 use Rattle.gm_model.specs.Reading.{Part, word, number, sign}
-use Rattle.gm_text.specs.Machine.{Leads}
+use Rattle.gm_text.specs.inner.Machine.{Leads}
 use Rattle.gm_text.specs.SchemaText.{LabelForm, EmbedForm, SchemaForm, Role, Fixed, Dimension, EmbedWord, NameAt, LabelAt, no_labels, with_label, with_labels, embed_of, names_in, kind_word, spell_labels, spell_embeds, spell, IsEmbed, IsForm}
-use Rattle.gm_text.specs.SchemaReading.{State, AtDim, AtTop, AtEmbeds, AtName, AtOrbit, AtLabel, AtKind, role_at, kind_named, expect, with_kind, move, is_whole, never}
+use Rattle.gm_text.specs.inner.SchemaReading.{State, AtDim, AtTop, AtEmbeds, AtName, AtOrbit, AtLabel, AtKind, role_at, kind_named, expect, with_kind, move, is_whole, never}
 
 -- ---- spellings before something else
 

@@ -12,8 +12,8 @@ use Rattle.gm_model.specs.declared.token.TokenKind.TheVariants as tokens
 use Rattle.gm_model.specs.declared.word.Mask.{Mask}
 use Rattle.gm_model.specs.Symbols.{Symbol, Word, Numeral, Sign, Gone, Stray, End, symbol_of_kind}
 use Rattle.gm_text.specs.SchemaText.{Role, Fixed, LimitOf, Again, limit_of, is_again, no_labels}
-use Rattle.gm_text.specs.SchemaReading.{State, AtDim, AtTop, AtName, AtOrbit, AtLabel, AtKind, expect, move}
-use Rattle.gm_text.specs.SchemaAnswers.{judged}
+use Rattle.gm_text.specs.inner.SchemaReading.{State, AtDim, AtTop, AtName, AtOrbit, AtLabel, AtKind, expect, move}
+use Rattle.gm_text.specs.inner.SchemaAnswers.{judged}
 
 -- ---- of which kind it is
 

@@ -10,7 +10,7 @@ use Rattle.gm_model.specs.declared.schema.Embed.{Embed}
 use Rattle.gm_model.specs.declared.word.Mask.{Mask}
 use Rattle.gm_model.specs.Labels.{has}
 use Rattle.gm_text.specs.SchemaText.{labels_below, labels_in, labels_text, embed_line}
-use Rattle.gm_text.specs.SchemaPrinting.{AreParts, IsCut, IsPart, gap_behind}
+use Rattle.gm_text.specs.inner.SchemaPrinting.{AreParts, IsCut, IsPart, gap_behind}
 use Rattle.gm_text.proofs.Cuts.{cut_before, cut_behind, written_behind}
 
 -- ---- labels

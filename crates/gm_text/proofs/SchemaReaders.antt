@@ -13,10 +13,10 @@ use Rattle.gm_model.specs.Labels.{has}
 use Rattle.gm_model.specs.Names.{IsName, is_among, reserved}
 use Rattle.gm_model.specs.Symbols.{Symbol, Word, Numeral, Sign, Mark, symbol_of_kind, value_of}
 use Rattle.gm_model.specs.Tokens.{IsLexeme, bytes_of}
-use Rattle.gm_text.specs.Cursor.{Cursor}
+use Rattle.gm_text.specs.inner.Cursor.{Cursor}
 use Rattle.gm_text.specs.SchemaText.{Role, Fixed, Dimension, EmbedWord, NameAt, LabelAt, LimitOf, limit_of, is_again, names_in, with_label}
-use Rattle.gm_text.specs.SchemaReading.{AtTop, AtEmbeds, AtName, AtOrbit, AtLabel, AtKind, label_role, move}
-use Rattle.gm_text.specs.SchemaAnswers.{marks_left, judged, IsKnown, run_in, Reads, EndsIn, Stops, IsNext, symbol_at}
+use Rattle.gm_text.specs.inner.SchemaReading.{AtTop, AtEmbeds, AtName, AtOrbit, AtLabel, AtKind, label_role, move}
+use Rattle.gm_text.specs.inner.SchemaAnswers.{marks_left, judged, IsKnown, run_in, Reads, EndsIn, Stops, IsNext, symbol_at}
 use Rattle.gm_text.specs.declared.schema_fault.SchemaFault.TheVariants as faults
 use Rattle.gm_text.proofs.SchemaMoves.{passes_limit, passes_again, passes_nothing, fixed_free}
 use Rattle.gm_text.proofs.SchemaSteps.{passes_at, reads_token, stops_token, limit_token, twice_token}

@@ -24,10 +24,10 @@ use Rattle.gm_model.specs.Maps.{IsSchema}
 use Rattle.gm_model.specs.Names.{reserved, IsReserved, is_among}
 use Rattle.gm_model.specs.Symbols.{Symbol, Mark, symbols}
 use Rattle.gm_model.specs.Reading.{Part, IsWithin, symbols_in, word, sign}
-use Rattle.gm_text.specs.Cursor.{Cursor}
+use Rattle.gm_text.specs.inner.Cursor.{Cursor}
 use Rattle.gm_text.specs.SchemaText.{LabelForm, EmbedForm, SchemaForm, Role, Fixed, passed_by, passed_of, no_labels, with_label, with_labels, embed_of, schema_of, names_in, kind_word, spell_labels, spell_embeds, spell, IsEmbed, IsForm, IsSentence}
-use Rattle.gm_text.specs.SchemaAnswers.{IsSchemaRead, marks_left}
-use Rattle.gm_text.specs.SchemaPrinting.{AreParts}
+use Rattle.gm_text.specs.inner.SchemaAnswers.{IsSchemaRead, marks_left}
+use Rattle.gm_text.specs.inner.SchemaPrinting.{AreParts}
 use Rattle.gm_text.proofs.Lexemes.{IsSound, words_are_lexemes}
 
 abbrev AreWithin : List (Part Role) → Type 0

@@ -9,7 +9,7 @@ use Rattle.gm_model.specs.Names.{Mention}
 use Rattle.gm_model.specs.Symbols.{Symbol, Word, Numeral, Sign}
 use Rattle.gm_model.specs.Reading.{Part, word, number, sign}
 use Rattle.gm_text.specs.SchemaText.{LabelForm, EmbedForm, SchemaForm, Role, Fixed, Dimension, EmbedWord, NameAt, LabelAt, no_labels, with_label, embed_of, names_in, kind_word, spell_labels, spell_embeds, spell, IsEmbed, IsForm}
-use Rattle.gm_text.specs.SchemaReading.{kind_named}
+use Rattle.gm_text.specs.inner.SchemaReading.{kind_named}
 use Rattle.gm_text.proofs.SchemaGrammar.{kind_again}
 
 front_is : (part other : Part Role) (parts others : List (Part Role)) → part ∷ parts ≡ other ∷ others → part ≡ other

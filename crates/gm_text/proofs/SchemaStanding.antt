@@ -8,11 +8,11 @@ use Rattle.gm_model.specs.declared.schema.Schema.{Schema}
 use Rattle.gm_model.specs.declared.word.Mask.{Mask}
 use Rattle.gm_model.specs.Symbols.{Symbol, Word, Numeral, Sign, Gone, Stray, End, Mark}
 use Rattle.gm_model.specs.Reading.{Part, in_role, IsWithin, TextEndsAt, LimitStandsAt, ArePlaced}
-use Rattle.gm_text.specs.Machine.{Stop, Ends, Passes, Leads, IsGrammar, run}
-use Rattle.gm_text.specs.Nested.{Nested, Outside, Inside, IsApart, HasPieces, IsNestedSentence, LeadsNested}
-use Rattle.gm_text.specs.Nested as nested
+use Rattle.gm_text.specs.inner.Machine.{Stop, Ends, Passes, Leads, IsGrammar, run}
+use Rattle.gm_text.specs.inner.Nested.{Nested, Outside, Inside, IsApart, HasPieces, IsNestedSentence, LeadsNested}
+use Rattle.gm_text.specs.inner.Nested as nested
 use Rattle.gm_text.specs.SchemaText.{SchemaForm, Role, Fixed, NameAt, LabelAt, limit_of, passed_of, embed_of, schema_of, spell, IsForm, beyond, IsSentence, IsPlacedAt}
-use Rattle.gm_text.specs.SchemaReading.{State, AtDim, AtTop, AtEmbeds, AtName, AtOrbit, AtLabel, AtKind, role_at, label_role, move, is_whole, Around, AtNext, AtRest, around_move, standing, never, Stands}
+use Rattle.gm_text.specs.inner.SchemaReading.{State, AtDim, AtTop, AtEmbeds, AtName, AtOrbit, AtLabel, AtKind, role_at, label_role, move, is_whole, Around, AtNext, AtRest, around_move, standing, never, Stands}
 use Rattle.gm_text.proofs.Machine.{Along, run_reads, run_ends, run_passes, along_leads, along_spelled, ended_is, passing_is}
 use Rattle.gm_text.proofs.Nested.{nested_grammar, run_inside_ends, run_inside_passes}
 use Rattle.gm_text.proofs.SchemaGrammar.{spell_before, led_form, form_is, goes_on}

@@ -4,12 +4,12 @@ use Rattle.std.specs.Prelude.{IfOk, IfErr}
 use Rattle.gm_model.specs.declared.limit.LimitKind.{LimitKind}
 use Rattle.gm_model.specs.declared.schema.Embed.{Embed}
 use Rattle.gm_model.specs.Symbols.{Symbol, Word, Stray, End, Mark}
-use Rattle.gm_text.specs.Cursor.{Cursor}
-use Rattle.gm_text.specs.Lexing.{IsBehindToken}
-use Rattle.gm_text.specs.Machine.{Stop, Ends, Passes}
+use Rattle.gm_text.specs.inner.Cursor.{Cursor}
+use Rattle.gm_text.specs.inner.Lexing.{IsBehindToken}
+use Rattle.gm_text.specs.inner.Machine.{Stop, Ends, Passes}
 use Rattle.gm_text.specs.SchemaText.{Passed, LimitOf, Again}
-use Rattle.gm_text.specs.SchemaReading.{State, AtDim, AtTop, AtEmbeds, AtName, AtOrbit, AtLabel, AtKind, role_at, move, is_whole}
-use Rattle.gm_text.specs.SchemaAnswers.{marks_left, judged, IsKnown, run_in, Reads, EndsIn, Stops, StopsOrLost, IsNext, IsEmbedNext, IsNoToken, AtStray, AtEnd, LacksToken, symbol_at, mark_at}
+use Rattle.gm_text.specs.inner.SchemaReading.{State, AtDim, AtTop, AtEmbeds, AtName, AtOrbit, AtLabel, AtKind, role_at, move, is_whole}
+use Rattle.gm_text.specs.inner.SchemaAnswers.{marks_left, judged, IsKnown, run_in, Reads, EndsIn, Stops, StopsOrLost, IsNext, IsEmbedNext, IsNoToken, AtStray, AtEnd, LacksToken, symbol_at, mark_at}
 use Rattle.gm_text.specs.declared.schema_fault.SchemaFault.{SchemaFault}
 use Rattle.gm_text.specs.declared.schema_fault.SchemaFault.TheVariants as faults
 use Rattle.gm_model.specs.declared.token.Token.{Token}

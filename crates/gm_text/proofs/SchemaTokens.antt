@@ -1,10 +1,10 @@
 -- The marks where a lexer answers no token.
 use Rattle.std.proofs.Common.{◌≡◌, ℕ, length, None, Ok, Err, refl, sym}
 use Rattle.gm_model.specs.Symbols.{Stray, End}
-use Rattle.gm_text.specs.Cursor.{Cursor}
-use Rattle.gm_text.specs.Lexing.{rest_of, items_read}
+use Rattle.gm_text.specs.inner.Cursor.{Cursor}
+use Rattle.gm_text.specs.inner.Lexing.{rest_of, items_read}
 use Rattle.gm_text.specs.declared.fault.LexFault.{LexFault}
-use Rattle.gm_text.specs.SchemaAnswers.{AtStray, AtEnd, IsNoneNext}
+use Rattle.gm_text.specs.inner.SchemaAnswers.{AtStray, AtEnd, IsNoneNext}
 use Rattle.gm_text.proofs.Marks.{marks_at-end, marks_at-stray}
 
 pub none_at_end : (cursor new : Cursor) (place : ℕ) → rest_of cursor ≡ items_read cursor.text (Ok None) (rest_of new) → place ≡ length cursor.text → IsNoneNext cursor place

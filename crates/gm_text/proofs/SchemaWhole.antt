@@ -5,11 +5,11 @@ use Rattle.gm_model.specs.declared.schema.Embed.{Embed}
 use Rattle.gm_model.specs.declared.schema.Schema.{Schema}
 use Rattle.gm_model.specs.Symbols.{Mark}
 use Rattle.gm_model.specs.Reading.{TextEndsAt}
-use Rattle.gm_text.specs.Cursor.{Cursor}
-use Rattle.gm_text.specs.Machine.{Stop, Ends, Passes, run}
+use Rattle.gm_text.specs.inner.Cursor.{Cursor}
+use Rattle.gm_text.specs.inner.Machine.{Stop, Ends, Passes, run}
 use Rattle.gm_text.specs.SchemaText.{LimitOf, Again, limit_of, passed_of, IsSentence}
-use Rattle.gm_text.specs.SchemaReading.{State, AtDim, AtEmbeds, role_at, move, never}
-use Rattle.gm_text.specs.SchemaAnswers.{marks_left, judged, run_in, Reads, EndsIn, Stops, StopsOrLost, EndsEmbeds, SkipsSchema, IsSchemaRead, IsSchemaSkipped, IsSchemaFault, IsSkipFault}
+use Rattle.gm_text.specs.inner.SchemaReading.{State, AtDim, AtEmbeds, role_at, move, never}
+use Rattle.gm_text.specs.inner.SchemaAnswers.{marks_left, judged, run_in, Reads, EndsIn, Stops, StopsOrLost, EndsEmbeds, SkipsSchema, IsSchemaRead, IsSchemaSkipped, IsSchemaFault, IsSkipFault}
 use Rattle.gm_text.specs.declared.schema_fault.SchemaFault.{SchemaFault}
 use Rattle.gm_text.specs.declared.schema_fault.SchemaFault.TheVariants as faults
 use Rattle.gm_text.proofs.Machine.{stop_as, run_as}

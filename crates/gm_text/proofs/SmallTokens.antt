@@ -8,8 +8,8 @@ use Rattle.gm_model.specs.declared.token.Token.{Token}
 use Rattle.gm_model.specs.declared.token.TokenKind.TheVariants as kinds
 use Rattle.gm_model.specs.Symbols.{value_of}
 use Rattle.gm_model.specs.Tokens.{is_digit, is_sign, is_two_byte_sign, begins_two_byte_sign, items_at, Lexed, Lexeme, front_of}
-use Rattle.gm_text.specs.Lexing.{IsTokenAt, IsNumberRead, IsSignRead}
-use Rattle.gm_text.specs.SchemaAnswers.{IsNext}
+use Rattle.gm_text.specs.inner.Lexing.{IsTokenAt, IsNumberRead, IsSignRead}
+use Rattle.gm_text.specs.inner.SchemaAnswers.{IsNext}
 use Rattle.gm_text.proofs.Fronts.{front_of-digit, front_of-sign}
 use Rattle.gm_text.proofs.Items.{items_at-token}
 use Rattle.gm_text.proofs.Longest.{IsLongest-at}

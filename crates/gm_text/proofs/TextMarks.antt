@@ -3,9 +3,9 @@ use Rattle.std.proofs.Common.{◌≡◌, ℕ, zero, suc, ◌+◌, ◌-◌, ◌�
 use Rattle.std.proofs.lemmas.List.{drop-drop}
 use Rattle.gm_model.specs.Symbols.{Mark, mark_of, marks_of}
 use Rattle.gm_model.specs.Tokens.{Item, Lexed, Front, Gap, Lexeme, Stray, front_of, size_of, item_before, items_from}
-use Rattle.gm_text.specs.Cursor.{Cursor}
-use Rattle.gm_text.specs.Lexing.{rest_of}
-use Rattle.gm_text.specs.SchemaAnswers.{marks_left, AtStray, AtEnd}
+use Rattle.gm_text.specs.inner.Cursor.{Cursor}
+use Rattle.gm_text.specs.inner.Lexing.{rest_of}
+use Rattle.gm_text.specs.inner.SchemaAnswers.{marks_left, AtStray, AtEnd}
 use Rattle.gm_text.proofs.AtLeast.{EndAsTexts}
 use Rattle.gm_text.proofs.Fronts.{size_of-front_of}
 use Rattle.gm_text.proofs.Items.{items_from-taken}

@@ -4,11 +4,11 @@ use Rattle.std.specs.Str.{bytes_eq}
 use Rattle.std.specs.Prelude.{if◌then◌else◌}
 use Rattle.gm_model.specs.declared.limit.LimitKind.TheVariants as limits
 use Rattle.gm_model.specs.Symbols.{Symbol, Word, End, marks_of}
-use Rattle.gm_text.specs.Machine.{Stop, Ends, Passes, run}
-use Rattle.gm_text.specs.Nested.{Nested, Outside, Inside, Nesting, role_at, move}
+use Rattle.gm_text.specs.inner.Machine.{Stop, Ends, Passes, run}
+use Rattle.gm_text.specs.inner.Nested.{Nested, Outside, Inside, Nesting, role_at, move}
 use Rattle.gm_text.specs.SchemaText.{Role, Fixed, Passed, LimitOf, Again, passed_of}
-use Rattle.gm_text.specs.SchemaReading.{State, AtDim, AtTop, AtEmbeds, AtName, AtOrbit, AtLabel, AtKind, is_whole, never}
-use Rattle.gm_text.specs.SchemaReading as schema
+use Rattle.gm_text.specs.inner.SchemaReading.{State, AtDim, AtTop, AtEmbeds, AtName, AtOrbit, AtLabel, AtKind, is_whole, never}
+use Rattle.gm_text.specs.inner.SchemaReading as schema
 
 data Outer : Type 0 where
   -- before the word, behind a schema of this dimension, and behind the end

@@ -1,10 +1,3 @@
-pub mod Cursor
-pub mod Lexing
-pub mod Machine
-pub mod Nested
 pub mod ValueText
 pub mod SchemaText
-pub mod SchemaReading
-pub mod SchemaAnswers
-pub mod SchemaPrinting
-pub mod Digits
+pub mod inner

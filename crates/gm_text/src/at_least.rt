@@ -1,8 +1,8 @@
 //! What stands in a text, or else which fault is its first: no text falls between the definitions.
 ghost use Rattle.std.specs.Prelude.{◌≡◌, ◌≢◌, ◌⊎◌, ℕ};
 ghost use Rattle.gm_model.specs.declared.schema.Schema.{Schema};
-ghost use Rattle.gm_text.specs.Cursor.{Cursor};
-ghost use Rattle.gm_text.specs.SchemaAnswers.{marks_left, IsSchemaRead, IsSchemaSkipped, IsSchemaFault, IsSkipFault};
+ghost use Rattle.gm_text.specs.inner.Cursor.{Cursor};
+ghost use Rattle.gm_text.specs.inner.SchemaAnswers.{marks_left, IsSchemaRead, IsSchemaSkipped, IsSchemaFault, IsSkipFault};
 ghost use Rattle.gm_text.specs.declared.schema_fault.SchemaFault.{SchemaFault};
 ghost use Rattle.gm_text.specs.declared.schema_fault.SchemaFault.TheVariants.{OutOfMemory};
 

@@ -2,7 +2,7 @@
 ghost use Rattle.std.specs.Prelude.{◌≡◌, ℕ, ◌+◌, ◌<◌, ◌≤◌, List, map, length, take};
 ghost use Rattle.std.specs.List.{prefix_len};
 ghost use Rattle.std.specs.Simd.Lanes.{chunk, number_l};
-ghost use Rattle.gm_text.specs.Digits.{digit_of, is_small, number_behind, HasDigits};
+ghost use Rattle.gm_text.specs.inner.Digits.{digit_of, is_small, number_behind, HasDigits};
 
 use std::simd::prelude::*;
 

@@ -2,10 +2,10 @@
 ghost use Rattle.std.specs.Prelude.{◌≡◌, ◌≢◌, ◌++◌, ℕ, List};
 ghost use Rattle.gm_model.specs.declared.schema.Schema.{Schema};
 ghost use Rattle.gm_model.specs.Symbols.{Mark};
-ghost use Rattle.gm_text.specs.Cursor.{Cursor};
-ghost use Rattle.gm_text.specs.Lexing.{IsBehindToken};
-ghost use Rattle.gm_text.specs.SchemaAnswers.{marks_left, IsSchemaRead, IsSchemaSkipped, IsSchemaFault, IsSkipFault};
-ghost use Rattle.gm_text.specs.SchemaPrinting.{BeginNoEmbed, StandsBefore};
+ghost use Rattle.gm_text.specs.inner.Cursor.{Cursor};
+ghost use Rattle.gm_text.specs.inner.Lexing.{IsBehindToken};
+ghost use Rattle.gm_text.specs.inner.SchemaAnswers.{marks_left, IsSchemaRead, IsSchemaSkipped, IsSchemaFault, IsSkipFault};
+ghost use Rattle.gm_text.specs.inner.SchemaPrinting.{BeginNoEmbed, StandsBefore};
 ghost use Rattle.gm_text.specs.SchemaText.{canonical};
 ghost use Rattle.gm_text.specs.declared.schema_fault.SchemaFault.{SchemaFault};
 ghost use Rattle.gm_text.specs.declared.schema_fault.SchemaFault.TheVariants.{OutOfMemory};

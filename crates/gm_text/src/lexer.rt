@@ -4,8 +4,8 @@ ghost use Rattle.gm_model.specs.declared.token.TokenKind.TheVariants.{Name, Numb
 ghost use Rattle.gm_model.specs.Tokens.{bytes_of, IsLexeme};
 ghost use Rattle.gm_model.specs.Tokens as tokens;
 ghost use Rattle.gm_model.specs.Symbols.{value_of};
-ghost use Rattle.gm_text.specs.Lexing.{rest_of, items_read, after, stand_of, IsInText, IsLongestThere, IsGap, IsNumberRead, IsSignRead};
-ghost use Rattle.gm_text.specs.SchemaAnswers.{IsToken, IsNext, IsNoneNext};
+ghost use Rattle.gm_text.specs.inner.Lexing.{rest_of, items_read, after, stand_of, IsInText, IsLongestThere, IsGap, IsNumberRead, IsSignRead};
+ghost use Rattle.gm_text.specs.inner.SchemaAnswers.{IsToken, IsNext, IsNoneNext};
 
 use crate::fault::LexFault;
 use crate::guess::Guess;
@@ -35,7 +35,7 @@ pub struct Lexer<'a> {
 
 impl<'a> Model for Lexer<'a> {
     ghost use Rattle.std.specs.Prelude.{◌≤◌, length};
-    ghost use Rattle.gm_text.specs.Cursor.{Cursor};
+    ghost use Rattle.gm_text.specs.inner.Cursor.{Cursor};
 
     ghost Value = { Cursor };
 

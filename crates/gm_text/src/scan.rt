@@ -3,7 +3,7 @@ ghost use Rattle.std.specs.List.{take_while};
 ghost use Rattle.gm_model.specs.declared.token.TokenKind.TheVariants.{Name};
 ghost use Rattle.gm_model.specs.Symbols.{value_of};
 ghost use Rattle.gm_model.specs.Tokens as tokens;
-ghost use Rattle.gm_text.specs.Lexing.{IsGap, IsTokenAt, front_at};
+ghost use Rattle.gm_text.specs.inner.Lexing.{IsGap, IsTokenAt, front_at};
 
 use crate::bytes::{is_blank, is_digit, is_letter, is_name_byte, is_sign, is_two_byte_sign};
 use crate::digits::{digits_at, leading_digits, leading_number};

@@ -2,7 +2,7 @@
 ghost use Rattle.std.specs.Prelude.{◌≡◌, ◌<◌, ◌^◌, ◌++◌, OnOk, OnErr, decimal};
 ghost use Rattle.std.specs.List.{flat_map};
 ghost use Rattle.gm_text.specs.SchemaText.{canonical, embed_line, kind_word, labels_in, labels_text};
-ghost use Rattle.gm_text.specs.SchemaPrinting.{AreParts, IsCut, IsPart};
+ghost use Rattle.gm_text.specs.inner.SchemaPrinting.{AreParts, IsCut, IsPart};
 
 use crate::text::Text;
 use gm_model::{Embed, Kind, Mask, OutOfMemory, Schema};

@@ -4,10 +4,10 @@ ghost use Rattle.gm_model.specs.declared.schema.Embed.{Embed};
 ghost use Rattle.gm_model.specs.declared.word.Mask.{Mask};
 ghost use Rattle.gm_model.specs.declared.token.TokenKind.TheVariants.{Name, Number};
 ghost use Rattle.gm_model.specs.Maps.{IsSchema};
-ghost use Rattle.gm_text.specs.Lexing.{IsBehindToken};
+ghost use Rattle.gm_text.specs.inner.Lexing.{IsBehindToken};
 ghost use Rattle.gm_text.specs.SchemaText.{no_labels};
-ghost use Rattle.gm_text.specs.SchemaReading as states;
-ghost use Rattle.gm_text.specs.SchemaAnswers.{IsSchemaRead, IsSchemaSkipped, IsSchemaFault, IsSkipFault, Reads, Stops, StopsOrLost, ReadsName, StopsAtName, ReadsLabel, StopsAtLabel, IsNoEmbedNext, IsEmbedNext, EndsEmbeds, SkipsEmbeds, SkipsSchema, ReadsDeclaration, StopsAtDeclaration, ReadsEmbed, StopsAtEmbed, marks_left};
+ghost use Rattle.gm_text.specs.inner.SchemaReading as states;
+ghost use Rattle.gm_text.specs.inner.SchemaAnswers.{IsSchemaRead, IsSchemaSkipped, IsSchemaFault, IsSkipFault, Reads, Stops, StopsOrLost, ReadsName, StopsAtName, ReadsLabel, StopsAtLabel, IsNoEmbedNext, IsEmbedNext, EndsEmbeds, SkipsEmbeds, SkipsSchema, ReadsDeclaration, StopsAtDeclaration, ReadsEmbed, StopsAtEmbed, marks_left};
 
 use crate::lexer::Lexer;
 use crate::schema_fault::SchemaFault;

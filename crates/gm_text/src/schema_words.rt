@@ -7,8 +7,8 @@ ghost use Rattle.gm_model.specs.declared.word.Mask.{Mask};
 ghost use Rattle.gm_model.specs.Names.{is_among, reserved};
 ghost use Rattle.gm_model.specs.Symbols.{Word, Sign};
 ghost use Rattle.gm_text.specs.SchemaText.{with_label};
-ghost use Rattle.gm_text.specs.SchemaReading as reading;
-ghost use Rattle.gm_text.specs.SchemaAnswers.{IsToken, IsNext, LacksToken, symbol_at};
+ghost use Rattle.gm_text.specs.inner.SchemaReading as reading;
+ghost use Rattle.gm_text.specs.inner.SchemaAnswers.{IsToken, IsNext, LacksToken, symbol_at};
 
 use crate::lexer::Lexer;
 use crate::schema_fault::SchemaFault;

@@ -12,7 +12,7 @@ use Rattle.gm_model.specs.Matches.ArePositions.{Created, Walked}
 use Rattle.gm_model.specs.Orbits.{IsPairBefore, IsWalk, follow}
 use Rattle.gm_model.specs.Rules.{Rule, label_at, letters, step, width}
 use Rattle.gm_model.specs.Structure.{IsInRange, HasIncidence}
-use Rattle.gm_theory.specs.OneMatch.{HaveSameTurns, IsLike, OneMatchAtMost}
+use Rattle.gm_theory.specs.inner.OneMatch.{HaveSameTurns, IsLike, OneMatchAtMost}
 use Rattle.gm_theory.proofs.Candidates.{match_is_candidate}
 use Rattle.gm_theory.proofs.LeastPaths.{least_path}
 use Rattle.gm_theory.proofs.Lists.{none_some, some_same}

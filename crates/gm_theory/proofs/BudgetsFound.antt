@@ -35,8 +35,8 @@ use Rattle.gm_theory.proofs.ValuesFound.{IsLeast, decide_assigned, assigned_belo
 use Rattle.gm_theory.proofs.ValuesKept.{match_reading}
 use Rattle.gm_theory.proofs.ValuesLists.{IsIn, in_contained, contains_in}
 use Rattle.gm_theory.proofs.ValuesReach.{IsDecided, decide_orbit}
-use Rattle.gm_theory.specs.Outcomes.{ApplicationsHaveBudgets}
-use Rattle.gm_theory.specs.Theorem.{Unfolded, Unfolds}
+use Rattle.gm_theory.specs.inner.Outcomes.{ApplicationsHaveBudgets}
+use Rattle.gm_theory.specs.inner.Theorem.{Unfolded, Unfolds}
 
 abbrev HasBudget : Application → Type 0
 HasBudget app = (most : ℕ) × IsBudget app most

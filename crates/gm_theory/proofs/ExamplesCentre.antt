@@ -24,7 +24,7 @@ use Rattle.gm_theory.proofs.ExamplesMatches.{walk_shown}
 use Rattle.gm_theory.proofs.ExamplesTriangulation.{only_points, assigned_new, assigns_centre, unfolded}
 use Rattle.gm_theory.proofs.Tests.{both_true, not_both}
 use Rattle.gm_theory.proofs.ValuesJoined.{joined_by_link}
-use Rattle.gm_theory.specs.Examples.{neighbour, planar, labels_01, labels_12, centre, triangulation, square, square_table, square_walk, on_square, corners, four_triangles, triangles_table, triangles_points, triangulating, point, origin, map_of, IsLawfulExample}
+use Rattle.gm_theory.specs.inner.Examples.{neighbour, planar, labels_01, labels_12, centre, triangulation, square, square_table, square_walk, on_square, corners, four_triangles, triangles_table, triangles_points, triangulating, point, origin, map_of, IsLawfulExample}
 
 -- ---- both maps
 

@@ -29,8 +29,8 @@ use Rattle.gm_theory.proofs.Lists.{some_same, none_some}
 use Rattle.gm_theory.proofs.RuleSteps.{word_below}
 use Rattle.gm_theory.proofs.Tests.{both_true, not_true, not_both}
 use Rattle.gm_theory.proofs.ValuesUnique.{number_made}
-use Rattle.gm_theory.specs.Examples.{square, square_walk, on_square, four_triangles, triangulation, triangulating, centre, labels_12, points_of_vertices, kept_node}
-use Rattle.gm_theory.specs.ExamplesOutcomes.{spoiling, spoiling_square, on_corner}
+use Rattle.gm_theory.specs.inner.Examples.{square, square_walk, on_square, four_triangles, triangulation, triangulating, centre, labels_12, points_of_vertices, kept_node}
+use Rattle.gm_theory.specs.inner.ExamplesOutcomes.{spoiling, spoiling_square, on_corner}
 
 -- ---- done
 

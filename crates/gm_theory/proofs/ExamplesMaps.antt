@@ -15,7 +15,7 @@ use Rattle.gm_model.specs.Orbits.{Labels, IsPathIn, follow}
 use Rattle.gm_model.specs.Values.{IsInValueRange, IsValueOf, kind_of}
 use Rattle.gm_theory.proofs.ExamplesChecks.{each_below, each, ◌implies◌, implied}
 use Rattle.gm_theory.proofs.Tests.{both_true, not_both}
-use Rattle.gm_theory.specs.Examples.{Table, neighbour, map_of}
+use Rattle.gm_theory.specs.inner.Examples.{Table, neighbour, map_of}
 
 -- ---- masks
 

@@ -24,8 +24,8 @@ use Rattle.gm_theory.proofs.RuleSteps.{word_below}
 use Rattle.gm_theory.proofs.Tests.{both_true, not_both}
 use Rattle.gm_theory.proofs.ValuesUnique.{number_made}
 use Rattle.gm_theory.proofs.Walks.{walk_unique}
-use Rattle.gm_theory.specs.Examples.{planar, four_triangles, square, square_walk, triangulation, edge, on_edge, merging, point, points_of_vertices}
-use Rattle.gm_theory.specs.ExamplesOutcomes.{drop, drop_at, on_triangle, triangle_walk, lone, merging_alone, on_lone, split_if, valueless, pair, created, late, crowded, pair_on, torn, overdue, misnamed, astray, setting, outsized, too_great}
+use Rattle.gm_theory.specs.inner.Examples.{planar, four_triangles, square, square_walk, triangulation, edge, on_edge, merging, point, points_of_vertices}
+use Rattle.gm_theory.specs.inner.ExamplesOutcomes.{drop, drop_at, on_triangle, triangle_walk, lone, merging_alone, on_lone, split_if, valueless, pair, created, late, crowded, pair_on, torn, overdue, misnamed, astray, setting, outsized, too_great}
 
 -- ---- where the only left node of a rule is its hook, the candidate
 

@@ -28,7 +28,7 @@ use Rattle.gm_theory.proofs.Lists.{none_some}
 use Rattle.gm_theory.proofs.RuleSteps.{word_below}
 use Rattle.gm_theory.proofs.Tests.{both_true, not_both}
 use Rattle.gm_theory.proofs.ValuesJoined.{joined_here, joined_by_link}
-use Rattle.gm_theory.specs.Examples.{planar, polygonal, labels_01, labels_12, points_of_vertices, relabelled, pointless, hookless, unfinished, miscounted, kept_node, closing, merging, contradicting, turning, point_of_a, square, square_walk, on_square, twisted, BreaksMaps}
+use Rattle.gm_theory.specs.inner.Examples.{planar, polygonal, labels_01, labels_12, points_of_vertices, relabelled, pointless, hookless, unfinished, miscounted, kept_node, closing, merging, contradicting, turning, point_of_a, square, square_walk, on_square, twisted, BreaksMaps}
 
 -- ---- a square that doesn't close
 

@@ -11,7 +11,7 @@ use Rattle.gm_theory.proofs.ExamplesRules.{range_shown, incidence_shown, squares
 use Rattle.gm_theory.proofs.ExamplesUnfoldings.{unfolding_shown}
 use Rattle.gm_theory.proofs.Lists.{none_some}
 use Rattle.gm_theory.proofs.RuleSteps.{word_below}
-use Rattle.gm_theory.specs.Examples.{linear, split, edge, on_edge, two_edges, splitting, IsLawfulExample, IsWorkedExample}
+use Rattle.gm_theory.specs.inner.Examples.{linear, split, edge, on_edge, two_edges, splitting, IsLawfulExample, IsWorkedExample}
 
 accepted : IsAccepted linear split
 accepted = record {

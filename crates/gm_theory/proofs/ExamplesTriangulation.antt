@@ -26,7 +26,7 @@ use Rattle.gm_theory.proofs.Lists.{some_same, none_some}
 use Rattle.gm_theory.proofs.RuleSteps.{word_below}
 use Rattle.gm_theory.proofs.Tests.{not_both}
 use Rattle.gm_theory.proofs.ValuesJoined.{joined_here, joined_by_link}
-use Rattle.gm_theory.specs.Examples.{planar, labels_01, labels_12, points_of_vertices, centre, triangles, triangulation, square, square_walk, on_square, four_triangles}
+use Rattle.gm_theory.specs.inner.Examples.{planar, labels_01, labels_12, points_of_vertices, centre, triangles, triangulation, square, square_walk, on_square, four_triangles}
 
 -- ---- assignments
 

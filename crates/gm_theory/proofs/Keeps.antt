@@ -13,7 +13,7 @@ use Rattle.gm_theory.proofs.RuleSteps.{word_below, step_back, step_within, label
 use Rattle.gm_theory.proofs.Scenes.{IsSteadyNode, HasLawfulSteps, HasLawfulDarts, IsLawful}
 use Rattle.gm_theory.proofs.Tests.{both_true, and_true, true_not}
 use Rattle.gm_theory.proofs.Turns.{lawful_turns}
-use Rattle.gm_theory.specs.Theorem.{IsDartOf, HasNamesBelow, RulesKeepGeneralisedMaps}
+use Rattle.gm_theory.specs.inner.Theorem.{IsDartOf, HasNamesBelow, RulesKeepGeneralisedMaps}
 
 module _ (map : Map) (rule : Rule) (place : Placement) (accepted : IsAccepted map.schema rule) where
   abbrev scene : Scene

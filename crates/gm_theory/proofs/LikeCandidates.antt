@@ -3,7 +3,7 @@ use Rattle.std.proofs.Common.{ℕ, ◌<◌, sym, subst, ◌∙◌}
 use Rattle.gm_model.specs.Applications.{Application, MeetsSteps, IsRepeat}
 use Rattle.gm_model.specs.Matches.{Placement, IsCandidate, IsInstance}
 use Rattle.gm_model.specs.Structure.{IsInRange, HasIncidence}
-use Rattle.gm_theory.specs.OneMatch.{IsLike}
+use Rattle.gm_theory.specs.inner.OneMatch.{IsLike}
 use Rattle.gm_theory.proofs.Agreement.{candidates_agree, met_alike}
 use Rattle.gm_theory.proofs.Found.{IsFound}
 

@@ -9,7 +9,7 @@ use Rattle.gm_model.specs.Unfolding.{added_before, added_nodes, name_in, scene_o
 use Rattle.gm_theory.proofs.RuleSteps.{word_below}
 use Rattle.gm_theory.proofs.Scenes.{IsRightAt, HasLawfulNames}
 use Rattle.gm_theory.proofs.Tests.{and_true, true_not, true_or_false}
-use Rattle.gm_theory.specs.Theorem.{HasNamesBelow}
+use Rattle.gm_theory.specs.inner.Theorem.{HasNamesBelow}
 
 -- an added node is counted before each later one
 pub added_step : (rule : Rule) (x : ℕ) → IsTrue (is_added rule x) → added_before rule (suc x) ≡ added_before rule x + 1

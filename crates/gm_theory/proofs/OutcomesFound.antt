@@ -41,10 +41,10 @@ use Rattle.gm_theory.proofs.ValuesJoined.{pair_same}
 use Rattle.gm_theory.proofs.ValuesKept.{match_reading, one_tree, rules_keep_well_embedded_maps}
 use Rattle.gm_theory.proofs.ValuesReach.{IsDecided, decide_orbit}
 use Rattle.gm_theory.proofs.ValuesUnique.{one_count}
-use Rattle.gm_theory.specs.Outcomes.{ApplicationsHaveOutcomes}
-use Rattle.gm_theory.specs.Readings.{IsReadingOf}
-use Rattle.gm_theory.specs.Theorem.{Unfolded, Unfolds}
-use Rattle.gm_theory.specs.Values.{HaveValues, with_values}
+use Rattle.gm_theory.specs.inner.Outcomes.{ApplicationsHaveOutcomes}
+use Rattle.gm_theory.specs.inner.Readings.{IsReadingOf}
+use Rattle.gm_theory.specs.inner.Theorem.{Unfolded, Unfolds}
+use Rattle.gm_theory.specs.inner.Values.{HaveValues, with_values}
 
 abbrev HasOutcome : Application → Type 0
 HasOutcome app = (outcome : Outcome) × (after : Map) × IsOutcome app outcome after

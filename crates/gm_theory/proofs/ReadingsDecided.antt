@@ -24,7 +24,7 @@ use Rattle.gm_theory.proofs.ReadingsTyped.{term_live, collected_live}
 use Rattle.gm_theory.proofs.ValuesLists.{IsIn, in_contained, contains_in, one_total}
 use Rattle.gm_theory.proofs.ValuesReach.{decide_orbit}
 use Rattle.gm_theory.proofs.ValuesUnique.{int_same, bool_same, one_value, one_count}
-use Rattle.gm_theory.specs.Readings.{IsReadingOf}
+use Rattle.gm_theory.specs.inner.Readings.{IsReadingOf}
 
 -- ---- the first number of a list
 

@@ -24,7 +24,7 @@ use Rattle.gm_model.specs.Rules.{Rule}
 use Rattle.gm_model.specs.Trees.{Tree, Number, Truth, Param, Field, Same, Count, Sum, Least, Greatest, Unary, Binary, If, MakeVec2, MakeVec3, MakeRgb}
 use Rattle.gm_model.specs.Values.{IsInValueRange, IsValueOf, kind_of}
 use Rattle.gm_theory.proofs.Lists.{some_same, none_some}
-use Rattle.gm_theory.specs.Readings.{HasLiveNeighbours, IsReadingOf, ValuesHaveTheirKinds}
+use Rattle.gm_theory.specs.inner.Readings.{HasLiveNeighbours, IsReadingOf, ValuesHaveTheirKinds}
 
 -- ---- where a kind of the table comes from
 

@@ -16,7 +16,7 @@ use Rattle.gm_theory.proofs.OperatorsDecided.{IsFoundOrNone, truth_or_not}
 use Rattle.gm_theory.proofs.ReadingsDecided.{counted, decide_value, not_both_truths}
 use Rattle.gm_theory.proofs.ReadingsTyped.{typed, kind_in, then_some, of_two, of_three, choice_truth}
 use Rattle.gm_theory.proofs.ValuesUnique.{one_value, one_count}
-use Rattle.gm_theory.specs.Readings.{IsReadingOf, ReadingsAreDetermined}
+use Rattle.gm_theory.specs.inner.Readings.{IsReadingOf, ReadingsAreDetermined}
 
 -- ---- one number of units
 

@@ -23,8 +23,8 @@ use Rattle.gm_theory.proofs.OrbitsListed.{list_all_of}
 use Rattle.gm_theory.proofs.Tests.{true_or_false, not_both}
 use Rattle.gm_theory.proofs.TurnsFound.{LineCosts, LineFound, TurnsCost, TurnsFound, each_line, line_costs, line_found, turns_cost, turns_found}
 use Rattle.gm_theory.proofs.ValuesReach.{IsDecided}
-use Rattle.gm_theory.specs.Outcomes.{IsGoodLine, IsGoodEach, IsGoodStat, IsSoundOf, IsSoundState, HasRun, ScriptsHaveRuns}
-use Rattle.gm_theory.specs.Suited.{IsRuleOf, IsSuited}
+use Rattle.gm_theory.specs.inner.Outcomes.{IsGoodLine, IsGoodEach, IsGoodStat, IsSoundOf, IsSoundState, HasRun, ScriptsHaveRuns}
+use Rattle.gm_theory.specs.inner.Suited.{IsRuleOf, IsSuited}
 
 decide_dart : (map : Map) (d : ℕ) → IsDecided (IsDart map d)
 decide_dart map d = go (true_or_false (map.live d))

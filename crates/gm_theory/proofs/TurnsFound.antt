@@ -16,8 +16,8 @@ use Rattle.gm_theory.proofs.Lists.{some_same}
 use Rattle.gm_theory.proofs.OutcomesFound.{applications_have_outcomes}
 use Rattle.gm_theory.proofs.Tests.{true_or_false, not_both}
 use Rattle.gm_theory.proofs.ValuesKept.{applications_keep_sound_maps}
-use Rattle.gm_theory.specs.Outcomes.{IsGoodLine, IsGoodEach, IsSoundOf}
-use Rattle.gm_theory.specs.Suited.{IsRuleOf}
+use Rattle.gm_theory.specs.inner.Outcomes.{IsGoodLine, IsGoodEach, IsSoundOf}
+use Rattle.gm_theory.specs.inner.Suited.{IsRuleOf}
 
 module _ (schema : Schema) (rules : List Rule) where
   -- ---- a line

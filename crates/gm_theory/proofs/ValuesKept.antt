@@ -31,9 +31,9 @@ use Rattle.gm_theory.proofs.ValuesReach.{IsDecided, decide_orbit}
 use Rattle.gm_theory.proofs.Tests.{both_true, true_or_false, not_both}
 use Rattle.gm_theory.proofs.ValuesReadOff.{read_off}
 use Rattle.gm_theory.proofs.ValuesUnique.{one_value}
-use Rattle.gm_theory.specs.Readings.{IsReadingOf}
-use Rattle.gm_theory.specs.Theorem.{Unfolded, Unfolds}
-use Rattle.gm_theory.specs.Values.{HaveValues, HaveSameValues, with_values, KeepsWellEmbedded, RulesKeepWellEmbeddedMaps, ApplicationsKeepSoundMaps}
+use Rattle.gm_theory.specs.inner.Readings.{IsReadingOf}
+use Rattle.gm_theory.specs.inner.Theorem.{Unfolded, Unfolds}
+use Rattle.gm_theory.specs.inner.Values.{HaveValues, HaveSameValues, with_values, KeepsWellEmbedded, RulesKeepWellEmbeddedMaps, ApplicationsKeepSoundMaps}
 
 -- ---- an instance has one expression, and it has one value
 

@@ -6,7 +6,7 @@ mod outcomes;
 mod readings;
 mod values;
 
-ghost use Rattle.gm_theory.specs.Theorem.{RulesKeepGeneralisedMaps};
+ghost use Rattle.gm_theory.specs.inner.Theorem.{RulesKeepGeneralisedMaps};
 
 pub use outcomes::{
     applications_have_budgets, applications_have_outcomes, one_match_at_most, scripts_have_runs,

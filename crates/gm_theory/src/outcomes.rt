@@ -1,7 +1,7 @@
 //! The outcomes and budgets of applications, and the runs of scripts, as laws of the definitions.
 
-ghost use Rattle.gm_theory.specs.OneMatch.{OneMatchAtMost};
-ghost use Rattle.gm_theory.specs.Outcomes.{ApplicationsHaveOutcomes, ApplicationsHaveBudgets, ScriptsHaveRuns};
+ghost use Rattle.gm_theory.specs.inner.OneMatch.{OneMatchAtMost};
+ghost use Rattle.gm_theory.specs.inner.Outcomes.{ApplicationsHaveOutcomes, ApplicationsHaveBudgets, ScriptsHaveRuns};
 
 /// At given hook darts a rule has one match at most: two have the same positions and turns, and
 /// each left node at the same darts. The law is the clause; the function does nothing.

@@ -1,6 +1,6 @@
 //! What reading an expression of a rule gives and takes, as laws of the definitions.
 
-ghost use Rattle.gm_theory.specs.Readings.{ValuesHaveTheirKinds, ReadingsAreDetermined};
+ghost use Rattle.gm_theory.specs.inner.Readings.{ValuesHaveTheirKinds, ReadingsAreDetermined};
 
 /// The value of a typed expression is one of its kind, and its numbers lie in the range of the
 /// kind: where it is read in a generalised map whose values are so, at a position where each left

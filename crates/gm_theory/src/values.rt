@@ -1,6 +1,6 @@
 //! The theorem on values, and what both halves say of applications.
 
-ghost use Rattle.gm_theory.specs.Values.{RulesKeepWellEmbeddedMaps, ApplicationsKeepSoundMaps};
+ghost use Rattle.gm_theory.specs.inner.Values.{RulesKeepWellEmbeddedMaps, ApplicationsKeepSoundMaps};
 
 /// For every generalised and well embedded map of dimension 1 to 7, every accepted rule and every
 /// match: where each deciding instance has a value, the unfolding has new values; no others are

@@ -7,9 +7,9 @@ use Rattle.gm_model.specs.declared.rule.Book.{Book}
 use Rattle.gm_model.specs.declared.schema.Embed.{Embed}
 use Rattle.gm_model.specs.declared.script.Script.{Script}
 use Rattle.gm_model.specs.Rules.{rule_of}
-use Rattle.gm_plan.specs.Plans.{PlanOf, plan_of}
+use Rattle.gm_plan.specs.inner.Plans.{PlanOf, plan_of}
 use Rattle.gm_tool.specs.MadeRuns.{CanRun}
-use Rattle.gm_tool.specs.Stops.{IsReadMap, IsReadBook, IsReadScript}
+use Rattle.gm_tool.specs.inner.Stops.{IsReadMap, IsReadBook, IsReadScript}
 
 -- ---- embeddings compared one after another
 

@@ -11,7 +11,7 @@ use Rattle.gm_cells.specs.CellsText.{counts_text, orientation_text}
 use Rattle.gm_book.specs.Canonical as books
 use Rattle.gm_book.specs.declared.fault.BookFault.{BookFault}
 use Rattle.gm_book.specs.declared.fault.BookFault.TheVariants as book_faults
-use Rattle.gm_book.specs.Faults as read_book
+use Rattle.gm_book.specs.inner.Faults as read_book
 use Rattle.gm_dual.specs.Duals.{dual_rule, dual_schema}
 use Rattle.gm_forms.specs.BookText.{BookText, TwiceAt, UnknownAt, WrongKindAt}
 use Rattle.gm_lines.specs.BookFaults.{BookTextFault, IsFirstBookFault, book_fault_words}
@@ -36,7 +36,7 @@ use Rattle.gm_plan.proofs.FaultFound.{accepted_or_fault}
 use Rattle.gm_script.proofs.AtLeast as scripts_at_least
 use Rattle.gm_script.specs.declared.fault.ScriptFault.{ScriptFault}
 use Rattle.gm_script.specs.declared.fault.ScriptFault.TheVariants as script_faults
-use Rattle.gm_script.specs.Faults as read_script
+use Rattle.gm_script.specs.inner.Faults as read_script
 use Rattle.gm_script.specs.ScriptText.{ScriptText, UnknownRuleAt, HookCountAt, ParamsAt}
 use Rattle.gm_theory.proofs.Lists.{some_same}
 use Rattle.gm_theory.proofs.ValuesReach.{IsDecided}

@@ -6,9 +6,9 @@ use Rattle.std.specs.List.{AllByRecursion}
 use Rattle.std.specs.FinMap.{get, keys}
 use Rattle.std.proofs.lemmas.List.{get_or_default}
 use Rattle.std.proofs.lemmas.List.Elements.{recursion_from_All}
-use Rattle.gm_arena.specs.ArenaAsMap.{as_map}
-use Rattle.gm_arena.specs.ArenaMap.{ArenaMap, Dart}
-use Rattle.gm_arena.specs.Lawful.{IsLawful}
+use Rattle.gm_arena.specs.inner.ArenaAsMap.{as_map}
+use Rattle.gm_arena.specs.inner.ArenaMap.{ArenaMap, Dart}
+use Rattle.gm_arena.specs.inner.Lawful.{IsLawful}
 use Rattle.gm_cells.specs.declared.counts.Counts.{Counts}
 use Rattle.gm_cells.specs.declared.orientation.Orientation.{Orientation}
 use Rattle.gm_cells.specs.Cells.{AreCounts}
@@ -18,8 +18,8 @@ use Rattle.gm_mapfile.proofs.Printed.{nobody, dart_at, dart_at-is, dart_at_place
 use Rattle.gm_mapfile.proofs.SoundRows.{same_map}
 use Rattle.gm_mapfile.specs.MapReading.{IsWhole}
 use Rattle.gm_mapfile.specs.MapText.{MapText, canonical}
-use Rattle.gm_mapfile.specs.Printing.{renumbered}
-use Rattle.gm_mapfile.specs.Rows.{darts_of, listed_of}
+use Rattle.gm_mapfile.specs.inner.Printing.{renumbered}
+use Rattle.gm_mapfile.specs.inner.Rows.{darts_of, listed_of}
 use Rattle.gm_mapfile.specs.declared.version.MapVersion.{MapVersion}
 use Rattle.gm_mapfile.specs.declared.version.MapVersion.TheVariants as versions
 use Rattle.gm_model.specs.Maps.{Map, IsSound}

@@ -22,8 +22,8 @@ use Rattle.gm_tool.specs.declared.refusal.NoText.TheVariants as nothing
 use Rattle.gm_tool.specs.declared.refusal.Refusal.TheVariants as refusals
 use Rattle.gm_tool.specs.declared.refusal.Role.{Role}
 use Rattle.gm_tool.specs.declared.reply.Reply.{Reply}
-use Rattle.gm_tool.specs.Refusals.{role_in, refusal_answer}
-use Rattle.gm_tool.specs.Replies.{IsLoading, IsLong, IsJudged, no_file_for, IsPlainStatus}
+use Rattle.gm_tool.specs.inner.Refusals.{role_in, refusal_answer}
+use Rattle.gm_tool.specs.inner.Replies.{IsLoading, IsLong, IsJudged, no_file_for, IsPlainStatus}
 use Rattle.gm_tool.specs.Tool.{IsFileText, IsText, IsFileLoadFailure, IsReplyStatus, IsCheck, HoldsSaved}
 use Rattle.gm_tool.specs.Tool as tool
 

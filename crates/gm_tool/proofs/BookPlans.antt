@@ -11,11 +11,11 @@ use Rattle.gm_model.specs.declared.rule.RuleTable.{RuleTable}
 use Rattle.gm_model.specs.declared.schema.Schema.{Schema}
 use Rattle.gm_model.specs.Acceptance.{IsAccepted}
 use Rattle.gm_model.specs.Rules.{Rule, rule_of}
-use Rattle.gm_plan.specs.Plans.{PlanOf, plan_of}
+use Rattle.gm_plan.specs.inner.Plans.{PlanOf, plan_of}
 use Rattle.gm_lines.specs.Refusing.{TheBook}
-use Rattle.gm_tool.specs.Books.{IsRuleStop}
+use Rattle.gm_tool.specs.inner.Books.{IsRuleStop}
 use Rattle.gm_tool.specs.RunAnswer.{IsFirstRefused}
-use Rattle.gm_tool.specs.Stops.{IsBadFor}
+use Rattle.gm_tool.specs.inner.Stops.{IsBadFor}
 use Rattle.gm_tool.specs.declared.refusal.NoText.TheVariants as nothing
 use Rattle.gm_tool.specs.declared.refusal.Stop.{Stop}
 use Rattle.gm_tool.specs.declared.refusal.Stop.TheVariants as stops

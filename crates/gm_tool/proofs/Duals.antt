@@ -8,12 +8,12 @@ use Rattle.std.proofs.Math.Nat.{mul_assoc}
 use Rattle.std.proofs.lemmas.List.{length-map}
 use Rattle.std.proofs.lemmas.List.Elements.{All-from_recursion, recursion_from_All}
 use Rattle.gm_arena.proofs.Keys.{darts_counted}
-use Rattle.gm_arena.specs.ArenaAsMap.{as_map}
-use Rattle.gm_arena.specs.ArenaMap.{ArenaMap}
-use Rattle.gm_arena.specs.Lawful.{IsLawful}
+use Rattle.gm_arena.specs.inner.ArenaAsMap.{as_map}
+use Rattle.gm_arena.specs.inner.ArenaMap.{ArenaMap}
+use Rattle.gm_arena.specs.inner.Lawful.{IsLawful}
 use Rattle.gm_book.proofs.Printable.{printable_from_text}
 use Rattle.gm_book.specs.Canonical as books
-use Rattle.gm_book.specs.Printing.{AreEndsNodes, NamesItsNodes, AreNamed, HasNamedExprs, CanBePrinted}
+use Rattle.gm_book.specs.inner.Printing.{AreEndsNodes, NamesItsNodes, AreNamed, HasNamedExprs, CanBePrinted}
 use Rattle.gm_dual.specs.Duals.{dual_assignment, dual_embed, dual_link, dual_map, dual_node, dual_rule, dual_schema, dual_tree, IsDualBook}
 use Rattle.gm_expr.specs.ExprText.{IsNamed}
 use Rattle.gm_host.specs.Store.{Contents, Lacks}
@@ -22,7 +22,7 @@ use Rattle.gm_lines.specs.Refusing.{TheMap, TheBook, TheScript}
 use Rattle.gm_mapfile.proofs.ArenaDarts.{darts_ascending}
 use Rattle.gm_mapfile.proofs.SoundRows.{same_map}
 use Rattle.gm_mapfile.specs.MapText.{canonical}
-use Rattle.gm_mapfile.specs.Rows.{listed_of}
+use Rattle.gm_mapfile.specs.inner.Rows.{listed_of}
 use Rattle.gm_mapfile.specs.declared.reading.MapRead.{MapRead}
 use Rattle.gm_mapfile.specs.declared.version.MapVersion.{MapVersion}
 use Rattle.gm_model.specs.declared.rule.Book.{Book}
@@ -38,11 +38,11 @@ use Rattle.gm_tool.specs.DualAnswer.{DualNames, DualInputs, dual_inputs_of, IsDu
 use Rattle.gm_tool.specs.Endings.{Whole}
 use Rattle.gm_tool.specs.Loads.{load_of, loads_after, UnlessNoMemory, UnlessNoMemoryToMake}
 use Rattle.gm_tool.specs.MadeRuns.{IsStopFor, IsSoundReply, LoadsAtMostThrice}
-use Rattle.gm_tool.specs.Refusals.{refusal_answer}
-use Rattle.gm_tool.specs.Replies.{IsPlainStatus, IsWithinLimit}
+use Rattle.gm_tool.specs.inner.Refusals.{refusal_answer}
+use Rattle.gm_tool.specs.inner.Replies.{IsPlainStatus, IsWithinLimit}
 use Rattle.gm_tool.specs.RunAnswer.{IsBadMap, IsBadBookText}
 use Rattle.gm_tool.specs.StepBounds.{turning}
-use Rattle.gm_tool.specs.Stops.{IsFrom, IsReadBook, IsReadMap, IsRoleStop, IsSoundStop, reply_of}
+use Rattle.gm_tool.specs.inner.Stops.{IsFrom, IsReadBook, IsReadMap, IsRoleStop, IsSoundStop, reply_of}
 use Rattle.gm_tool.specs.declared.refusal.NoText.{NoText}
 use Rattle.gm_tool.specs.declared.refusal.NoText.TheVariants as nothing
 use Rattle.gm_tool.specs.declared.refusal.Refusal.TheVariants as refusals

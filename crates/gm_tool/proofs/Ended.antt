@@ -13,7 +13,7 @@ use Rattle.gm_tool.specs.Loads.{FailsAt, LoadsInOrder, IsUnloaded, CountsSaves, 
 use Rattle.gm_tool.specs.MadeRuns.{IsSoundReply, HoldsMap, IsRunStatus}
 use Rattle.gm_tool.specs.Migrating.{MigrateNames, AsksMigrate}
 use Rattle.gm_tool.specs.OwnFiles.{LoadsFirst, NoFile, OfFile, OfMigrate, OfDual, OfRun, dual_files, run_files}
-use Rattle.gm_tool.specs.Replies.{IsPlainStatus}
+use Rattle.gm_tool.specs.inner.Replies.{IsPlainStatus}
 use Rattle.gm_tool.specs.Program.{IsCommand, IsSavingCommand}
 use Rattle.gm_tool.specs.RunAnswer.{RunNames, AsksRun}
 use Rattle.gm_tool.specs.Seen.{Seen}

@@ -14,14 +14,14 @@ use Rattle.gm_model.specs.Budgets.{Bounds, no_entries}
 use Rattle.gm_model.specs.Maps.{Map, IsDart, IsSound, dimension}
 use Rattle.gm_model.specs.Orbits.{HasCount}
 use Rattle.gm_model.specs.Runs.{AreLeads, is_done, start_of}
-use Rattle.gm_run.specs.Alike.{AreAlikeStates}
+use Rattle.gm_run.specs.inner.Alike.{AreAlikeStates}
 use Rattle.gm_theory.proofs.LeadsFound.{leads_exist}
 use Rattle.gm_theory.proofs.ListsGathered.{tabulated}
 use Rattle.gm_theory.proofs.OrbitsListed.{list_all_of}
 use Rattle.gm_theory.proofs.Tests.{not_both, true_or_false}
 use Rattle.gm_theory.proofs.ValuesReach.{IsDecided}
 use Rattle.gm_theory.proofs.ValuesUnique.{one_count}
-use Rattle.gm_theory.specs.Outcomes.{HasRun}
+use Rattle.gm_theory.specs.inner.Outcomes.{HasRun}
 use Rattle.gm_walk.proofs.CountLemmas.{count_alike}
 use Rattle.gm_tool.specs.Answer.{Answer, answers}
 use Rattle.gm_tool.specs.GridAnswer.{Gridded, IsGridded, IsGridAnswer, grid_line, grid_rules, grid_stats}

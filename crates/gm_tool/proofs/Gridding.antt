@@ -5,8 +5,8 @@ use Rattle.std.specs.Prelude.{false, All, IfOk}
 use Rattle.std.specs.List.{AllByRecursion, count_by}
 use Rattle.std.proofs.lemmas.List.Elements.{All-from_recursion}
 use Rattle.std.proofs.lemmas.Option.{slice_get_within, get_or_from_slice_get}
-use Rattle.gm_arena.specs.ArenaAsMap.{as_map}
-use Rattle.gm_arena.specs.ArenaMap.{ArenaMap}
+use Rattle.gm_arena.specs.inner.ArenaAsMap.{as_map}
+use Rattle.gm_arena.specs.inner.ArenaMap.{ArenaMap}
 use Rattle.gm_cells.specs.Cells.{HasCells}
 use Rattle.gm_grid.specs.GridBook.{triangulation, IsGridBook}
 use Rattle.gm_grid.specs.GridMap.{IsGridMap, grid_schema}
@@ -23,21 +23,21 @@ use Rattle.gm_model.specs.Maps.{Map, IsDart}
 use Rattle.gm_model.specs.Orbits.{HasCount}
 use Rattle.gm_model.specs.Rules.{Rule, rule_of}
 use Rattle.gm_model.specs.Runs.{Outcome, is_done, State, start_of, IsRun, AreInOrder}
-use Rattle.gm_plan.specs.Plans.{PlanOf, plan_of}
+use Rattle.gm_plan.specs.inner.Plans.{PlanOf, plan_of}
 use Rattle.gm_theory.proofs.NoFault.{accepted_no_fault}
-use Rattle.gm_run.specs.Alike.{AreAlike}
+use Rattle.gm_run.specs.inner.Alike.{AreAlike}
 use Rattle.gm_run.specs.declared.outcome.Outcome as answers
-use Rattle.gm_run.specs.Lines.{Tells}
-use Rattle.gm_theory.specs.Outcomes.{IsGoodStat}
-use Rattle.gm_run.specs.Progress.{IsPlanFor, ArePlansFor, rules_of}
+use Rattle.gm_run.specs.inner.Lines.{Tells}
+use Rattle.gm_theory.specs.inner.Outcomes.{IsGoodStat}
+use Rattle.gm_run.specs.inner.Progress.{IsPlanFor, ArePlansFor, rules_of}
 use Rattle.gm_theory.proofs.ExamplesTriangulation.{accepted}
 use Rattle.gm_theory.proofs.ValuesUnique.{one_count}
 use Rattle.gm_walk.proofs.CountLemmas.{count_alike}
-use Rattle.gm_tool.specs.Books.{IsCheckable}
+use Rattle.gm_tool.specs.inner.Books.{IsCheckable}
 use Rattle.gm_tool.specs.GridAnswer.{AreGridPlans, Gridded, IsGridded, IsGridText, IsGridReply, grid_rules, grid_stats, grid_line}
 use Rattle.gm_tool.specs.RunAnswer.{IsFirstRefused}
 use Rattle.gm_tool.specs.StepBounds.{HasGridBounds, GridRunsWithin, GridRunsAtLeast, WithinGridMost, AtLeastOfGrid, IsGridMost, MostOfGrid, IsGridLeast, LeastOfGrid}
-use Rattle.gm_tool.specs.Stops.{IsBadFor, reply_of}
+use Rattle.gm_tool.specs.inner.Stops.{IsBadFor, reply_of}
 use Rattle.gm_tool.specs.declared.refusal.NoText.TheVariants as nothing
 use Rattle.gm_tool.specs.declared.refusal.Stop.{Stop}
 use Rattle.gm_tool.specs.declared.refusal.Stop.TheVariants as stops

@@ -12,11 +12,11 @@ use Rattle.gm_model.specs.Acceptance.{IsAccepted}
 use Rattle.gm_model.specs.Budgets.{Bounds, no_entries, IsRunWithin}
 use Rattle.gm_model.specs.Maps.{Map, IsEmbedAt, IsSchema}
 use Rattle.gm_model.specs.Runs.{Outcome, State, start_of, IsRun, AreInOrder}
-use Rattle.gm_run.specs.Alike.{AreAlike, AreAlikeStates}
+use Rattle.gm_run.specs.inner.Alike.{AreAlike, AreAlikeStates}
 use Rattle.gm_run.proofs.OneRun.{one_run, one_within, run_has_bounds}
 use Rattle.gm_theory.proofs.RunsFound.{Stands, stands_first, all_suited, scripts_have_runs}
-use Rattle.gm_theory.specs.Outcomes.{HasRun, IsGoodStat}
-use Rattle.gm_theory.specs.Suited.{IsSuited}
+use Rattle.gm_theory.specs.inner.Outcomes.{HasRun, IsGoodStat}
+use Rattle.gm_theory.specs.inner.Suited.{IsSuited}
 use Rattle.gm_theory.proofs.ExamplesTriangulation.{accepted}
 use Rattle.gm_tool.specs.GridAnswer.{grid_rules, grid_stats}
 

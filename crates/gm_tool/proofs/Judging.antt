@@ -3,7 +3,7 @@ use Rattle.std.proofs.Common.{◌≡◌, ℕ, List, ◌++◌, length, inl, inr, 
 use Rattle.std.specs.Prelude.{codes}
 use Rattle.gm_book.specs.declared.fault.BookFault.{BookFault}
 use Rattle.gm_book.specs.declared.fault.BookFault.TheVariants as book
-use Rattle.gm_book.specs.Faults as book_faults
+use Rattle.gm_book.specs.inner.Faults as book_faults
 use Rattle.gm_model.specs.declared.schema.Schema.{Schema}
 use Rattle.gm_forms.specs.BookText.{BookText}
 use Rattle.gm_model.specs.Rules.{Rule}
@@ -16,8 +16,8 @@ use Rattle.gm_tool.specs.declared.refusal.NoText.{NoText}
 use Rattle.gm_tool.specs.declared.refusal.NoText.TheVariants as nothing
 use Rattle.gm_tool.specs.declared.reply.Reply.{Reply}
 use Rattle.gm_lines.specs.Checking.{AreLines, check_status, counts_line}
-use Rattle.gm_lines.specs.FaultLines.{IsSaidOfBook, book_words}
-use Rattle.gm_tool.specs.Replies.{IsJudged, IsMapRefusal, IsRefusal, IsBookRefusal, IsChecked, IsWithinLimit}
+use Rattle.gm_lines.specs.inner.FaultLines.{IsSaidOfBook, book_words}
+use Rattle.gm_tool.specs.inner.Replies.{IsJudged, IsMapRefusal, IsRefusal, IsBookRefusal, IsChecked, IsWithinLimit}
 
 -- a line that refuses, whichever the command
 pub refused_judged : (bytes : List ℕ) (command : answer.Command) (why : List ℕ) (reply : Result Reply NoText) → IsBad bytes (role_of command) why

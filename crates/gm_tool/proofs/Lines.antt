@@ -3,10 +3,10 @@ use Rattle.std.proofs.Common.{◌≡◌, ℕ, List, [], ◌∷◌, inl, inr, Res
 use Rattle.std.specs.Prelude.{Bool, true, false, if◌then◌else◌, IfOk, IfErr}
 use Rattle.std.specs.List.{AllByRecursion}
 use Rattle.std.proofs.lemmas.List.Elements.{All-from_recursion}
-use Rattle.gm_arena.specs.ArenaAsMap.{as_map}
-use Rattle.gm_arena.specs.ArenaMap.{ArenaMap}
-use Rattle.gm_arena.specs.Lawful.{IsLawful}
-use Rattle.gm_mapfile.specs.Rows.{darts_of, listed_of}
+use Rattle.gm_arena.specs.inner.ArenaAsMap.{as_map}
+use Rattle.gm_arena.specs.inner.ArenaMap.{ArenaMap}
+use Rattle.gm_arena.specs.inner.Lawful.{IsLawful}
+use Rattle.gm_mapfile.specs.inner.Rows.{darts_of, listed_of}
 use Rattle.gm_mapfile.proofs.ArenaDarts.{darts_ascending}
 use Rattle.gm_mapfile.proofs.Printed.{darts_counted}
 use Rattle.gm_model.specs.declared.rule.Book.{Book}
@@ -20,17 +20,17 @@ use Rattle.gm_mapfile.specs.declared.version.MapVersion.{MapVersion}
 use Rattle.gm_model.specs.Reports.{report_text}
 use Rattle.gm_model.specs.Rules.{Rule, rule_of}
 use Rattle.gm_model.specs.Runs.{Outcome, State, start_of, IsRun, AreInOrder}
-use Rattle.gm_script.specs.Agreement.{Agrees}
+use Rattle.gm_script.specs.inner.Agreement.{Agrees}
 use Rattle.gm_script.specs.ScriptText.{ScriptText}
 use Rattle.gm_script.proofs.Agreement.{script_agrees, script_in_order}
-use Rattle.gm_theory.specs.Outcomes.{IsGoodStat}
-use Rattle.gm_plan.specs.Plans.{PlanOf, plan_of}
+use Rattle.gm_theory.specs.inner.Outcomes.{IsGoodStat}
+use Rattle.gm_plan.specs.inner.Plans.{PlanOf, plan_of}
 use Rattle.gm_run.specs.declared.outcome.Outcome as answers
-use Rattle.gm_run.specs.Printing.{CanBePrinted}
-use Rattle.gm_run.specs.Progress.{IsPlanFor, ArePlansFor, rules_of}
+use Rattle.gm_run.specs.inner.Printing.{CanBePrinted}
+use Rattle.gm_run.specs.inner.Progress.{IsPlanFor, ArePlansFor, rules_of}
 use Rattle.gm_lines.specs.Refusing.{Role}
 use Rattle.gm_tool.specs.MadeRuns.{CanRun, inputs_of, IsFitted, IsPrinted, IsRunOf, IsRunStatus}
-use Rattle.gm_tool.specs.Stops.{IsSoundStop}
+use Rattle.gm_tool.specs.inner.Stops.{IsSoundStop}
 use Rattle.gm_tool.specs.declared.refusal.Refusal.TheVariants as refusals
 use Rattle.gm_tool.specs.RunAnswer.{Inputs, Ran, IsRan, report_of, saved_of, says_refused, run_status}
 use Rattle.gm_tool.specs.declared.refusal.NoText.TheVariants as nothing

@@ -25,11 +25,11 @@ use Rattle.gm_model.specs.Maps.{Map, IsDart, IsSound, dimension}
 use Rattle.gm_model.specs.Orbits.{IsLead, IsPathIn, follow}
 use Rattle.gm_model.specs.Runs.{AreLeads}
 use Rattle.gm_model.specs.Values.{IsValueOf}
-use Rattle.gm_run.specs.Alike.{AreAlike}
+use Rattle.gm_run.specs.inner.Alike.{AreAlike}
 use Rattle.gm_theory.proofs.LeadsFound.{leads_exist}
 use Rattle.gm_theory.proofs.Tests.{true_or_false}
 use Rattle.gm_theory.proofs.ValuesLists.{IsIn, contains_in, in_contained}
-use Rattle.gm_theory.specs.Outcomes.{IsSoundOf}
+use Rattle.gm_theory.specs.inner.Outcomes.{IsSoundOf}
 
 -- the map is that of darts in ascending order, each whole
 pub record IsListedMap (schema : Schema) (m : Map) : Type 0 where

@@ -10,9 +10,9 @@ use Rattle.gm_tool.specs.Answer.{Files, answers, HasFile}
 use Rattle.gm_lines.specs.Refusing.{Role, TheMap, TheBook}
 use Rattle.gm_tool.specs.DualAnswer.{DualNames, AsksDual, DualStopsInTime, CountsDualLoads}
 use Rattle.gm_tool.specs.Loads.{loads_after, FailsHere, StopsInTime, CountsLoads, UnlessNoMemory, UnlessNoMemoryToMake, BehindMap, BehindBook, BehindScript}
-use Rattle.gm_tool.specs.Refusals.{refusal_answer}
+use Rattle.gm_tool.specs.inner.Refusals.{refusal_answer}
 use Rattle.gm_tool.specs.RunAnswer.{RunNames, AsksRun, IsBadMap, IsBadBook, IsFirstRefused, RuleRefused, Bad}
-use Rattle.gm_tool.specs.Stops.{IsBadFor, IsRoleStop, IsReadMap, IsReadBook, IsFrom, reply_of}
+use Rattle.gm_tool.specs.inner.Stops.{IsBadFor, IsRoleStop, IsReadMap, IsReadBook, IsFrom, reply_of}
 use Rattle.gm_tool.specs.declared.refusal.NoText.{NoText}
 use Rattle.gm_tool.specs.declared.refusal.NoText.TheVariants as nothing
 use Rattle.gm_tool.specs.declared.refusal.Stop.{Stop}

@@ -4,16 +4,16 @@ use Rattle.std.specs.Prelude.{IfOk, IfSome}
 use Rattle.gm_host.specs.Store.{Contents, Lacks}
 use Rattle.gm_lines.specs.Refusing.{Role, TheMap}
 use Rattle.gm_mapfile.specs.MapText.{ListedMap}
-use Rattle.gm_mapfile.specs.Rows.{listed_of}
+use Rattle.gm_mapfile.specs.inner.Rows.{listed_of}
 use Rattle.gm_mapfile.specs.declared.reading.MapRead.{MapRead}
 use Rattle.gm_tool.specs.Answer.{Files, answers}
 use Rattle.gm_tool.specs.Endings.{Whole, LoadFailed}
 use Rattle.gm_tool.specs.MadeRuns.{IsSaving, IsSoundReply}
 use Rattle.gm_tool.specs.Migrating.{MigrateNames, HasMigrated, IsMigrateAnswer, MapFails, LongOutput, Done, IsMigrated, IsMigrateLoadFailure, IsMigrateText, migrated_line, migrated_text}
-use Rattle.gm_tool.specs.Replies.{IsPlainStatus}
-use Rattle.gm_tool.specs.Refusals.{refusal_answer}
+use Rattle.gm_tool.specs.inner.Replies.{IsPlainStatus}
+use Rattle.gm_tool.specs.inner.Refusals.{refusal_answer}
 use Rattle.gm_tool.specs.RunAnswer.{IsBadMap}
-use Rattle.gm_tool.specs.Stops.{IsReadMap, IsRoleStop, IsSoundStop, IsFrom, reply_of}
+use Rattle.gm_tool.specs.inner.Stops.{IsReadMap, IsRoleStop, IsSoundStop, IsFrom, reply_of}
 use Rattle.gm_tool.specs.declared.refusal.NoText.{NoText}
 use Rattle.gm_tool.specs.declared.refusal.NoText.TheVariants as nothing
 use Rattle.gm_tool.specs.declared.refusal.Stop.{Stop}

@@ -9,7 +9,7 @@ use Rattle.gm_mapfile.proofs.OneMap.{one_map}
 use Rattle.gm_mapfile.specs.MapText.{ListedMap, MapText, map_of, canonical}
 use Rattle.gm_mapfile.specs.declared.version.MapVersion.{MapVersion}
 use Rattle.gm_run.proofs.AlikeLemmas.{alike_self}
-use Rattle.gm_run.specs.Alike.{AreAlike}
+use Rattle.gm_run.specs.inner.Alike.{AreAlike}
 use Rattle.gm_tool.specs.Answer.{most_bytes, Files, Answer, answers}
 use Rattle.gm_tool.specs.DualAnswer.{DualNames, DualInputs, HasDualMap, HasDualBook, IsListedDual, IsDualMapText, IsGoodDual, IsDualAnswer, MapFails, BookFails, LongOutput, Done}
 use Rattle.gm_tool.specs.RunAnswer.{IsFailing, IsBadMap, IsBadBookText}

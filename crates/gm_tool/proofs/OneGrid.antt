@@ -7,7 +7,7 @@ use Rattle.gm_model.specs.declared.schema.Schema.{Schema}
 use Rattle.gm_model.specs.Maps.{Map, IsDart, IsGeneralised, dimension}
 use Rattle.gm_model.specs.Orbits.{IsLead, IsPathIn, follow}
 use Rattle.gm_model.specs.Runs.{is_done}
-use Rattle.gm_run.specs.Alike.{AreAlike}
+use Rattle.gm_run.specs.inner.Alike.{AreAlike}
 use Rattle.gm_run.proofs.AlikeLemmas.{alike_back, alike_generalised}
 use Rattle.gm_theory.proofs.ValuesUnique.{one_count}
 use Rattle.gm_walk.proofs.CountLemmas.{count_alike}

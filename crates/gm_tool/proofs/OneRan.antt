@@ -7,7 +7,7 @@ use Rattle.gm_model.specs.Acceptance.{IsAccepted}
 use Rattle.gm_model.specs.Budgets.{no_entries}
 use Rattle.gm_model.specs.Maps.{IsSchema}
 use Rattle.gm_model.specs.Runs.{start_of}
-use Rattle.gm_run.specs.Alike.{AreAlike, AreAlikeStates}
+use Rattle.gm_run.specs.inner.Alike.{AreAlike, AreAlikeStates}
 use Rattle.gm_run.proofs.AlikeStates.{states_alike_self}
 use Rattle.gm_run.proofs.OneRun.{one_run}
 use Rattle.gm_script.specs.ScriptText.{ScriptText}

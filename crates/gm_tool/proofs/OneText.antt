@@ -5,7 +5,7 @@ use Rattle.gm_forms.specs.BookText.{TwiceAt, UnknownAt, WrongKindAt, StandsForNo
 use Rattle.gm_model.specs.Rules.{Rule}
 use Rattle.gm_book.specs.declared.fault.BookFault.{BookFault}
 use Rattle.gm_book.specs.declared.fault.BookFault.TheVariants as faults
-use Rattle.gm_book.specs.Faults.{IsFaultOf}
+use Rattle.gm_book.specs.inner.Faults.{IsFaultOf}
 use Rattle.gm_book.proofs.OneBook.{one_fault, no_book}
 use Rattle.gm_script.specs.ScriptText.{StandsForNoScript}
 use Rattle.gm_text.specs.SchemaText.{LimitOf, Again}

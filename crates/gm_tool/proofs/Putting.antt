@@ -10,7 +10,7 @@ use Rattle.gm_tool.specs.declared.refusal.NoText.TheVariants as nothing
 use Rattle.gm_tool.specs.declared.refusal.Refusal.{Refusal}
 use Rattle.gm_tool.specs.declared.refusal.Refusal.TheVariants as refusals
 use Rattle.gm_tool.specs.declared.reply.Reply.{Reply}
-use Rattle.gm_tool.specs.Refusals.{role_in, refusal_answer}
+use Rattle.gm_tool.specs.inner.Refusals.{role_in, refusal_answer}
 use Rattle.gm_tool.specs.Endings.{status_given}
 use Rattle.gm_tool.specs.Loads.{UnlessNoMemory}
 use Rattle.gm_tool.specs.MadeRuns.{IsSoundReply, IsRunStatus}

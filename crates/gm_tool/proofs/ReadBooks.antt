@@ -12,8 +12,8 @@ use Rattle.gm_model.specs.Structure.{IsInRange}
 use Rattle.gm_model.specs.Rules.{rule_of}
 use Rattle.gm_book.proofs.ReadRange.{range_from_text}
 use Rattle.gm_book.proofs.ReadRules.{few_at_most}
-use Rattle.gm_script.specs.FirstRules.{first_rules}
-use Rattle.gm_tool.specs.Books.{IsCheckable}
+use Rattle.gm_script.specs.inner.FirstRules.{first_rules}
+use Rattle.gm_tool.specs.inner.Books.{IsCheckable}
 
 pub unmap : {X Y : Type 0} (P : Y → Type 0) (f : X → Y) (xs : List X) → All P (map f xs) → All (λ x. P (f x)) xs
 unmap {X = X} P f xs h = All-from_recursion (λ x. P (f x)) xs (each xs (recursion_from_All P (map f xs) h))

@@ -3,7 +3,7 @@ use Rattle.std.proofs.Common.{◌≡◌, ◌⊎◌, ℕ, ◌≤◌, List, [], in
 use Rattle.std.specs.Prelude.{IfSome}
 use Rattle.gm_host.specs.Count.{counted, Rises}
 use Rattle.gm_host.specs.Store.{Contents, Lacks}
-use Rattle.gm_mapfile.specs.Rows.{listed_of}
+use Rattle.gm_mapfile.specs.inner.Rows.{listed_of}
 use Rattle.gm_mapfile.specs.declared.reading.MapRead.{MapRead}
 use Rattle.gm_model.specs.declared.rule.Book.{Book}
 use Rattle.gm_model.specs.declared.schema.Schema.{Schema}
@@ -12,13 +12,13 @@ use Rattle.gm_model.specs.Acceptance.{IsAccepted}
 use Rattle.gm_model.specs.Rules.{Rule, rule_of}
 use Rattle.gm_tool.specs.Answer.{Files, answers, HasFile}
 use Rattle.gm_lines.specs.Refusing.{Role, TheMap, TheBook, TheScript}
-use Rattle.gm_tool.specs.Begun.{Counts, HasBegun}
+use Rattle.gm_tool.specs.inner.Begun.{Counts, HasBegun}
 use Rattle.gm_tool.specs.Loads.{load_of, file_of, PassesAt, LoadsInOrder, IsUnloaded}
 use Rattle.gm_tool.specs.MadeRuns.{inputs_of, IsRunOf, IsMade, IsStopOf, LoadsAtMostThrice}
-use Rattle.gm_tool.specs.Refusals.{refusal_answer}
+use Rattle.gm_tool.specs.inner.Refusals.{refusal_answer}
 use Rattle.gm_tool.specs.RunAnswer.{RunNames, Inputs, HasMap, HasBook, HasScript, Agree, IsBadMap, IsBadBook, IsBadScript, IsFirstRefused, RuleRefused, Bad, MapFails, BookFails, ScriptFails, Disagree, LongOutput}
 use Rattle.gm_tool.specs.StepBounds.{ReadsWithin}
-use Rattle.gm_tool.specs.Stops.{IsBadFor, IsRoleStop, IsReadMap, IsReadBook, IsReadScript, IsFrom}
+use Rattle.gm_tool.specs.inner.Stops.{IsBadFor, IsRoleStop, IsReadMap, IsReadBook, IsReadScript, IsFrom}
 use Rattle.gm_tool.specs.declared.refusal.NoText.TheVariants as nothing
 use Rattle.gm_tool.specs.declared.refusal.Refusal.TheVariants as refusals
 use Rattle.gm_tool.specs.declared.refusal.Stop.{Stop}

@@ -14,7 +14,7 @@ use Rattle.gm_run.proofs.RunsThrough.{RunThrough, run_through}
 use Rattle.gm_script.proofs.Agreement.{script_in_order}
 use Rattle.gm_theory.proofs.Lists.{none_some}
 use Rattle.gm_theory.proofs.RunsFound.{GoesOn, Stands, all_suited, goes_on}
-use Rattle.gm_theory.specs.Suited.{IsSuited}
+use Rattle.gm_theory.specs.inner.Suited.{IsSuited}
 use Rattle.gm_tool.specs.Answer.{Files}
 use Rattle.gm_tool.specs.RunAnswer.{RunNames, Inputs, Ran, HasMap, HasBook, HasScript, Agree, IsRan, IsGoodRun}
 use Rattle.gm_tool.specs.StepBounds.{HasBounds, IsMost, MostOf, IsLeast, LeastOf, handling, dim_of, darts_read, darts_left}

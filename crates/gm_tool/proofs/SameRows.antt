@@ -17,7 +17,7 @@ use Rattle.gm_model.specs.declared.value.Value.TheVariants.{Int}
 use Rattle.gm_model.specs.GMap.{Row}
 use Rattle.gm_model.specs.GMap as written
 use Rattle.gm_model.specs.Values.{kind_of}
-use Rattle.gm_run.specs.Alike.{AreAlike}
+use Rattle.gm_run.specs.inner.Alike.{AreAlike}
 
 valued_each : (embeds : List Embed) (values : List Value) → AreOfKinds embeds values → length values ≡ length embeds
 valued_each embeds values kinds = sym (length-map values kind_of) ∙ (ap length kinds ∙ length-map embeds (λ (embed : Embed). embed.kind))

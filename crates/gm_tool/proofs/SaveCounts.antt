@@ -8,7 +8,7 @@ use Rattle.gm_tool.specs.Loads.{IsSaveStatus, IsUnsavedStatus, CountsSaves}
 use Rattle.gm_tool.specs.MadeRuns.{IsSaving, IsRunStatus}
 use Rattle.gm_tool.specs.Migrating.{IsMigrated}
 use Rattle.gm_mapfile.specs.MapText.{ListedMap}
-use Rattle.gm_tool.specs.Stops.{IsSoundStop, reply_of}
+use Rattle.gm_tool.specs.inner.Stops.{IsSoundStop, reply_of}
 use Rattle.gm_tool.specs.declared.refusal.NoText.{NoText}
 use Rattle.gm_tool.specs.declared.refusal.NoText.TheVariants as nothing
 use Rattle.gm_tool.specs.declared.refusal.Refusal.TheVariants as refusals

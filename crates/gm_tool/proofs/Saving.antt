@@ -7,9 +7,9 @@ use Rattle.gm_tool.specs.Answer.{Files, Answer, answers, Saved}
 use Rattle.gm_tool.specs.Endings.{Whole, LoadFailed, SaveFailed, IsTextOf}
 use Rattle.gm_lines.specs.Refusing.{Role}
 use Rattle.gm_tool.specs.MadeRuns.{IsMade, IsStopFor, IsRunLoadFailure, IsSaving, IsRunText, IsRunStatus, IsMapBytes, HoldsMap, IsSoundReply}
-use Rattle.gm_tool.specs.Refusals.{refusal_answer}
+use Rattle.gm_tool.specs.inner.Refusals.{refusal_answer}
 use Rattle.gm_tool.specs.RunAnswer.{RunNames, IsRunAnswer, Done, report_of, saved_of, run_status}
-use Rattle.gm_tool.specs.Stops.{IsSoundStop, reply_of}
+use Rattle.gm_tool.specs.inner.Stops.{IsSoundStop, reply_of}
 use Rattle.gm_tool.specs.Tool.{IsReplyStatus}
 use Rattle.gm_tool.specs.declared.refusal.NoText.{NoText}
 use Rattle.gm_tool.specs.declared.refusal.NoText.TheVariants as nothing

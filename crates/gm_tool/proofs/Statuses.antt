@@ -4,7 +4,7 @@ use Rattle.std.proofs.lemmas.List.{drop_all}
 use Rattle.std.specs.Prelude.{if◌then◌else◌}
 use Rattle.gm_model.specs.Runs as runs
 use Rattle.gm_run.specs.declared.outcome.Outcome.{Outcome}
-use Rattle.gm_run.specs.Lines.{outcome_of, Tells}
+use Rattle.gm_run.specs.inner.Lines.{outcome_of, Tells}
 use Rattle.gm_run.proofs.Telling.{IsToldAt, as_many, behind, told_at}
 use Rattle.gm_tool.specs.RunAnswer.{says_refused, run_status}
 

@@ -9,9 +9,9 @@ use Rattle.std.proofs.lemmas.Nat.{mul-le}
 use Rattle.std.proofs.lemmas.List.{length-map}
 use Rattle.std.proofs.lemmas.List.Kept.{AllPairs-from_increasing}
 use Rattle.gm_arena.proofs.Keys.{darts_counted}
-use Rattle.gm_arena.specs.ArenaAsMap.{as_map}
-use Rattle.gm_arena.specs.ArenaMap.{ArenaMap}
-use Rattle.gm_arena.specs.Lawful.{IsLawful}
+use Rattle.gm_arena.specs.inner.ArenaAsMap.{as_map}
+use Rattle.gm_arena.specs.inner.ArenaMap.{ArenaMap}
+use Rattle.gm_arena.specs.inner.Lawful.{IsLawful}
 use Rattle.gm_host.specs.Store.{Contents, IsHeld}
 use Rattle.gm_mapfile.proofs.Printed as printed_darts
 use Rattle.gm_mapfile.specs.declared.reading.MapRead.{MapRead}
@@ -27,18 +27,18 @@ use Rattle.gm_model.specs.GMap.{row_of}
 use Rattle.gm_model.specs.Orbits.{HasCount}
 use Rattle.gm_model.specs.Rules.{rule_of}
 use Rattle.gm_model.specs.Runs.{Outcome, State, start_of, IsRun}
-use Rattle.gm_plan.specs.Plans.{PlanOf}
+use Rattle.gm_plan.specs.inner.Plans.{PlanOf}
 use Rattle.gm_run.specs.declared.outcome.Outcome as report
-use Rattle.gm_run.specs.Alike.{AreAlike}
-use Rattle.gm_run.specs.Lines.{Tells}
-use Rattle.gm_run.specs.Progress.{rules_of}
+use Rattle.gm_run.specs.inner.Alike.{AreAlike}
+use Rattle.gm_run.specs.inner.Lines.{Tells}
+use Rattle.gm_run.specs.inner.Progress.{rules_of}
 use Rattle.gm_theory.proofs.ValuesUnique.{one_count}
 use Rattle.gm_tool.specs.Answer.{Files}
 use Rattle.gm_lines.specs.Refusing.{TheMap, TheBook, TheScript}
 use Rattle.gm_tool.specs.MadeRuns.{CanRun, inputs_of}
 use Rattle.gm_tool.specs.RunAnswer.{RunNames, Inputs, Ran, IsRan, IsGoodRun, HasMap, HasBook, HasScript, IsBadMap, IsBadBook, IsBadScript}
 use Rattle.gm_tool.specs.StepBounds.{HasBounds, IsMost, MostOf, IsLeast, LeastOf, WithinMost, AtLeast, BytesReadWithin, ReadsWithin, RunsWithin, RunsAtLeast, dim_of, darts_read, darts_left, printing}
-use Rattle.gm_tool.specs.Stops.{IsReadMap, IsReadBook, IsReadScript, IsFrom}
+use Rattle.gm_tool.specs.inner.Stops.{IsReadMap, IsReadBook, IsReadScript, IsFrom}
 use Rattle.gm_mapfile.proofs.SoundRows.{same_map}
 use Rattle.gm_tool.proofs.Lines.{same_rules}
 use Rattle.gm_tool.proofs.OneRunAnswer.{same_inputs}

@@ -2,12 +2,12 @@
 use Rattle.std.proofs.Common.{◌≡◌, ℕ, ◌+◌, ◌*◌, ◌≤◌, List, Some, None, Result, Ok, Err, length, sym, subst, ◌∙◌, arith}
 use Rattle.std.specs.Prelude.{IfOk, IfSome}
 use Rattle.std.proofs.Math.Nat.{mul_assoc}
-use Rattle.gm_arena.specs.Lawful.{IsLawful}
+use Rattle.gm_arena.specs.inner.Lawful.{IsLawful}
 use Rattle.gm_host.specs.Store.{Contents, IsHeld}
 use Rattle.gm_mapfile.proofs.OneMap.{one_map}
 use Rattle.gm_mapfile.proofs.Printed.{darts_counted}
 use Rattle.gm_mapfile.specs.MapText.{ListedMap, MapText}
-use Rattle.gm_mapfile.specs.Rows.{listed_of}
+use Rattle.gm_mapfile.specs.inner.Rows.{listed_of}
 use Rattle.gm_mapfile.specs.declared.reading.MapRead.{MapRead}
 use Rattle.gm_lines.specs.Refusing.{TheMap}
 use Rattle.gm_tool.specs.Answer.{Asks}
@@ -18,7 +18,7 @@ use Rattle.gm_tool.specs.MadeRuns.{IsRunStatus}
 use Rattle.gm_tool.specs.Migrating.{MigrateNames, AsksMigrate}
 use Rattle.gm_tool.specs.RunAnswer.{RunNames, AsksRun, IsBadMap}
 use Rattle.gm_tool.specs.StepBounds.{WithinMost, AtLeast, StaysWithin, TakesLeast, ShowsWithin, FileShowsWithin, ShowStaysWithin, MigrateStaysWithin, DualsWithin, FileDualsWithin, DualStaysWithin, WithinGridMost, AtLeastOfGrid, GridStaysWithin, GridTakesLeast, BytesReadWithin, ReadsWithin, printing, turning}
-use Rattle.gm_tool.specs.Stops.{IsReadMap, IsFrom, reply_of}
+use Rattle.gm_tool.specs.inner.Stops.{IsReadMap, IsFrom, reply_of}
 use Rattle.gm_tool.specs.declared.refusal.NoText.{NoText}
 use Rattle.gm_tool.specs.declared.refusal.Stop.{Stop}
 use Rattle.gm_tool.specs.declared.reply.Reply.{Reply}

@@ -3,7 +3,7 @@ use Rattle.std.proofs.Common.{◌≡◌, ◌⊎◌, ℕ, ◌≤◌, List, ◌++�
 use Rattle.std.specs.Global.{Vec}
 use Rattle.std.specs.Prelude.{IfOk, IfErr, codes}
 use Rattle.gm_book.specs.declared.fault.BookFault.{BookFault}
-use Rattle.gm_book.specs.Faults as book_faults
+use Rattle.gm_book.specs.inner.Faults as book_faults
 use Rattle.gm_host.specs.Store.{Contents, Lacks, IsHeld, IsLongerThan}
 use Rattle.gm_model.specs.declared.rule.RuleFault.{RuleFault}
 use Rattle.gm_model.specs.declared.schema.Schema.{Schema}
@@ -11,18 +11,18 @@ use Rattle.gm_model.specs.Acceptance.{IsFault}
 use Rattle.gm_model.specs.Rules.{Rule}
 use Rattle.gm_script.specs.declared.fault.ScriptFault.{ScriptFault}
 use Rattle.gm_script.specs.declared.fault.ScriptFault.TheVariants as script
-use Rattle.gm_script.specs.Faults as script_faults
+use Rattle.gm_script.specs.inner.Faults as script_faults
 use Rattle.gm_tool.specs.Answer.{Files, Answer, answers, most_bytes}
 use Rattle.gm_lines.specs.Refusing.{TheMap, TheBook, TheScript, role_word, refusal, IsBadLine}
 use Rattle.gm_lines.specs.Refusing as refusing
 use Rattle.gm_lines.specs.ScriptFaults as first_script
-use Rattle.gm_tool.specs.Books.{IsRuleStop}
+use Rattle.gm_tool.specs.inner.Books.{IsRuleStop}
 use Rattle.gm_lines.specs.Checking.{rule_fault_words}
-use Rattle.gm_lines.specs.FaultLines.{IsSaidOfBook, IsSaidOfScript, book_words, script_words}
-use Rattle.gm_tool.specs.Refusals.{role_in, refusal_answer}
-use Rattle.gm_tool.specs.Replies.{IsLoading}
+use Rattle.gm_lines.specs.inner.FaultLines.{IsSaidOfBook, IsSaidOfScript, book_words, script_words}
+use Rattle.gm_tool.specs.inner.Refusals.{role_in, refusal_answer}
+use Rattle.gm_tool.specs.inner.Replies.{IsLoading}
 use Rattle.gm_tool.specs.RunAnswer.{IsRuleWhy, IsBadMap, IsBadBookText, IsBadBook, IsBadScript, Unread, IsFailing, Missing, Long, Bad}
-use Rattle.gm_tool.specs.Stops.{IsStopWith, IsBadFor, IsRoleStop, IsSoundStop, IsFrom}
+use Rattle.gm_tool.specs.inner.Stops.{IsStopWith, IsBadFor, IsRoleStop, IsSoundStop, IsFrom}
 use Rattle.gm_tool.specs.declared.refusal.NoText.{NoText}
 use Rattle.gm_tool.specs.declared.refusal.NoText.TheVariants as nothing
 use Rattle.gm_tool.specs.declared.refusal.Refusal.TheVariants as refusals

@@ -15,10 +15,10 @@ use Rattle.gm_model.specs.Rules.{Rule, rule_of, has_word, is_preserved}
 use Rattle.gm_model.specs.Squares.{HasSquares, IsSquareFault, OpenSquare, IsFirstOpenSquare}
 use Rattle.gm_model.specs.Structure.{HasIncidence, IsIncidenceFault, OfStructure, OfArcs, IsStructureFault, BadHooks, BadHookWord, BadLength, Unconnected, AtNode, IsNodeArcFault, TwiceLeft, TwiceRight, Missing, Differs}
 use Rattle.gm_model.proofs.Nodes.{node_below}
-use Rattle.gm_plan.specs.Refusals.{IsRefusal, Faulty}
+use Rattle.gm_plan.specs.inner.Refusals.{IsRefusal, Faulty}
 use Rattle.gm_plan.specs.declared.compiler.PlanFault.TheVariants as plans
-use Rattle.gm_tool.specs.Books.{IsCheckable}
-use Rattle.gm_lines.specs.Speaking.{SpeaksOf, IsSayable}
+use Rattle.gm_tool.specs.inner.Books.{IsCheckable}
+use Rattle.gm_lines.specs.inner.Speaking.{SpeaksOf, IsSayable}
 use Rattle.gm_lines.specs.Checking.{IsVerdict, AreLines, NoRules, NextRule, refusals, rule_line}
 
 first_true : (a b : Bool) → (a && b) ≡ true → a ≡ true

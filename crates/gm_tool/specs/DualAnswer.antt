@@ -3,7 +3,7 @@ use Rattle.std.specs.Prelude.{◌≡◌, ◌⊎◌, ℕ, ◌<◌, ◌≤◌, Lis
 use Rattle.std.specs.List.{AllByRecursion}
 use Rattle.std.specs.List.Sorted.{IsStrictlyIncreasing}
 use Rattle.std.specs.Global.{Vec}
-use Rattle.gm_arena.specs.ArenaMap.{ArenaMap}
+use Rattle.gm_arena.specs.inner.ArenaMap.{ArenaMap}
 use Rattle.gm_book.specs.Canonical as books
 use Rattle.gm_dual.specs.Duals.{dual_map, dual_rule, dual_schema}
 use Rattle.gm_forms.specs.BookText.{BookText}
@@ -11,7 +11,7 @@ use Rattle.gm_host.specs.Store.{Contents, Lacks}
 use Rattle.gm_lines.specs.Refusing.{Role, TheMap, TheBook, TheScript, role_word, refusal}
 use Rattle.gm_mapfile.specs.MapReading.{IsWhole}
 use Rattle.gm_mapfile.specs.MapText.{ListedMap, MapText, map_of, canonical, names}
-use Rattle.gm_mapfile.specs.Rows.{listed_of}
+use Rattle.gm_mapfile.specs.inner.Rows.{listed_of}
 use Rattle.gm_mapfile.specs.declared.version.MapVersion.{MapVersion}
 use Rattle.gm_model.specs.declared.rule.Book.{Book}
 use Rattle.gm_model.specs.declared.schema.Schema.{Schema}

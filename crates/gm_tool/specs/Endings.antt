@@ -4,7 +4,7 @@ use Rattle.gm_host.specs.Store.{Contents}
 use Rattle.gm_host.specs.Saves.{IsSaved, IsSavedInPart}
 use Rattle.gm_tool.specs.Answer.{Files, Answer, answers, Saved}
 use Rattle.gm_lines.specs.Refusing.{refusal}
-use Rattle.gm_tool.specs.Refusals.{status_of, line_of}
+use Rattle.gm_tool.specs.inner.Refusals.{status_of, line_of}
 use Rattle.gm_tool.specs.declared.refusal.NoText.{NoText}
 use Rattle.gm_tool.specs.declared.refusal.NoText.TheVariants as nothing
 use Rattle.gm_tool.specs.declared.reply.Reply.{Reply}

@@ -10,8 +10,8 @@ use Rattle.gm_model.specs.Maps.{Map, IsDart}
 use Rattle.gm_model.specs.Orbits.{HasCount}
 use Rattle.gm_model.specs.Rules.{Rule}
 use Rattle.gm_model.specs.Runs.{Outcome, is_done, State, start_of, IsRun}
-use Rattle.gm_plan.specs.Plans.{PlanOf}
-use Rattle.gm_run.specs.Progress.{ArePlansFor, rules_of}
+use Rattle.gm_plan.specs.inner.Plans.{PlanOf}
+use Rattle.gm_run.specs.inner.Progress.{ArePlansFor, rules_of}
 use Rattle.gm_tool.specs.Answer.{Answer, answers}
 use Rattle.gm_tool.specs.declared.refusal.NoText.{NoText}
 use Rattle.gm_tool.specs.declared.refusal.NoText.TheVariants as nothing

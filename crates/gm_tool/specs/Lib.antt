@@ -5,15 +5,11 @@ pub mod OwnFiles
 pub mod DualAnswer
 pub mod GridAnswer
 pub mod Program
-pub mod Refusals
-pub mod Books
 pub mod Loads
 pub mod Endings
-pub mod Replies
-pub mod Stops
 pub mod MadeRuns
 pub mod Tool
 pub mod StepBounds
-pub mod Begun
 pub mod Seen
 pub mod Headline
+pub mod inner

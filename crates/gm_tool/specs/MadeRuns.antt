@@ -3,9 +3,9 @@ use Rattle.std.specs.Prelude.{◌≡◌, ◌⊎◌, ℕ, ◌<◌, ◌≤◌, Lis
 use Rattle.gm_host.specs.Store.{Contents}
 use Rattle.gm_host.specs.Count.{counted}
 use Rattle.gm_host.specs.Saves.{IsSaved, IsSavedInPart}
-use Rattle.gm_arena.specs.ArenaAsMap.{as_map}
-use Rattle.gm_arena.specs.ArenaMap.{ArenaMap}
-use Rattle.gm_mapfile.specs.Rows.{listed_of}
+use Rattle.gm_arena.specs.inner.ArenaAsMap.{as_map}
+use Rattle.gm_arena.specs.inner.ArenaMap.{ArenaMap}
+use Rattle.gm_mapfile.specs.inner.Rows.{listed_of}
 use Rattle.gm_model.specs.declared.rule.Book.{Book}
 use Rattle.gm_model.specs.declared.script.Script.{Script}
 use Rattle.gm_model.specs.Maps.{IsSound}
@@ -13,13 +13,13 @@ use Rattle.gm_mapfile.specs.MapText.{ListedMap, MapText, canonical}
 use Rattle.gm_mapfile.specs.declared.version.MapVersion.{MapVersion}
 use Rattle.gm_model.specs.Rules.{rule_of}
 use Rattle.gm_script.specs.ScriptText.{ScriptText}
-use Rattle.gm_plan.specs.Plans.{PlanOf, plan_of}
+use Rattle.gm_plan.specs.inner.Plans.{PlanOf, plan_of}
 use Rattle.gm_tool.specs.Answer.{most_bytes, Files, Answer, answers}
 use Rattle.gm_lines.specs.Refusing.{refusal, role_word}
 use Rattle.gm_lines.specs.Refusing as refusing
 use Rattle.gm_tool.specs.Endings.{IsTextOf}
 use Rattle.gm_tool.specs.Loads.{load_of}
-use Rattle.gm_tool.specs.Refusals.{role_in, refusal_answer}
+use Rattle.gm_tool.specs.inner.Refusals.{role_in, refusal_answer}
 use Rattle.gm_tool.specs.RunAnswer.{RunNames, Inputs, Ran, IsRan, IsGoodRun, IsRunAnswer, PassesTo, report_of, saved_of, run_status}
 use Rattle.gm_tool.specs.declared.command.RunFiles.{RunFiles}
 use Rattle.gm_tool.specs.declared.refusal.NoText.{NoText}

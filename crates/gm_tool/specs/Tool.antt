@@ -15,7 +15,7 @@ use Rattle.gm_tool.specs.RunAnswer.{RunNames, AsksRun}
 use Rattle.gm_tool.specs.Seen.{Seen}
 use Rattle.gm_host.specs.Count.{counted, Rises}
 use Rattle.gm_host.specs.Store.{Contents, Lacks}
-use Rattle.gm_host.specs.Sink.{extended, ExtendsInPart}
+use Rattle.gm_host.specs.inner.Sink.{extended, ExtendsInPart}
 use Rattle.gm_tool.specs.declared.reply.Reply.{Reply}
 use Rattle.gm_tool.specs.declared.refusal.NoText.{NoText}
 

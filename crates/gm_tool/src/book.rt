@@ -2,13 +2,13 @@ ghost use Rattle.std.specs.Prelude.{◌≡◌, All, IfOk, IfErr, map};
 ghost use Rattle.gm_model.specs.Acceptance.{IsAccepted};
 ghost use Rattle.gm_model.specs.Maps.{IsSchema};
 ghost use Rattle.gm_model.specs.Rules.{rule_of};
-ghost use Rattle.gm_plan.specs.Plans.{plan_of};
+ghost use Rattle.gm_plan.specs.inner.Plans.{plan_of};
 ghost use Rattle.gm_tool.specs.Answer as answer;
 ghost use Rattle.gm_lines.specs.Refusing.{TheBook};
-ghost use Rattle.gm_tool.specs.Books.{IsCheckable, IsRuleStop};
-ghost use Rattle.gm_tool.specs.Replies.{IsJudged, IsBookRefusal};
+ghost use Rattle.gm_tool.specs.inner.Books.{IsCheckable, IsRuleStop};
+ghost use Rattle.gm_tool.specs.inner.Replies.{IsJudged, IsBookRefusal};
 ghost use Rattle.gm_tool.specs.RunAnswer.{IsBadBookText, IsFirstRefused};
-ghost use Rattle.gm_tool.specs.Stops.{IsReadBook, IsBadFor};
+ghost use Rattle.gm_tool.specs.inner.Stops.{IsReadBook, IsBadFor};
 
 use crate::refusal::{NoText, Stop};
 use crate::reply::{Reply, reply_within_limit};

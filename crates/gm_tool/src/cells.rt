@@ -1,13 +1,13 @@
 ghost use Rattle.std.specs.Prelude.{ℕ, IfOk, List};
-ghost use Rattle.gm_arena.specs.ArenaAsMap.{as_map};
+ghost use Rattle.gm_arena.specs.inner.ArenaAsMap.{as_map};
 ghost use Rattle.gm_cells.specs.Cells.{AreCounts};
 ghost use Rattle.gm_cells.specs.Colours.{IsOrientation};
 ghost use Rattle.gm_mapfile.specs.MapText.{MapText};
-ghost use Rattle.gm_mapfile.specs.Rows.{listed_of};
+ghost use Rattle.gm_mapfile.specs.inner.Rows.{listed_of};
 ghost use Rattle.gm_mapfile.specs.declared.version.MapVersion.{MapVersion};
 ghost use Rattle.gm_model.specs.Maps.{IsGeneralised};
 ghost use Rattle.gm_tool.specs.Answer.{Cells, TellsCells};
-ghost use Rattle.gm_tool.specs.Replies.{IsJudged};
+ghost use Rattle.gm_tool.specs.inner.Replies.{IsJudged};
 
 use crate::map::refused;
 use crate::refusal::NoText;

@@ -2,9 +2,9 @@ ghost use Rattle.std.specs.Prelude.{◌≡◌, ◌++◌, All, IfOk, OnOk, MatchR
 ghost use Rattle.gm_model.specs.Acceptance.{IsAccepted, IsFault};
 ghost use Rattle.gm_model.specs.Rules.{rule_of};
 ghost use Rattle.gm_tool.specs.Answer.{Check};
-ghost use Rattle.gm_tool.specs.Books.{IsCheckable};
+ghost use Rattle.gm_tool.specs.inner.Books.{IsCheckable};
 ghost use Rattle.gm_lines.specs.Checking.{AreLines, IsVerdict, refusals, counts_line, check_status};
-ghost use Rattle.gm_tool.specs.Replies.{IsJudged, IsChecked};
+ghost use Rattle.gm_tool.specs.inner.Replies.{IsJudged, IsChecked};
 
 use crate::book::refused;
 use crate::refusal::NoText;

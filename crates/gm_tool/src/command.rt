@@ -6,7 +6,7 @@ ghost use Rattle.gm_tool.specs.MadeRuns.{names_of};
 ghost use Rattle.gm_tool.specs.Migrating.{AsksMigrate, migrate_names_of};
 ghost use Rattle.gm_tool.specs.Program.{IsFileCommand, IsRunCommand, IsMigrateCommand, IsDualCommand, IsGridCommand};
 ghost use Rattle.gm_tool.specs.RunAnswer.{AsksRun};
-ghost use Rattle.gm_tool.specs.Refusals.{command_in, IsNoCommandWord};
+ghost use Rattle.gm_tool.specs.inner.Refusals.{command_in, IsNoCommandWord};
 ghost use Rattle.gm_tool.specs.Tool.{words_of};
 
 use itoa::Buffer;

@@ -1,20 +1,20 @@
 //! The duals of a map and of a book.
 ghost use Rattle.std.specs.Prelude.{◌≡◌, ◌+◌, ◌*◌, ◌≤◌, IfOk, IfErr, IfSome, List, ℕ, map};
-ghost use Rattle.gm_arena.specs.ArenaAsMap.{as_map};
-ghost use Rattle.gm_arena.specs.Lawful.{IsLawful};
+ghost use Rattle.gm_arena.specs.inner.ArenaAsMap.{as_map};
+ghost use Rattle.gm_arena.specs.inner.Lawful.{IsLawful};
 ghost use Rattle.gm_book.specs.Canonical as books;
 ghost use Rattle.gm_dual.specs.Duals as duals;
 ghost use Rattle.gm_host.specs.Count.{Rises};
-ghost use Rattle.gm_mapfile.specs.Rows.{listed_of};
+ghost use Rattle.gm_mapfile.specs.inner.Rows.{listed_of};
 ghost use Rattle.gm_model.specs.Maps.{IsSchema, IsSound};
 ghost use Rattle.gm_model.specs.Rules.{rule_of};
 ghost use Rattle.gm_tool.specs.DualAnswer.{dual_names_of, dual_inputs_of, IsDualMade, IsDualMapText, IsDualReply, IsDualText, IsDualUnloaded, DualLoadsInOrder, DualStopsInTime};
 ghost use Rattle.gm_tool.specs.Loads.{FailsAt, UnlessNoMemory, UnlessNoMemoryToMake};
 ghost use Rattle.gm_tool.specs.MadeRuns.{IsSoundReply};
 ghost use Rattle.gm_tool.specs.OwnFiles.{LoadsFirst, dual_files};
-ghost use Rattle.gm_tool.specs.Replies.{IsPlainStatus};
+ghost use Rattle.gm_tool.specs.inner.Replies.{IsPlainStatus};
 ghost use Rattle.gm_tool.specs.StepBounds.{FileDualsWithin, turning};
-ghost use Rattle.gm_tool.specs.Stops.{IsReadBook, IsReadMap, IsSoundStop};
+ghost use Rattle.gm_tool.specs.inner.Stops.{IsReadBook, IsReadMap, IsSoundStop};
 ghost use Rattle.gm_tool.specs.declared.refusal.NoText.TheVariants as nothing;
 ghost use Rattle.gm_tool.specs.declared.refusal.Stop.TheVariants as stops;
 

@@ -1,13 +1,13 @@
 //! A grid of squares, whose faces are triangulated, and the line that tells of it.
 ghost use Rattle.std.specs.Prelude.{◌≡◌, ◌+◌, ◌*◌, ◌≤◌, ◌++◌, IfOk, List, OnOk};
 ghost use Rattle.std.specs.List.{count_by};
-ghost use Rattle.gm_arena.specs.ArenaAsMap.{as_map};
+ghost use Rattle.gm_arena.specs.inner.ArenaAsMap.{as_map};
 ghost use Rattle.gm_cells.specs.Cells.{HasCells};
 ghost use Rattle.gm_grid.specs.GridBook.{IsGridBook, IsGridScript};
 ghost use Rattle.gm_grid.specs.GridMap.{IsGridMap};
 ghost use Rattle.gm_model.specs.Maps.{IsGeneralised};
 ghost use Rattle.gm_model.specs.Runs.{Outcome, is_done};
-ghost use Rattle.gm_run.specs.Lines.{Tells};
+ghost use Rattle.gm_run.specs.inner.Lines.{Tells};
 ghost use Rattle.gm_tool.specs.GridAnswer.{AreGridPlans, IsGridText, IsGridReply, grid_line};
 ghost use Rattle.gm_tool.specs.StepBounds.{WithinGridMost, AtLeastOfGrid, GridRunsWithin, GridRunsAtLeast};
 

@@ -1,6 +1,6 @@
 ghost use Rattle.std.specs.Prelude.{◌≡◌, ◌≤◌, ◌∷◌, ◌++◌, []};
 ghost use Rattle.gm_host.specs.Count.{counted, Rises};
-ghost use Rattle.gm_tool.specs.Replies.{IsLoading, no_file_for};
+ghost use Rattle.gm_tool.specs.inner.Replies.{IsLoading, no_file_for};
 
 use crate::refusal::{NoText, Refusal, Role};
 use crate::reply::MOST_BYTES;

@@ -1,15 +1,15 @@
 ghost use Rattle.std.specs.Prelude.{ℕ, ◌+◌, ◌≤◌, IfOk, IfErr, List};
-ghost use Rattle.gm_arena.specs.Lawful.{IsLawful};
-ghost use Rattle.gm_mapfile.specs.Faults.{IsWhyNot};
+ghost use Rattle.gm_arena.specs.inner.Lawful.{IsLawful};
+ghost use Rattle.gm_mapfile.specs.inner.Faults.{IsWhyNot};
 ghost use Rattle.gm_mapfile.specs.MapText.{MapText};
-ghost use Rattle.gm_mapfile.specs.Rows.{listed_of};
+ghost use Rattle.gm_mapfile.specs.inner.Rows.{listed_of};
 ghost use Rattle.gm_tool.specs.Answer as answer;
 ghost use Rattle.gm_tool.specs.Answer.{Show};
 ghost use Rattle.gm_lines.specs.Refusing.{TheMap};
-ghost use Rattle.gm_tool.specs.Replies.{IsJudged, IsMapRefusal};
+ghost use Rattle.gm_tool.specs.inner.Replies.{IsJudged, IsMapRefusal};
 ghost use Rattle.gm_tool.specs.RunAnswer.{IsBadMap};
 ghost use Rattle.gm_tool.specs.StepBounds.{BytesReadWithin, ShowsWithin, printing};
-ghost use Rattle.gm_tool.specs.Stops.{IsReadMap, IsBadFor};
+ghost use Rattle.gm_tool.specs.inner.Stops.{IsReadMap, IsBadFor};
 
 use crate::refusal::{NoText, Stop};
 use crate::reply::{Reply, reply_within_limit};

@@ -1,16 +1,16 @@
 //! The migration of a map to the second version of the format.
 ghost use Rattle.std.specs.Prelude.{◌≡◌, ◌+◌, ◌≤◌, ◌⊎◌, ◌∷◌, ◌++◌, [], IfOk, IfSome, IsErrOf};
-ghost use Rattle.gm_arena.specs.ArenaAsMap.{as_map};
-ghost use Rattle.gm_arena.specs.Lawful.{IsLawful};
+ghost use Rattle.gm_arena.specs.inner.ArenaAsMap.{as_map};
+ghost use Rattle.gm_arena.specs.inner.Lawful.{IsLawful};
 ghost use Rattle.gm_host.specs.Count.{counted, Rises};
 ghost use Rattle.gm_host.specs.Store.{Lacks};
-ghost use Rattle.gm_mapfile.specs.Rows.{listed_of};
+ghost use Rattle.gm_mapfile.specs.inner.Rows.{listed_of};
 ghost use Rattle.gm_model.specs.Maps.{IsSound};
 ghost use Rattle.gm_tool.specs.Endings.{status_given};
 ghost use Rattle.gm_tool.specs.Loads.{FailsAt, CountsSaves};
 ghost use Rattle.gm_tool.specs.MadeRuns.{HoldsMap, IsMapBytes, IsRunStatus, IsSoundReply};
 ghost use Rattle.gm_tool.specs.Migrating.{migrate_names_of, migrated_line, IsMigrated, IsMigrateText};
-ghost use Rattle.gm_tool.specs.Replies.{IsPlainStatus};
+ghost use Rattle.gm_tool.specs.inner.Replies.{IsPlainStatus};
 ghost use Rattle.gm_tool.specs.StepBounds.{FileShowsWithin, printing};
 ghost use Rattle.gm_tool.specs.declared.refusal.NoText.TheVariants as nothing;
 

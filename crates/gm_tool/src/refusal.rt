@@ -1,5 +1,5 @@
 ghost use Rattle.std.specs.Prelude.{◌≡◌};
-ghost use Rattle.gm_tool.specs.Refusals.{status_of, line_of};
+ghost use Rattle.gm_tool.specs.inner.Refusals.{status_of, line_of};
 
 use gm_model::OutOfMemory;
 use std::alloc::{AllocError, AllocFailed};
@@ -90,7 +90,7 @@ pub enum Stop {
 }
 
 impl Stop {
-    ghost use Rattle.gm_tool.specs.Stops.{IsStopWith};
+    ghost use Rattle.gm_tool.specs.inner.Stops.{IsStopWith};
 
     /// The stop with the line of a text that can't be run, where there was memory for it.
     pub fn because(line: Result<Vec<u8>, OutOfMemory>) -> Stop

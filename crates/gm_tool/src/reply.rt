@@ -1,6 +1,6 @@
 ghost use Rattle.std.specs.Prelude.{◌≡◌};
-ghost use Rattle.gm_tool.specs.Replies.{IsWithinLimit};
-ghost use Rattle.gm_tool.specs.Stops.{reply_of};
+ghost use Rattle.gm_tool.specs.inner.Replies.{IsWithinLimit};
+ghost use Rattle.gm_tool.specs.inner.Stops.{reply_of};
 
 use crate::refusal::{NoText, Refusal, Stop};
 

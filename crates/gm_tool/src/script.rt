@@ -2,7 +2,7 @@ ghost use Rattle.std.specs.Prelude.{ℕ, List, IfOk, IfErr, map};
 ghost use Rattle.gm_model.specs.Rules.{rule_of};
 ghost use Rattle.gm_lines.specs.Refusing.{TheScript};
 ghost use Rattle.gm_tool.specs.RunAnswer.{IsBadScript};
-ghost use Rattle.gm_tool.specs.Stops.{IsReadBook, IsReadScript, IsBadFor};
+ghost use Rattle.gm_tool.specs.inner.Stops.{IsReadBook, IsReadScript, IsBadFor};
 
 use crate::refusal::Stop;
 use gm_lines::script_line;

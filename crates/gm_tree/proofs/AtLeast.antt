@@ -1,13 +1,13 @@
 -- A tree is read at each place of a text, or there is a first fault by the grammar or by names.
 use Rattle.std.proofs.Common.{◌≡◌, ◌⊎◌, ℕ, Option, Some, None, inl, inr, refl}
 use Rattle.gm_model.specs.Trees.{Tree}
-use Rattle.gm_text.specs.Cursor.{Cursor}
-use Rattle.gm_text.specs.SchemaAnswers.{marks_left}
+use Rattle.gm_text.specs.inner.Cursor.{Cursor}
+use Rattle.gm_text.specs.inner.SchemaAnswers.{marks_left}
 use Rattle.gm_parse.specs.declared.fault.SyntaxFault.{SyntaxFault}
-use Rattle.gm_parse.specs.Answers.{IsExprSkipped, IsExprRead, IsSyntaxFault, HasFirstFault}
+use Rattle.gm_parse.specs.inner.Answers.{IsExprSkipped, IsExprRead, IsSyntaxFault, HasFirstFault}
 use Rattle.gm_parse.specs.Meaning.{Names, NameFault, faults_in, tree_in}
 use Rattle.gm_parse.proofs.AtLeast.{skipped_or_fault}
-use Rattle.gm_tree.specs.Building.{noted}
+use Rattle.gm_tree.specs.inner.Building.{noted}
 use Rattle.gm_tree.proofs.ReadForms.{noted_none, first_fault}
 
 module _ (n : ℕ) (names : Names) (old : Cursor) where

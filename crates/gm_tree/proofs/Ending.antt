@@ -2,8 +2,8 @@
 use Rattle.std.proofs.Common.{◌≡◌, ◌<◌, ℕ, true, false, List, [], ◌∷◌, length, Some, None, refl, ap, arith}
 use Rattle.std.specs.Prelude.{nat_le}
 use Rattle.gm_model.specs.Trees.{Tree}
-use Rattle.gm_tree.specs.Building.{Frame, least_in, is_bracket, closed, held, settled, reduced}
-use Rattle.gm_tree.specs.Taking.{TakesAbove, TakesShut}
+use Rattle.gm_tree.specs.inner.Building.{Frame, least_in, is_bracket, closed, held, settled, reduced}
+use Rattle.gm_tree.specs.inner.Taking.{TakesAbove, TakesShut}
 
 pub reduced_stop : (level : ℕ) (old new : List Frame) (tree : Tree) → TakesAbove level old None new → held new tree ≡ reduced level old tree
 reduced_stop level [] new tree is = ap (λ (fs : List Frame). held fs tree) is.0

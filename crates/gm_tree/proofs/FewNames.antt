@@ -6,7 +6,7 @@ use Rattle.gm_model.specs.declared.rule.Param.{Param}
 use Rattle.gm_model.specs.declared.schema.Embed.{Embed}
 use Rattle.gm_model.specs.declared.schema.Schema.{Schema}
 use Rattle.gm_parse.specs.Meaning.{left_name, names_in}
-use Rattle.gm_tree.specs.FirstNames.{first_names}
+use Rattle.gm_tree.specs.inner.FirstNames.{first_names}
 
 all_first : {A B : Type 0} (f : A → B) (xs : List A) → length xs ≤ 256 → take 256 (map f xs) ≡ map f xs
 all_first f xs few = take_all 256 (map f xs) (omega (arith, few, length-map xs f))

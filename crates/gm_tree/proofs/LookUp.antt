@@ -14,8 +14,8 @@ use Rattle.gm_model.specs.declared.expr.DartTerm.{DartTerm}
 use Rattle.gm_model.specs.declared.word.Mask.{Mask}
 use Rattle.gm_tree.specs.declared.partial.Head.{Head}
 use Rattle.gm_tree.specs.declared.partial.Lead.{Lead}
-use Rattle.gm_tree.specs.Building.{number_in, word_in, begin_part, named_at, Name, Frame, work, in_orbit, labelled, before_term, term_in, behind_term, field_in, BehindTerm}
-use Rattle.gm_parse.specs.Reading.{key_of}
+use Rattle.gm_tree.specs.inner.Building.{number_in, word_in, begin_part, named_at, Name, Frame, work, in_orbit, labelled, before_term, term_in, behind_term, field_in, BehindTerm}
+use Rattle.gm_parse.specs.inner.Reading.{key_of}
 use Rattle.gm_parse.proofs.Keys.{name_is, number_is}
 use Rattle.std.specs.List.{position, position_or_len, prefix_len}
 

@@ -30,10 +30,10 @@ use Rattle.gm_tree.specs.declared.partial.Named.{Named}
 use Rattle.gm_parse.specs.Forms.{TermForm, Form, NumberForm, TruthForm, ParamForm, FieldForm, SameForm, CountForm, CollectForm, CallForm, ParenForm, MinusForm, NotForm, BinaryForm, IfForm, Arguments, First, Further, count_of, level_of, IsGood, AreGood}
 use Rattle.gm_parse.specs.Levels.{binary_level, least_on_left, least_on_right}
 use Rattle.gm_parse.specs.Spelling.{Role, Fixed, Quantity, LabelAt, StepAt, greatest, IsPlacedAt, spell, spell_arguments, spell_path, spell_labels, spell_term, operator, name, collector_word}
-use Rattle.gm_tree.specs.Small.{IsSmall, AreSmall, IsSmallPath, IsSmallOrbit}
-use Rattle.gm_parse.specs.Reading.{key_of}
+use Rattle.gm_tree.specs.inner.Small.{IsSmall, AreSmall, IsSmallPath, IsSmallOrbit}
+use Rattle.gm_parse.specs.inner.Reading.{key_of}
 use Rattle.gm_parse.specs.Meaning.{Names, NameFault, UnknownAt, TwiceAt, node_number, embed_number, param_number, function_named, function_of, with_arity, arity, unknown, again_in, orbit_faults, term_faults, field_faults, faults_in, argument_faults, call_of, mask_of, term_in, embed_in, tree_in, trees_in}
-use Rattle.gm_tree.specs.Building.{Frame, LeftOf, MinusOf, NotOf, ElseOf, GroupOf, FirstOf, SecondOf, ThirdOf, BeyondOf, IfOf, ThenOf, Part as Piece, Nothing, Value, Name, InOrbit, BeforeTerm, BehindTerm, BehindField, Work, work, earlier, noted, missed, least_in, least_of, is_bracket, Held, held, settled, reduced, misfit, misfitted, enclosed, next_frame, behind_value, before_operator, close_held, next_held, param_of, param_missed, term_at, lead_of, named_at, built, built_all, take_in, field_part}
+use Rattle.gm_tree.specs.inner.Building.{Frame, LeftOf, MinusOf, NotOf, ElseOf, GroupOf, FirstOf, SecondOf, ThirdOf, BeyondOf, IfOf, ThenOf, Part as Piece, Nothing, Value, Name, InOrbit, BeforeTerm, BehindTerm, BehindField, Work, work, earlier, noted, missed, least_in, least_of, is_bracket, Held, held, settled, reduced, misfit, misfitted, enclosed, next_frame, behind_value, before_operator, close_held, next_held, param_of, param_missed, term_at, lead_of, named_at, built, built_all, take_in, field_part}
 use Rattle.gm_parse.proofs.Keys.{key_operator, key_name}
 use Rattle.gm_parse.proofs.Leading.{is_after}
 

@@ -3,15 +3,15 @@ use Rattle.std.proofs.Common.{◌≡◌, ◌≤◌, ℕ, List, [], Some, None, s
 use Rattle.gm_model.specs.Symbols.{Mark, symbols}
 use Rattle.gm_model.specs.Trees.{Tree}
 use Rattle.gm_model.specs.Reading.{ArePlaced}
-use Rattle.gm_text.specs.Cursor.{Cursor}
-use Rattle.gm_text.specs.SchemaAnswers.{marks_left}
+use Rattle.gm_text.specs.inner.Cursor.{Cursor}
+use Rattle.gm_text.specs.inner.SchemaAnswers.{marks_left}
 use Rattle.gm_parse.specs.declared.fault.SyntaxFault.{SyntaxFault}
-use Rattle.gm_parse.specs.Answers.{IsExprRead, HasFirstFault, IsSyntaxFault}
+use Rattle.gm_parse.specs.inner.Answers.{IsExprRead, HasFirstFault, IsSyntaxFault}
 use Rattle.gm_parse.specs.Forms.{Form}
 use Rattle.gm_parse.specs.Meaning.{Names, NameFault, faults_in, tree_in}
 use Rattle.gm_parse.specs.Spelling.{spell, Stands, IsPlacedAt}
 use Rattle.gm_parse.proofs.OneReading.{one_stands, no_syntax_fault}
-use Rattle.gm_tree.specs.Building.{noted}
+use Rattle.gm_tree.specs.inner.Building.{noted}
 use Rattle.gm_tree.proofs.OneMeaning.{one_meaning, first_is_noted}
 use Rattle.gm_tree.proofs.ReadForms.{fits_of}
 

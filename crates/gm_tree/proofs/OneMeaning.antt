@@ -6,7 +6,7 @@ use Rattle.gm_parse.specs.Forms.{Form, IsGood}
 use Rattle.gm_parse.specs.Meaning.{Names, NameFault, faults_in, tree_in, IsFirstFault}
 use Rattle.gm_parse.specs.Spelling.{limit_in, parts_of, spell}
 use Rattle.gm_parse.proofs.FaultOrder.{same_in_order}
-use Rattle.gm_tree.specs.Building.{Value, Work, work, noted}
+use Rattle.gm_tree.specs.inner.Building.{Value, Work, work, noted}
 use Rattle.gm_tree.proofs.Meant.{Fits, pending, last_tree, settled_pending}
 use Rattle.gm_tree.proofs.ReadForms.{within_small, built_spelling, held_tree, noted_none, noted_some, first_fault}
 

@@ -9,24 +9,24 @@ use Rattle.gm_model.specs.Reading.{Part, symbols_in, sign, ArePlaced}
 use Rattle.gm_model.specs.Symbols.{Mark, symbols}
 use Rattle.gm_model.specs.Trees.{Tree}
 use Rattle.gm_text.specs.SchemaText.{LabelForm}
-use Rattle.gm_text.specs.Cursor.{Cursor}
-use Rattle.gm_text.specs.SchemaAnswers.{marks_left}
+use Rattle.gm_text.specs.inner.Cursor.{Cursor}
+use Rattle.gm_text.specs.inner.SchemaAnswers.{marks_left}
 use Rattle.gm_parse.specs.declared.fault.ExprFault.{ExprFault}
 use Rattle.gm_parse.specs.declared.fault.ExprFault.TheVariants as faults
 use Rattle.gm_parse.specs.Forms.{TermForm, Form, NumberForm, TruthForm, ParamForm, FieldForm, SameForm, CountForm, CollectForm, CallForm, ParenForm, MinusForm, NotForm, BinaryForm, IfForm, Arguments, First, Further, IsGood}
 use Rattle.gm_parse.specs.Spelling.{Role, Fixed, greatest, limit_of, limit_in, passed_by, counted_from, parts_of, spell, spell_arguments, spell_labels, spell_path, spell_term, name, operator, Stands, IsPlacedAt}
-use Rattle.gm_tree.specs.Small.{IsSmall, AreSmall, IsSmallPath, IsSmallOrbit}
+use Rattle.gm_tree.specs.inner.Small.{IsSmall, AreSmall, IsSmallPath, IsSmallOrbit}
 use Rattle.gm_parse.specs.Meaning.{Names, NameFault, UnknownAt, TwiceAt, fault_place, fault_rank, faults_in, tree_in, IsFirstFault, IsNotAfter, IsUnsigned}
-use Rattle.gm_tree.specs.FirstNames.{first_names}
+use Rattle.gm_tree.specs.inner.FirstNames.{first_names}
 use Rattle.gm_model.specs.declared.rule.Node.{Node}
 use Rattle.gm_model.specs.declared.rule.Param.{Param}
 use Rattle.gm_model.specs.declared.schema.Schema.{Schema}
 use Rattle.gm_model.specs.Kinds.{IsTreeInRange}
-use Rattle.gm_parse.specs.Answers.{IsExprRead, IsExprFault, IsInRangeOf, HasFirstFault}
+use Rattle.gm_parse.specs.inner.Answers.{IsExprRead, IsExprFault, IsInRangeOf, HasFirstFault}
 use Rattle.gm_parse.proofs.FaultOrder.{not_after_itself, not_after_then}
 use Rattle.gm_tree.proofs.ReadTrees.{unsigned, in_range}
-use Rattle.gm_tree.specs.Building.{Frame, Part as Piece, Nothing, Value, Name, InOrbit, BeforeTerm, BehindTerm, BehindField, Work, work, is_before, earlier, noted, settled, param_of, tree_behind, fault_behind, built_all}
-use Rattle.gm_tree.specs.Built.{IsBuiltOver, IsLeastOrLost}
+use Rattle.gm_tree.specs.inner.Building.{Frame, Part as Piece, Nothing, Value, Name, InOrbit, BeforeTerm, BehindTerm, BehindField, Work, work, is_before, earlier, noted, settled, param_of, tree_behind, fault_behind, built_all}
+use Rattle.gm_tree.specs.inner.Built.{IsBuiltOver, IsLeastOrLost}
 use Rattle.gm_tree.proofs.Meant.{Fits, done, done_part, is_built, settled_pending, pending, last_tree}
 
 -- ---- what passes no limit is small

@@ -27,10 +27,10 @@ use Rattle.gm_parse.specs.declared.function.Function.TheVariants as functions
 use Rattle.gm_parse.specs.declared.key.Collector.{Collector}
 use Rattle.gm_parse.specs.declared.key.Collector.TheVariants as collectors
 use Rattle.gm_parse.specs.Forms.{TermForm, Form, NumberForm, TruthForm, ParamForm, FieldForm, SameForm, CountForm, CollectForm, CallForm, ParenForm, MinusForm, NotForm, BinaryForm, IfForm, Arguments, First, Further, count_of}
-use Rattle.gm_tree.specs.Small.{IsSmall, AreSmall, IsSmallOrbit, IsSmallPath}
-use Rattle.gm_parse.specs.Answers.{HasLeftNodes}
+use Rattle.gm_tree.specs.inner.Small.{IsSmall, AreSmall, IsSmallOrbit, IsSmallPath}
+use Rattle.gm_parse.specs.inner.Answers.{HasLeftNodes}
 use Rattle.gm_parse.specs.Meaning.{Names, NameFault, left_name, is_named, node_number, embed_number, param_number, unknown, function_of, function_named, orbit_faults, term_faults, field_faults, faults_in, argument_faults, mask_of, collect, call_of, term_in, embed_in, tree_in, trees_in, IsUnsigned}
-use Rattle.gm_tree.specs.FirstNames.{first_names}
+use Rattle.gm_tree.specs.inner.FirstNames.{first_names}
 
 -- ---- numbers
 

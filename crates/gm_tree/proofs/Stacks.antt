@@ -4,8 +4,8 @@ use Rattle.std.proofs.lemmas.List.{reverse-append, length-append}
 use Rattle.std.proofs.lemmas.Bool.Decides.{nat_tests}
 use Rattle.std.specs.Option.{option_map}
 use Rattle.gm_tree.specs.declared.waiting.Waiting.{Waiting}
-use Rattle.gm_tree.specs.Building.{Frame, frame_of, frames_of, least_in, is_bracket}
-use Rattle.gm_tree.specs.Taking.{TakesAbove, TakesShut}
+use Rattle.gm_tree.specs.inner.Building.{Frame, frame_of, frames_of, least_in, is_bracket}
+use Rattle.gm_tree.specs.inner.Taking.{TakesAbove, TakesShut}
 
 map-append : (xs ys : List Waiting) → map frame_of (xs ++ ys) ≡ map frame_of xs ++ map frame_of ys
 map-append [] ys = refl

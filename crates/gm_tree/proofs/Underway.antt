@@ -5,19 +5,19 @@ use Rattle.std.specs.List.{AllByRecursion}
 use Rattle.gm_model.specs.declared.token.Token.{Token}
 use Rattle.gm_model.specs.Reading.{Part, symbols_in}
 use Rattle.gm_model.specs.Symbols.{Symbol, Mark, symbols}
-use Rattle.gm_text.specs.Cursor.{Cursor}
-use Rattle.gm_text.specs.Machine.{Ends, Passes}
-use Rattle.gm_text.specs.SchemaAnswers.{marks_left, mark_at}
+use Rattle.gm_text.specs.inner.Cursor.{Cursor}
+use Rattle.gm_text.specs.inner.Machine.{Ends, Passes}
+use Rattle.gm_text.specs.inner.SchemaAnswers.{marks_left, mark_at}
 use Rattle.gm_text.proofs.Machine.{last_of}
 use Rattle.gm_parse.specs.declared.fault.SyntaxFault.{SyntaxFault}
 use Rattle.gm_parse.specs.declared.fault.SyntaxFault.TheVariants as faults
 use Rattle.gm_parse.specs.Forms.{Form}
 use Rattle.gm_parse.specs.Spelling.{Counted, limit_in, parts_of, Stands}
-use Rattle.gm_parse.specs.Reading.{State, Spot, spot_at, first_spot, start, spot_move, spot_role, is_whole_spot}
-use Rattle.gm_parse.specs.Answers.{run_in, Stops, Advances, HasExpr}
+use Rattle.gm_parse.specs.inner.Reading.{State, Spot, spot_at, first_spot, start, spot_move, spot_role, is_whole_spot}
+use Rattle.gm_parse.specs.inner.Answers.{run_in, Stops, Advances, HasExpr}
 use Rattle.gm_parse.specs.Meaning.{Names}
-use Rattle.gm_tree.specs.Building.{Work, work, Nothing, built, built_all}
-use Rattle.gm_tree.specs.Built.{IsBuiltOver, IsUnderway}
+use Rattle.gm_tree.specs.inner.Building.{Work, work, Nothing, built, built_all}
+use Rattle.gm_tree.specs.inner.Built.{IsBuiltOver, IsUnderway}
 use Rattle.gm_parse.proofs.Counted.{LedSpot, spot_behind, form_leads, form_whole, stays_ended, parts_symbols}
 use Rattle.gm_parse.proofs.Standing.{spot_limit, form_stands}
 use Rattle.gm_parse.proofs.Steps.{reads_self, reads_then, stops_then, run_over, whole_behind}

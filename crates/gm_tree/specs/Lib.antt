@@ -1,5 +1,1 @@
-pub mod Building
-pub mod Built
-pub mod Small
-pub mod Taking
-pub mod FirstNames
+pub mod inner

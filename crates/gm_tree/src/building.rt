@@ -4,8 +4,8 @@ ghost use Rattle.std.specs.Option.{option_map};
 ghost use Rattle.gm_model.specs.Trees.{tree_of};
 ghost use Rattle.gm_parse.specs.Levels.{binary_level};
 ghost use Rattle.gm_parse.specs.Meaning.{fault_place, fault_rank, UnknownAt, TwiceAt};
-ghost use Rattle.gm_tree.specs.Building as building;
-ghost use Rattle.gm_tree.specs.Building.{before_operator, behind_value, close_bracket, close_held, earlier, frames_of, held, misfitted, name_fault, next_frames, next_held, reduced, settled, work, work_of, Value};
+ghost use Rattle.gm_tree.specs.inner.Building as building;
+ghost use Rattle.gm_tree.specs.inner.Building.{before_operator, behind_value, close_bracket, close_held, earlier, frames_of, held, misfitted, name_fault, next_frames, next_held, reduced, settled, work, work_of, Value};
 
 use crate::builder::Builder;
 use crate::calls::{close, enclose, go_on, misfit};

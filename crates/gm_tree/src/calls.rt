@@ -4,8 +4,8 @@
 //! would be proved over all variants of its type.
 ghost use Rattle.std.specs.Prelude.{◌≡◌, ◌∷◌, [], IfOk, is_some};
 ghost use Rattle.gm_model.specs.Trees.{tree_of};
-ghost use Rattle.gm_tree.specs.Building as building;
-ghost use Rattle.gm_tree.specs.Building.{closed, enclosed, frame_of, next_frame};
+ghost use Rattle.gm_tree.specs.inner.Building as building;
+ghost use Rattle.gm_tree.specs.inner.Building.{closed, enclosed, frame_of, next_frame};
 ghost use Rattle.gm_parse.specs.declared.key.Key.TheVariants.{Comma, Then, Else};
 ghost use Rattle.gm_parse.specs.Meaning.{arity as arity_of, call_of, with_arity};
 

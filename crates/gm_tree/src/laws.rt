@@ -5,12 +5,12 @@ ghost use Rattle.gm_model.specs.declared.rule.Param.{Param};
 ghost use Rattle.gm_model.specs.declared.schema.Schema.{Schema};
 ghost use Rattle.gm_model.specs.Symbols.{Mark};
 ghost use Rattle.gm_model.specs.Trees.{Tree};
-ghost use Rattle.gm_text.specs.Cursor.{Cursor};
-ghost use Rattle.gm_text.specs.SchemaAnswers.{marks_left};
+ghost use Rattle.gm_text.specs.inner.Cursor.{Cursor};
+ghost use Rattle.gm_text.specs.inner.SchemaAnswers.{marks_left};
 ghost use Rattle.gm_parse.specs.declared.fault.SyntaxFault.{SyntaxFault};
-ghost use Rattle.gm_parse.specs.Answers.{HasFirstFault, IsExprRead, IsSyntaxFault};
+ghost use Rattle.gm_parse.specs.inner.Answers.{HasFirstFault, IsExprRead, IsSyntaxFault};
 ghost use Rattle.gm_parse.specs.Meaning.{NameFault, Names, names_in};
-ghost use Rattle.gm_tree.specs.FirstNames.{first_names};
+ghost use Rattle.gm_tree.specs.inner.FirstNames.{first_names};
 
 /// Under the same names one tree at most stands at a place of a text, with the same tokens behind
 /// it: `a - b - c` has one grouping, and no reader can choose another.

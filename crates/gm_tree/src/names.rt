@@ -3,10 +3,10 @@ ghost use Rattle.std.specs.Prelude.{◌≡◌, ◌<◌, ◌≤◌, bytes_eq, len
 ghost use Rattle.std.specs.List.{position};
 ghost use Rattle.gm_model.specs.declared.rule.Node.{Node};
 ghost use Rattle.gm_model.specs.declared.rule.Param.{Param};
-ghost use Rattle.gm_tree.specs.Building as building;
+ghost use Rattle.gm_tree.specs.inner.Building as building;
 ghost use Rattle.gm_parse.specs.Meaning as meaning;
 ghost use Rattle.gm_parse.specs.Meaning.{number_of};
-ghost use Rattle.gm_tree.specs.FirstNames.{first_names};
+ghost use Rattle.gm_tree.specs.inner.FirstNames.{first_names};
 
 use crate::partial::Named;
 use gm_model::{Node, Param, UnOp};

@@ -6,9 +6,9 @@ ghost use Rattle.gm_model.specs.Trees.{tree_of};
 ghost use Rattle.gm_parse.specs.Meaning as meaning;
 ghost use Rattle.gm_model.specs.Symbols.{value_of};
 ghost use Rattle.gm_model.specs.Tokens.{bytes_of};
-ghost use Rattle.gm_text.specs.SchemaAnswers.{IsToken};
-ghost use Rattle.gm_tree.specs.Building.{behind_name, frames_of, labelled, name_fault, work_of};
-ghost use Rattle.gm_tree.specs.Building as building;
+ghost use Rattle.gm_text.specs.inner.SchemaAnswers.{IsToken};
+ghost use Rattle.gm_tree.specs.inner.Building.{behind_name, frames_of, labelled, name_fault, work_of};
+ghost use Rattle.gm_tree.specs.inner.Building as building;
 ghost use Rattle.gm_parse.specs.Spelling.{greatest};
 
 use crate::builder::Builder;

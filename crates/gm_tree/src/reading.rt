@@ -1,16 +1,16 @@
 //! An expression read as a tree.
 ghost use Rattle.std.specs.Prelude.{◌≡◌, ◌≤◌, length, None, IfOk, IfErr, OnErr};
 ghost use Rattle.gm_model.specs.Trees.{tree_of};
-ghost use Rattle.gm_text.specs.Lexing.{IsBehindToken};
-ghost use Rattle.gm_text.specs.SchemaAnswers.{marks_left};
+ghost use Rattle.gm_text.specs.inner.Lexing.{IsBehindToken};
+ghost use Rattle.gm_text.specs.inner.SchemaAnswers.{marks_left};
 ghost use Rattle.gm_parse.specs.declared.fault.SyntaxFault.{SyntaxFault};
-ghost use Rattle.gm_parse.specs.Reading.{spot_at};
-ghost use Rattle.gm_parse.specs.Answers.{Advances, HasExpr, Stops, IsExprRead, IsExprFault, IsInRangeOf};
-ghost use Rattle.gm_tree.specs.Building.{fault_behind, frames_of, name_fault, operand_tree, part_of, tree_behind, work_of};
-ghost use Rattle.gm_tree.specs.Built.{IsBuiltOver, IsLeastOrLost};
+ghost use Rattle.gm_parse.specs.inner.Reading.{spot_at};
+ghost use Rattle.gm_parse.specs.inner.Answers.{Advances, HasExpr, Stops, IsExprRead, IsExprFault, IsInRangeOf};
+ghost use Rattle.gm_tree.specs.inner.Building.{fault_behind, frames_of, name_fault, operand_tree, part_of, tree_behind, work_of};
+ghost use Rattle.gm_tree.specs.inner.Built.{IsBuiltOver, IsLeastOrLost};
 ghost use Rattle.std.specs.Option.{option_map};
 ghost use Rattle.gm_parse.specs.Meaning.{IsUnsigned};
-ghost use Rattle.gm_tree.specs.FirstNames.{first_names};
+ghost use Rattle.gm_tree.specs.inner.FirstNames.{first_names};
 
 use crate::builder::Builder;
 use crate::partial::Partial;

@@ -1,9 +1,9 @@
 //! The stack of what waits for an operand.
 ghost use Rattle.std.specs.Prelude.{◌≡◌, ◌∷◌, OnOk};
 ghost use Rattle.std.specs.Option.{option_map};
-ghost use Rattle.gm_tree.specs.Building.{frame_of, frames_of};
-ghost use Rattle.gm_parse.specs.Taking.{Takes};
-ghost use Rattle.gm_tree.specs.Taking.{TakesAbove, TakesShut};
+ghost use Rattle.gm_tree.specs.inner.Building.{frame_of, frames_of};
+ghost use Rattle.gm_parse.specs.inner.Taking.{Takes};
+ghost use Rattle.gm_tree.specs.inner.Taking.{TakesAbove, TakesShut};
 
 use crate::table::{is_bracket, least_in};
 use crate::waiting::Waiting;

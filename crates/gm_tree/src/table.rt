@@ -1,7 +1,7 @@
 //! What each place beside an operator asks for.
 ghost use Rattle.std.specs.Prelude.{◌≡◌};
-ghost use Rattle.gm_tree.specs.Building as building;
-ghost use Rattle.gm_tree.specs.Building.{frame_of};
+ghost use Rattle.gm_tree.specs.inner.Building as building;
+ghost use Rattle.gm_tree.specs.inner.Building.{frame_of};
 
 use crate::waiting::Waiting;
 use gm_parse::least_on_right;

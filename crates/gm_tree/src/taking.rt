@@ -1,11 +1,11 @@
 //! One token of an expression taken into its tree.
 ghost use Rattle.std.specs.Prelude.{◌≡◌, ◌≤◌, IfOk};
 ghost use Rattle.std.specs.Option.{option_map};
-ghost use Rattle.gm_text.specs.SchemaAnswers.{IsToken, mark_at, symbol_at};
-ghost use Rattle.gm_tree.specs.Building as building;
-ghost use Rattle.gm_tree.specs.Building.{frames_of, name_fault, part_of, take_in, work_of};
-ghost use Rattle.gm_tree.specs.FirstNames.{first_names};
-ghost use Rattle.gm_parse.specs.Reading.{key_of};
+ghost use Rattle.gm_text.specs.inner.SchemaAnswers.{IsToken, mark_at, symbol_at};
+ghost use Rattle.gm_tree.specs.inner.Building as building;
+ghost use Rattle.gm_tree.specs.inner.Building.{frames_of, name_fault, part_of, take_in, work_of};
+ghost use Rattle.gm_tree.specs.inner.FirstNames.{first_names};
+ghost use Rattle.gm_parse.specs.inner.Reading.{key_of};
 
 use crate::builder::Builder;
 use crate::names::{embed_named, look_up, node_named};

@@ -4,21 +4,21 @@ use Rattle.std.specs.List.{slice_range}
 use Rattle.std.proofs.lemmas.Bool.{cases_eq, cases_lt, eqb-true, eqb-false, false≢true, ltb-true, ltb-false}
 use Rattle.std.proofs.lemmas.List.{get_or-take, get_or_append_left, get_or-append-add, length_push, length-take-le, map-append, take_all, take_at, drop-take}
 use Rattle.std.proofs.lemmas.Option.{get_or_from_slice_get, same_Some, slice_get-get_or, slice_get_within}
-use Rattle.gm_arena.specs.ArenaAsMap.{as_map}
-use Rattle.gm_arena.specs.ArenaMap.{ArenaMap}
-use Rattle.gm_arena.specs.Lawful.{IsLawful}
+use Rattle.gm_arena.specs.inner.ArenaAsMap.{as_map}
+use Rattle.gm_arena.specs.inner.ArenaMap.{ArenaMap}
+use Rattle.gm_arena.specs.inner.Lawful.{IsLawful}
 use Rattle.gm_model.specs.Maps.{Map, IsSound}
-use Rattle.gm_pending.specs.EditLists.{HasSameRows}
+use Rattle.gm_pending.specs.inner.EditLists.{HasSameRows}
 use Rattle.gm_model.specs.Budgets.{Entries, entered}
 use Rattle.gm_model.specs.Histories.{Group, History, done_at, dropped}
 use Rattle.gm_model.specs.declared.schema.Schema.{Schema}
-use Rattle.gm_undo.specs.Layout.{IsLaidOut, change_in, changes_in, end_of, made_at}
+use Rattle.gm_undo.specs.inner.Layout.{IsLaidOut, change_in, changes_in, end_of, made_at}
 use Rattle.gm_undo.specs.declared.keeping.Made.{Made}
 use Rattle.gm_undo.proofs.Spans.{changes_long, cost_more, end_high, ends_rise, made_there, middle_high}
 use Rattle.gm_undo.proofs.Tellings.{none_told, room_here, rows_sound}
-use Rattle.gm_undo.specs.Costs.{MayTake, cost_to, rows_of}
-use Rattle.gm_undo.specs.Kept.{Change, HistoryOf, KeptRow}
-use Rattle.gm_undo.specs.Standing.{AreChained, AreGroupsAlike, AreHeld, BeginsAt, HasRoomFor, IsEntry, IsGroupAt, LeadsTo, Rows, StandsFor, TellsBack, TellsOn, map_of, rows_in}
+use Rattle.gm_undo.specs.inner.Costs.{MayTake, cost_to, rows_of}
+use Rattle.gm_undo.specs.inner.Kept.{Change, HistoryOf, KeptRow}
+use Rattle.gm_undo.specs.inner.Standing.{AreChained, AreGroupsAlike, AreHeld, BeginsAt, HasRoomFor, IsEntry, IsGroupAt, LeadsTo, Rows, StandsFor, TellsBack, TellsOn, map_of, rows_in}
 
 -- both have the same first changes
 pub record AreSameTo (k : ℕ) (all all' : List Change) : Type 0 where

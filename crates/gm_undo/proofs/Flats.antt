@@ -9,14 +9,14 @@ use Rattle.std.proofs.Math.Seq.{take-suc}
 use Rattle.gm_model.specs.declared.value.Value.{Value}
 use Rattle.std.specs.FinMap.{get}
 use Rattle.std.proofs.lemmas.Option.{same_Some}
-use Rattle.gm_arena.specs.ArenaMap.{ArenaMap, Dart, IsAt, name_at}
+use Rattle.gm_arena.specs.inner.ArenaMap.{ArenaMap, Dart, IsAt, name_at}
 use Rattle.gm_arena.specs.declared.slot.Slot.{Slot}
-use Rattle.gm_arena.specs.Parts.{part_of}
-use Rattle.gm_arena.specs.Lawful.{IsLawful}
+use Rattle.gm_arena.specs.inner.Parts.{part_of}
+use Rattle.gm_arena.specs.inner.Lawful.{IsLawful}
 use Rattle.gm_arena.proofs.MapLemmas.{name_at-is}
 use Rattle.gm_arena.proofs.ValueLemmas.{length-values, part_kept}
-use Rattle.gm_undo.specs.Flat.{flat_row, row_in, staying}
-use Rattle.gm_undo.specs.Kept.{KeptRow}
+use Rattle.gm_undo.specs.inner.Flat.{flat_row, row_in, staying}
+use Rattle.gm_undo.specs.inner.Kept.{KeptRow}
 
 none : KeptRow
 none = record { name = 0; stays = false; dart = record { alphas = []; values = [] } }

@@ -3,12 +3,12 @@ use Rattle.std.proofs.Common.{◌≡◌, ◌≢◌, ℕ, ◌+◌, ◌-◌, ◌<�
 use Rattle.std.specs.FinMap.{get}
 use Rattle.std.proofs.lemmas.Bool.{cases_eq, cases_lt, false≢true}
 use Rattle.std.proofs.lemmas.List.{get_or_append_left, get_or-append-add, length_push, length-set}
-use Rattle.gm_arena.specs.ArenaMap.{ArenaMap, Dart, IsLiveName, name_at}
+use Rattle.gm_arena.specs.inner.ArenaMap.{ArenaMap, Dart, IsLiveName, name_at}
 use Rattle.gm_arena.specs.declared.slot.Slot.{Slot}
-use Rattle.gm_undo.specs.Flat.{RowsOf, row_in, staying}
-use Rattle.gm_undo.specs.Kept.{KeptRow}
-use Rattle.gm_undo.specs.Keeping.{AreAddedKept, AreBehindKept, AreTouchedKept, HasMoreRows}
-use Rattle.gm_undo.specs.Writing.{AreOnce}
+use Rattle.gm_undo.specs.inner.Flat.{RowsOf, row_in, staying}
+use Rattle.gm_undo.specs.inner.Kept.{KeptRow}
+use Rattle.gm_undo.specs.inner.Keeping.{AreAddedKept, AreBehindKept, AreTouchedKept, HasMoreRows}
+use Rattle.gm_undo.specs.inner.Writing.{AreOnce}
 use Rattle.gm_undo.proofs.Ranges.{row_before, row_behind, row_marked, row_unmarked}
 
 -- with one row more

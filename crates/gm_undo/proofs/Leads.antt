@@ -11,20 +11,20 @@ use Rattle.gm_model.specs.Unfolding.{added_before, added_nodes}
 use Rattle.gm_theory.proofs.NewNames.{new_name}
 use Rattle.gm_theory.proofs.RuleSteps.{word_below}
 use Rattle.gm_theory.proofs.Tests.{both_true}
-use Rattle.gm_arena.specs.ArenaAsMap.{as_map}
-use Rattle.gm_arena.specs.ArenaMap.{ArenaMap, Dart, IsAt, IsLiveName, IsLiveSlot, name_at}
-use Rattle.gm_arena.specs.Lawful.{IsLawful}
+use Rattle.gm_arena.specs.inner.ArenaAsMap.{as_map}
+use Rattle.gm_arena.specs.inner.ArenaMap.{ArenaMap, Dart, IsAt, IsLiveName, IsLiveSlot, name_at}
+use Rattle.gm_arena.specs.inner.Lawful.{IsLawful}
 use Rattle.gm_arena.specs.declared.slot.Slot.{Slot}
 use Rattle.gm_arena.proofs.InsideLemmas.{is_some_at, none_of}
 use Rattle.gm_arena.proofs.MapLemmas.{IsAt-name_at, name_below}
-use Rattle.gm_pending.specs.EditLists.{EditLists, AreDistinct, AreEditsOf, IsResultOf}
-use Rattle.gm_pending.specs.Results.{PendingOf, place_in, rule_in}
+use Rattle.gm_pending.specs.inner.EditLists.{EditLists, AreDistinct, AreEditsOf, IsResultOf}
+use Rattle.gm_pending.specs.inner.Results.{PendingOf, place_in, rule_in}
 use Rattle.gm_pending.proofs.Numbers.{numbered, number_below}
-use Rattle.gm_undo.specs.Flat.{RowsOf, row_in}
-use Rattle.gm_undo.specs.Kept.{KeptRow}
-use Rattle.gm_undo.specs.Keeping.{AreAddedKept, AreBehindKept, AreTouchedKept}
-use Rattle.gm_undo.specs.Standing.{rows_in}
-use Rattle.gm_undo.specs.Writing.{AreOnce, AreRowsAt, AreSidesAt, IsAmong}
+use Rattle.gm_undo.specs.inner.Flat.{RowsOf, row_in}
+use Rattle.gm_undo.specs.inner.Kept.{KeptRow}
+use Rattle.gm_undo.specs.inner.Keeping.{AreAddedKept, AreBehindKept, AreTouchedKept}
+use Rattle.gm_undo.specs.inner.Standing.{rows_in}
+use Rattle.gm_undo.specs.inner.Writing.{AreOnce, AreRowsAt, AreSidesAt, IsAmong}
 
 -- ---- the added darts of a result
 

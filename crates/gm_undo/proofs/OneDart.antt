@@ -13,16 +13,16 @@ use Rattle.gm_model.specs.declared.value.Value.{Value}
 use Rattle.gm_model.specs.declared.value.Value.TheVariants.{Int}
 use Rattle.gm_model.specs.Maps.{IsEmbedAt}
 use Rattle.gm_model.specs.Values.{kind_of, IsValueOf}
-use Rattle.gm_arena.specs.ArenaMap.{ArenaMap, Dart, IsLiveName, alpha, name_at}
-use Rattle.gm_arena.specs.Lawful.{AreGoodValues}
+use Rattle.gm_arena.specs.inner.ArenaMap.{ArenaMap, Dart, IsLiveName, alpha, name_at}
+use Rattle.gm_arena.specs.inner.Lawful.{AreGoodValues}
 use Rattle.gm_arena.proofs.ValueLemmas.{length-values}
 use Rattle.gm_apply.proofs.ReadValues.{some_embed}
-use Rattle.gm_arena.specs.Edits.{put_if, turned, revalued, with_alpha, with_value}
+use Rattle.gm_arena.specs.inner.Edits.{put_if, turned, revalued, with_alpha, with_value}
 use Rattle.gm_arena.proofs.FilledLemmas.{get-insert_same, get-insert_other}
 use Rattle.gm_arena.proofs.MapLemmas.{alpha-with_alpha_label, get-with_alpha_same, get-with_alpha_other}
-use Rattle.gm_pending.specs.Written.{AreWhole}
+use Rattle.gm_pending.specs.inner.Written.{AreWhole}
 use Rattle.gm_pending.proofs.Whole.{alpha_turned, live_turned, whole_turned}
-use Rattle.gm_undo.specs.Writing.{HasFrame}
+use Rattle.gm_undo.specs.inner.Writing.{HasFrame}
 
 pub no_frame : (m : ArenaMap) → HasFrame m m
 no_frame m = refl

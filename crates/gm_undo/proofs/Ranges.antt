@@ -5,10 +5,10 @@ use Rattle.std.specs.List.{slice_range}
 use Rattle.std.proofs.lemmas.Bool.{false≢true}
 use Rattle.std.proofs.lemmas.List.{get_or_append_left, get_or-append-add, get_or-drop, get_or-take, get_or-set_other, get_or-set_same, length-drop, length-take-le}
 use Rattle.std.proofs.lemmas.Option.{get_or_from_slice_get, slice_get-get_or, slice_get_within}
-use Rattle.gm_undo.specs.Flat.{row_in, staying}
-use Rattle.gm_undo.specs.Kept.{KeptRow}
-use Rattle.gm_undo.specs.Standing.{Rows, AreRowsOf, AreSides, IsNoneOf}
-use Rattle.gm_undo.specs.Writing.{AreRowsAt, AreSidesAt, IsAmong, IsOutside}
+use Rattle.gm_undo.specs.inner.Flat.{row_in, staying}
+use Rattle.gm_undo.specs.inner.Kept.{KeptRow}
+use Rattle.gm_undo.specs.inner.Standing.{Rows, AreRowsOf, AreSides, IsNoneOf}
+use Rattle.gm_undo.specs.inner.Writing.{AreRowsAt, AreSidesAt, IsAmong, IsOutside}
 
 abbrev no_row : KeptRow
 no_row = record { name = 0; stays = false; dart = record { alphas = []; values = [] } }

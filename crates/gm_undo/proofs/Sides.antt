@@ -4,15 +4,15 @@ use Rattle.std.specs.FinMap.{get}
 use Rattle.std.proofs.lemmas.Bool.{false≢true}
 use Rattle.std.proofs.lemmas.List.Elements.{All-get_or}
 use Rattle.std.proofs.lemmas.Nat.{mul-le}
-use Rattle.gm_arena.specs.ArenaMap.{ArenaMap, IsLiveName, alpha}
-use Rattle.gm_arena.specs.Edits.{IsAlone, free_dart}
+use Rattle.gm_arena.specs.inner.ArenaMap.{ArenaMap, IsLiveName, alpha}
+use Rattle.gm_arena.specs.inner.Edits.{IsAlone, free_dart}
 use Rattle.gm_arena.proofs.FilledLemmas.{same_maps}
 use Rattle.gm_arena.proofs.InsideLemmas.{is_some_at, none_of, some_of}
 use Rattle.gm_arena.proofs.MapLemmas.{alpha-alike}
-use Rattle.gm_undo.specs.Flat.{row_in}
-use Rattle.gm_undo.specs.Kept.{KeptRow}
-use Rattle.gm_undo.specs.Standing.{Rows, IsDartIn, IsGoodDart, rows_in}
-use Rattle.gm_undo.specs.Writing.{CanCome, CanGo, CanLink, CanWrite, HasRoomOf, IsAddedRow, IsAmong, IsClearedRow, IsFreeRow, IsOutside, IsOwnRow, IsWritten}
+use Rattle.gm_undo.specs.inner.Flat.{row_in}
+use Rattle.gm_undo.specs.inner.Kept.{KeptRow}
+use Rattle.gm_undo.specs.inner.Standing.{Rows, IsDartIn, IsGoodDart, rows_in}
+use Rattle.gm_undo.specs.inner.Writing.{CanCome, CanGo, CanLink, CanWrite, HasRoomOf, IsAddedRow, IsAmong, IsClearedRow, IsFreeRow, IsOutside, IsOwnRow, IsWritten}
 use Rattle.gm_undo.proofs.Written.{find_row}
 
 by_stays : {P : Type 0} (b : Bool) → (b ≡ true → P) → (b ≡ false → P) → P

@@ -6,12 +6,12 @@ use Rattle.std.proofs.lemmas.List.{length-map}
 use Rattle.std.proofs.lemmas.List.Sums.{sum-map, sum_by_push}
 use Rattle.std.proofs.lemmas.Option.{get_or_from_slice_get, slice_get-get_or, slice_get-map, slice_get_within}
 use Rattle.std.proofs.Math.Seq.{take-suc}
-use Rattle.gm_arena.specs.ArenaMap.{ArenaMap}
-use Rattle.gm_undo.specs.Costs.{cost_to, rows_of}
-use Rattle.gm_undo.specs.Kept.{Change, KeptRow}
-use Rattle.gm_undo.specs.Layout.{IsLaidOut, change_in, changes_in, end_of, made_at}
-use Rattle.gm_undo.specs.Standing.{AreChained, HasRoomFor, IsEntry, Rows, rows_in}
-use Rattle.gm_undo.specs.Writing.{CanWrite, HasRoomOf}
+use Rattle.gm_arena.specs.inner.ArenaMap.{ArenaMap}
+use Rattle.gm_undo.specs.inner.Costs.{cost_to, rows_of}
+use Rattle.gm_undo.specs.inner.Kept.{Change, KeptRow}
+use Rattle.gm_undo.specs.inner.Layout.{IsLaidOut, change_in, changes_in, end_of, made_at}
+use Rattle.gm_undo.specs.inner.Standing.{AreChained, HasRoomFor, IsEntry, Rows, rows_in}
+use Rattle.gm_undo.specs.inner.Writing.{CanWrite, HasRoomOf}
 use Rattle.gm_undo.specs.declared.keeping.Made.{Made}
 use Rattle.gm_undo.proofs.Ranges.{range_long, sides_at, sides_back}
 

@@ -7,14 +7,14 @@ use Rattle.gm_model.specs.declared.schema.Schema.{Schema}
 use Rattle.gm_model.specs.Budgets.{Entries, group_entered}
 use Rattle.gm_model.specs.Histories.{Group, History, no_history, IsUndone, IsRedone, begun_at, kept}
 use Rattle.gm_model.specs.Maps.{Map, IsSound}
-use Rattle.gm_arena.specs.ArenaAsMap.{as_map}
-use Rattle.gm_arena.specs.ArenaMap.{ArenaMap}
-use Rattle.gm_arena.specs.Lawful.{IsLawful}
+use Rattle.gm_arena.specs.inner.ArenaAsMap.{as_map}
+use Rattle.gm_arena.specs.inner.ArenaMap.{ArenaMap}
+use Rattle.gm_arena.specs.inner.Lawful.{IsLawful}
 use Rattle.gm_arena.proofs.InsideLemmas.{some_of}
-use Rattle.gm_undo.specs.Costs.{MayTake, cost_to}
-use Rattle.gm_undo.specs.Kept.{Change, HistoryOf}
-use Rattle.gm_undo.specs.Standing.{AreChained, AreGroupsAlike, AreHeld, AreSoundRows, BeginsAt, HasRoomFor, IsEntry, IsGroupAt, Rows, StandsFor, TellsBack, TellsOn, map_of, rows_in}
-use Rattle.gm_undo.specs.Writing.{HasRoomOf}
+use Rattle.gm_undo.specs.inner.Costs.{MayTake, cost_to}
+use Rattle.gm_undo.specs.inner.Kept.{Change, HistoryOf}
+use Rattle.gm_undo.specs.inner.Standing.{AreChained, AreGroupsAlike, AreHeld, AreSoundRows, BeginsAt, HasRoomFor, IsEntry, IsGroupAt, Rows, StandsFor, TellsBack, TellsOn, map_of, rows_in}
+use Rattle.gm_undo.specs.inner.Writing.{HasRoomOf}
 
 -- ---- groups
 

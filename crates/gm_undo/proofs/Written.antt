@@ -2,14 +2,14 @@
 use Rattle.std.proofs.Common.{◌≡◌, ◌≢◌, ℕ, zero, suc, ◌+◌, ◌<◌, ◌≤◌, ◌⊎◌, true, false, Bool, List, Option, None, cond, refl, sym, ap, subst, ◌∙◌, inl, inr, arith}
 use Rattle.std.specs.FinMap.{get}
 use Rattle.std.proofs.lemmas.Bool.{cases_eq, cases_lt, false≢true}
-use Rattle.gm_arena.specs.ArenaMap.{ArenaMap, Dart, IsLiveName}
-use Rattle.gm_arena.specs.Edits.{IsAlone}
-use Rattle.gm_arena.specs.Lawful.{IsLawful}
+use Rattle.gm_arena.specs.inner.ArenaMap.{ArenaMap, Dart, IsLiveName}
+use Rattle.gm_arena.specs.inner.Edits.{IsAlone}
+use Rattle.gm_arena.specs.inner.Lawful.{IsLawful}
 use Rattle.gm_arena.proofs.MapLemmas.{alpha-alike}
-use Rattle.gm_undo.specs.Flat.{row_in}
-use Rattle.gm_undo.specs.Kept.{KeptRow}
-use Rattle.gm_undo.specs.Standing.{Rows, IsDartIn}
-use Rattle.gm_undo.specs.Writing.{AreOnce, CanCome, HasRoomOf, IsAddedRow, IsAmong, IsClearedRow, IsOutside, IsWritten}
+use Rattle.gm_undo.specs.inner.Flat.{row_in}
+use Rattle.gm_undo.specs.inner.Kept.{KeptRow}
+use Rattle.gm_undo.specs.inner.Standing.{Rows, IsDartIn}
+use Rattle.gm_undo.specs.inner.Writing.{AreOnce, CanCome, HasRoomOf, IsAddedRow, IsAmong, IsClearedRow, IsOutside, IsWritten}
 use Rattle.gm_undo.proofs.Counts.{fewer}
 
 -- the dart is that of a row, or of none

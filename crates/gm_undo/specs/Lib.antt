@@ -1,7 +1,1 @@
-pub mod Kept
-pub mod Flat
-pub mod Layout
-pub mod Keeping
-pub mod Writing
-pub mod Standing
-pub mod Costs
+pub mod inner

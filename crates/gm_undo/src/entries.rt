@@ -1,10 +1,10 @@
 //! Where entries begin and end, and changes made and taken back one after another.
 ghost use Rattle.std.specs.Prelude.{◌≡◌, ℕ, ◌+◌, ◌-◌, ◌*◌, ◌<◌, ◌≤◌, List, None, length};
-ghost use Rattle.gm_undo.specs.Costs.{cost_to};
-ghost use Rattle.gm_undo.specs.Layout.{IsLaidOut, changes_in};
-ghost use Rattle.gm_undo.specs.Standing.{AreChained, BeginsAt, IsEntry, Rows};
-ghost use Rattle.gm_undo.specs.Writing.{HasRoomOf};
-ghost use Rattle.gm_undo.specs.Kept.{KeptRow};
+ghost use Rattle.gm_undo.specs.inner.Costs.{cost_to};
+ghost use Rattle.gm_undo.specs.inner.Layout.{IsLaidOut, changes_in};
+ghost use Rattle.gm_undo.specs.inner.Standing.{AreChained, BeginsAt, IsEntry, Rows};
+ghost use Rattle.gm_undo.specs.inner.Writing.{HasRoomOf};
+ghost use Rattle.gm_undo.specs.inner.Kept.{KeptRow};
 
 use crate::keeping::Made;
 use crate::rows::KeptRows;

@@ -6,15 +6,15 @@ ghost use Rattle.gm_model.specs.Histories.{Group, no_history, done_at, IsUndone,
 ghost use Rattle.gm_model.specs.Kinds.{AreGoodParams};
 ghost use Rattle.gm_model.specs.Maps.{IsSound};
 ghost use Rattle.gm_model.specs.Rules.{rule_of};
-ghost use Rattle.gm_arena.specs.ArenaAsMap.{as_map};
-ghost use Rattle.gm_arena.specs.ArenaMap.{ArenaMap};
-ghost use Rattle.gm_arena.specs.Lawful.{IsLawful};
-ghost use Rattle.gm_match.specs.Outcome.{application_of};
-ghost use Rattle.gm_pending.specs.EditLists.{HasSameRows};
+ghost use Rattle.gm_arena.specs.inner.ArenaAsMap.{as_map};
+ghost use Rattle.gm_arena.specs.inner.ArenaMap.{ArenaMap};
+ghost use Rattle.gm_arena.specs.inner.Lawful.{IsLawful};
+ghost use Rattle.gm_match.specs.inner.Outcome.{application_of};
+ghost use Rattle.gm_pending.specs.inner.EditLists.{HasSameRows};
 ghost use Rattle.gm_apply.specs.declared.refusal.Refusal.TheVariants as refusals;
-ghost use Rattle.gm_apply.specs.Outcomes.{IsRefusedFor, StaysInRoom};
-ghost use Rattle.gm_undo.specs.Costs.{MayTake};
-ghost use Rattle.gm_undo.specs.Standing.{StandsFor};
+ghost use Rattle.gm_apply.specs.inner.Outcomes.{IsRefusedFor, StaysInRoom};
+ghost use Rattle.gm_undo.specs.inner.Costs.{MayTake};
+ghost use Rattle.gm_undo.specs.inner.Standing.{StandsFor};
 
 use crate::entries::{entry_before, entry_behind, go_back, go_on};
 use crate::keeping::{Made, keep, kept_end, make_room};
@@ -46,13 +46,13 @@ pub struct History {
 pub struct Nothing;
 
 impl Model for History {
-    ghost use Rattle.gm_undo.specs.Kept.{HistoryOf, history_code};
+    ghost use Rattle.gm_undo.specs.inner.Kept.{HistoryOf, history_code};
 
     ghost Value = { HistoryOf };
 
     ghost coded = { history_code };
 
-    ghost use Rattle.gm_undo.specs.Layout.{IsLaidOut, history_of};
+    ghost use Rattle.gm_undo.specs.inner.Layout.{IsLaidOut, history_of};
 
     ghost view = { λ h. history_of h.rows h.changes.items h.made h.group };
 

@@ -3,14 +3,14 @@ ghost use Rattle.std.specs.Prelude.{◌≡◌, ℕ, ◌+◌, ◌-◌, ◌*◌, �
 ghost use Rattle.std.specs.Vec.{vec_capacity};
 ghost use Rattle.gm_model.specs.Applications.{Application, IsDone};
 ghost use Rattle.gm_model.specs.Maps.{IsSound};
-ghost use Rattle.gm_arena.specs.ArenaAsMap.{as_map};
-ghost use Rattle.gm_arena.specs.ArenaMap.{IsLiveName, IsLiveSlot};
-ghost use Rattle.gm_arena.specs.Lawful.{IsLawful};
+ghost use Rattle.gm_arena.specs.inner.ArenaAsMap.{as_map};
+ghost use Rattle.gm_arena.specs.inner.ArenaMap.{IsLiveName, IsLiveSlot};
+ghost use Rattle.gm_arena.specs.inner.Lawful.{IsLawful};
 ghost use Rattle.gm_arena.specs.declared.slot.Slot.{Slot};
-ghost use Rattle.gm_apply.specs.Prepared.{IsReadyToCommit, cost_with_rows, rows_of};
-ghost use Rattle.gm_undo.specs.Keeping.{AreAddedKept, AreBehindKept, AreTouchedKept};
-ghost use Rattle.gm_undo.specs.Layout.{change_in, end_of};
-ghost use Rattle.gm_undo.specs.Standing.{LeadsTo, rows_in};
+ghost use Rattle.gm_apply.specs.inner.Prepared.{IsReadyToCommit, cost_with_rows, rows_of};
+ghost use Rattle.gm_undo.specs.inner.Keeping.{AreAddedKept, AreBehindKept, AreTouchedKept};
+ghost use Rattle.gm_undo.specs.inner.Layout.{change_in, end_of};
+ghost use Rattle.gm_undo.specs.inner.Standing.{LeadsTo, rows_in};
 ghost use Rattle.std.specs.List.{Contains};
 
 use crate::rows::KeptRows;

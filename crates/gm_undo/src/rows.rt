@@ -2,11 +2,11 @@
 ghost use Rattle.std.specs.Prelude.{◌≡◌, ℕ, ◌+◌, ◌*◌, ◌<◌, ◌≤◌, ◌++◌, ◌∷◌, [], List, true, false, length, map, take, Some, slice_get, slice_set, slice_index_or, IfOk, OnErr, OnOk};
 ghost use Rattle.std.specs.FinMap.{get};
 ghost use Rattle.std.specs.Vec.{vec_capacity};
-ghost use Rattle.gm_arena.specs.ArenaMap.{Dart, IsLiveSlot, name_at};
-ghost use Rattle.gm_arena.specs.Parts.{part_of};
+ghost use Rattle.gm_arena.specs.inner.ArenaMap.{Dart, IsLiveSlot, name_at};
+ghost use Rattle.gm_arena.specs.inner.Parts.{part_of};
 ghost use Rattle.gm_arena.specs.declared.slot.Slot.{Slot};
-ghost use Rattle.gm_undo.specs.Kept.{KeptRow};
-ghost use Rattle.gm_undo.specs.Flat.{RowsOf, row_in, staying};
+ghost use Rattle.gm_undo.specs.inner.Kept.{KeptRow};
+ghost use Rattle.gm_undo.specs.inner.Flat.{RowsOf, row_in, staying};
 
 use gm_arena::{Arena, Slot, Steps};
 use gm_model::{OutOfMemory, Value};
@@ -32,7 +32,7 @@ pub(crate) struct KeptRows {
 impl Model for KeptRows {
     ghost use Rattle.std.specs.Prelude.{length};
     ghost use Rattle.std.specs.Vec.{vec_capacity};
-    ghost use Rattle.gm_undo.specs.Flat.{RowsOf, rows_code, flat_rows, AreFlat};
+    ghost use Rattle.gm_undo.specs.inner.Flat.{RowsOf, rows_code, flat_rows, AreFlat};
 
     ghost Value = { RowsOf };
 

@@ -2,12 +2,12 @@
 ghost use Rattle.std.specs.Prelude.{◌≡◌, ◌≢◌, ℕ, ◌+◌, ◌-◌, ◌*◌, ◌<◌, ◌≤◌, false, All, Some, None, length};
 ghost use Rattle.std.specs.FinMap.{get};
 ghost use Rattle.gm_model.specs.Limits.{most_names};
-ghost use Rattle.gm_arena.specs.ArenaMap.{Dart, IsAt, IsLiveName, IsLiveSlot, alpha, name_at};
-ghost use Rattle.gm_arena.specs.Edits.{IsAlone};
-ghost use Rattle.gm_arena.specs.Lawful.{AreGoodValues};
-ghost use Rattle.gm_undo.specs.Flat.{row_in};
-ghost use Rattle.gm_undo.specs.Standing.{Rows, rows_in};
-ghost use Rattle.gm_undo.specs.Writing.{AreOnce, CanCome, CanGo, CanLink, CanWrite, HasFrame, HasRoomOf, IsAddedRow, IsAmong, IsClearedRow, IsFreeRow, IsOwnRow, IsWritten};
+ghost use Rattle.gm_arena.specs.inner.ArenaMap.{Dart, IsAt, IsLiveName, IsLiveSlot, alpha, name_at};
+ghost use Rattle.gm_arena.specs.inner.Edits.{IsAlone};
+ghost use Rattle.gm_arena.specs.inner.Lawful.{AreGoodValues};
+ghost use Rattle.gm_undo.specs.inner.Flat.{row_in};
+ghost use Rattle.gm_undo.specs.inner.Standing.{Rows, rows_in};
+ghost use Rattle.gm_undo.specs.inner.Writing.{AreOnce, CanCome, CanGo, CanLink, CanWrite, HasFrame, HasRoomOf, IsAddedRow, IsAmong, IsClearedRow, IsFreeRow, IsOwnRow, IsWritten};
 
 use crate::rows::KeptRows;
 use gm_arena::{Arena, Slot, Steps};

@@ -6,7 +6,7 @@ use Rattle.std.proofs.lemmas.List.{get_or_append_left, get_or_push, get_or-appen
 use Rattle.std.proofs.lemmas.Nat.{div-add-mod'}
 use Rattle.std.proofs.lemmas.Option.{slice_get-get_or, slice_get_within, get_or_from_slice_get}
 use Rattle.std.specs.List.{slice_get, All}
-use Rattle.gm_walk.specs.Cells.{AreCells, AreFirstCells, IsRow}
+use Rattle.gm_walk.specs.inner.Cells.{AreCells, AreFirstCells, IsRow}
 
 module _ {X : Type 0} where
   pub no_cells : (P : ℕ → ℕ → X → Type 0) (width : ℕ) → AreCells P 0 width []

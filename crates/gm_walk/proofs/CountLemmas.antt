@@ -9,8 +9,8 @@ use Rattle.std.proofs.lemmas.List.Elements.{Contains-append_left, Contains-push,
 use Rattle.std.proofs.lemmas.Option.{MatchOption-at_some}
 use Rattle.gm_model.specs.Orbits.{HasCount, IsListOf}
 use Rattle.gm_arena.specs.declared.slot.Slot.{Slot}
-use Rattle.gm_arena.specs.ArenaMap.{ArenaMap, IsAt, IsLiveName}
-use Rattle.gm_arena.specs.Lawful.{IsLawful}
+use Rattle.gm_arena.specs.inner.ArenaMap.{ArenaMap, IsAt, IsLiveName}
+use Rattle.gm_arena.specs.inner.Lawful.{IsLawful}
 use Rattle.gm_arena.proofs.Keys.{rising, named, live}
 
 -- d has P and is one of the first names

@@ -9,9 +9,9 @@ use Rattle.gm_model.specs.declared.word.Letter.{Letter}
 use Rattle.gm_model.specs.declared.word.Letter.TheVariants.{At, Gone}
 use Rattle.gm_model.specs.Orbits.{Labels, HasNoRepeats, IsInOrbit}
 use Rattle.gm_model.specs.Rules.{label_of}
-use Rattle.gm_arena.specs.ArenaMap.{ArenaMap, alpha}
-use Rattle.gm_walk.specs.Seen.{HasLettersOf, IsClosed, HasGrownBy}
-use Rattle.gm_walk.specs.Walks.{along, label_at}
+use Rattle.gm_arena.specs.inner.ArenaMap.{ArenaMap, alpha}
+use Rattle.gm_walk.specs.inner.Seen.{HasLettersOf, IsClosed, HasGrownBy}
+use Rattle.gm_walk.specs.inner.Walks.{along, label_at}
 use Rattle.gm_walk.proofs.WalkLemmas.{place_cases}
 
 pub distinct_push : (xs : List ℕ) (x : ℕ) → HasNoRepeats xs → (Contains xs x → ⊥) → HasNoRepeats (xs ++ x ∷ [])

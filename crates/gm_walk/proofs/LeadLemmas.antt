@@ -9,9 +9,9 @@ use Rattle.gm_model.specs.declared.word.Letter.{Letter}
 use Rattle.gm_model.specs.declared.word.Letter.TheVariants.{At}
 use Rattle.gm_model.specs.Maps.{IsGeneralised}
 use Rattle.gm_model.specs.Orbits.{Labels, HasOrbits, IsInOrbit, IsLead, IsPathIn, follow}
-use Rattle.gm_arena.specs.ArenaAsMap.{as_map}
-use Rattle.gm_arena.specs.ArenaMap.{ArenaMap, IsLiveName, alpha}
-use Rattle.gm_walk.specs.Seen.{HasLettersOf, HasMet, IsClosed, IsMetLead, HasGrownBy}
+use Rattle.gm_arena.specs.inner.ArenaAsMap.{as_map}
+use Rattle.gm_arena.specs.inner.ArenaMap.{ArenaMap, IsLiveName, alpha}
+use Rattle.gm_walk.specs.inner.Seen.{HasLettersOf, HasMet, IsClosed, IsMetLead, HasGrownBy}
 use Rattle.gm_walk.proofs.CountLemmas.{count_alike}
 use Rattle.gm_walk.proofs.GrowLemmas.{contains_on, distinct_push, grown_closed, grown_only, label_there}
 use Rattle.gm_walk.proofs.OrbitLemmas.{live_along, orbit_back, orbit_join}

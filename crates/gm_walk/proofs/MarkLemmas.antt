@@ -9,7 +9,7 @@ use Rattle.std.proofs.lemmas.List.Sums.{sum_by-set, sum_by-append}
 use Rattle.std.proofs.lemmas.List.Folds.{sum_by-replicate}
 use Rattle.std.proofs.lemmas.Option.{slice_get-get_or}
 use Rattle.gm_arena.specs.declared.slot.Slot.{Slot}
-use Rattle.gm_walk.specs.Marks.{IsKept, IsMarked, numbers, unmarked}
+use Rattle.gm_walk.specs.inner.Marks.{IsKept, IsMarked, numbers, unmarked}
 
 -- a place of a list with one more at its end is a place of the list, or the end
 place_cases : (queue : List ℕ) (slot p : ℕ) → p < length (queue ++ slot ∷ []) → (p < length queue) ⊎ (p ≡ length queue)

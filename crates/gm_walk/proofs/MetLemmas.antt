@@ -11,9 +11,9 @@ use Rattle.std.proofs.lemmas.List.Sums.{count_by-le-length}
 use Rattle.std.proofs.lemmas.Map.Made.{IsDistinct-from_AllPairs, length-le_from_is_member}
 use Rattle.std.proofs.lemmas.Map.Views.{Contains-from_any, list_any-from_Contains}
 use Rattle.gm_model.specs.Orbits.{HasNoRepeats}
-use Rattle.gm_arena.specs.ArenaMap.{ArenaMap, IsLiveName}
-use Rattle.gm_arena.specs.Lawful.{IsLawful}
-use Rattle.gm_walk.specs.Seen.{seen_count}
+use Rattle.gm_arena.specs.inner.ArenaMap.{ArenaMap, IsLiveName}
+use Rattle.gm_arena.specs.inner.Lawful.{IsLawful}
+use Rattle.gm_walk.specs.inner.Seen.{seen_count}
 use Rattle.gm_walk.proofs.CountLemmas.{is_named}
 
 -- ---- lists without repeats

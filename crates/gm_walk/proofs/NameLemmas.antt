@@ -12,12 +12,12 @@ use Rattle.gm_model.specs.declared.word.Letter.TheVariants.{At}
 use Rattle.gm_model.specs.Orbits.{IsWalkTo}
 use Rattle.gm_model.specs.Rules.{label_of}
 use Rattle.gm_arena.specs.declared.slot.Slot.{Slot}
-use Rattle.gm_arena.specs.ArenaMap.{ArenaMap, IsAt, IsLiveSlot, name_at, alpha}
-use Rattle.gm_arena.specs.Lawful.{IsLawful}
+use Rattle.gm_arena.specs.inner.ArenaMap.{ArenaMap, IsAt, IsLiveSlot, name_at, alpha}
+use Rattle.gm_arena.specs.inner.Lawful.{IsLawful}
 use Rattle.gm_arena.proofs.MapLemmas.{IsAt-name_at}
-use Rattle.gm_walk.specs.Room.{Room, TakesIn}
-use Rattle.gm_walk.specs.Room.TakesIn.{Known, Added}
-use Rattle.gm_walk.specs.Walks.{AreLive, IsWalkedTo, along, names_of}
+use Rattle.gm_walk.specs.inner.Room.{Room, TakesIn}
+use Rattle.gm_walk.specs.inner.Room.TakesIn.{Known, Added}
+use Rattle.gm_walk.specs.inner.Walks.{AreLive, IsWalkedTo, along, names_of}
 use Rattle.gm_walk.proofs.MarkLemmas.{same_slot}
 use Rattle.gm_walk.proofs.WalkLemmas.{begins, known, added}
 

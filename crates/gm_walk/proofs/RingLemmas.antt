@@ -9,10 +9,10 @@ use Rattle.gm_model.specs.declared.word.Letter.TheVariants.{At}
 use Rattle.gm_model.specs.Maps.{IsGeneralised}
 use Rattle.gm_model.specs.Orbits.{Labels, IsInOrbit}
 use Rattle.gm_model.specs.Rules.{label_of}
-use Rattle.gm_arena.specs.ArenaAsMap.{as_map}
-use Rattle.gm_arena.specs.ArenaMap.{ArenaMap, IsLiveName, alpha}
-use Rattle.gm_walk.specs.Seen.{HasLettersOf, HasFollowed, HasGrownBy}
-use Rattle.gm_walk.specs.Walks.{along}
+use Rattle.gm_arena.specs.inner.ArenaAsMap.{as_map}
+use Rattle.gm_arena.specs.inner.ArenaMap.{ArenaMap, IsLiveName, alpha}
+use Rattle.gm_walk.specs.inner.Seen.{HasLettersOf, HasFollowed, HasGrownBy}
+use Rattle.gm_walk.specs.inner.Walks.{along}
 use Rattle.gm_walk.proofs.GrowLemmas.{contains_on}
 use Rattle.gm_walk.proofs.OrbitLemmas.{orbit_join}
 use Rattle.gm_walk.proofs.WalkLemmas.{place_cases}

@@ -7,9 +7,9 @@ use Rattle.std.proofs.lemmas.List.{get_or-replicate, get_or_past, length-replica
 use Rattle.std.proofs.lemmas.List.Elements.{Contains-append_left, Contains-push, Contains-push_cases}
 use Rattle.std.proofs.lemmas.List.Folds.{sum_by-replicate}
 use Rattle.std.proofs.lemmas.List.Sums.{sum_by-set}
-use Rattle.gm_arena.specs.ArenaMap.{ArenaMap, IsAt}
-use Rattle.gm_arena.specs.Lawful.{IsLawful}
-use Rattle.gm_walk.specs.Seen.{HasSeen, seen_count}
+use Rattle.gm_arena.specs.inner.ArenaMap.{ArenaMap, IsAt}
+use Rattle.gm_arena.specs.inner.Lawful.{IsLawful}
+use Rattle.gm_walk.specs.inner.Seen.{HasSeen, seen_count}
 use Rattle.gm_walk.proofs.GrowLemmas.{distinct_push}
 
 -- ---- how many

@@ -9,11 +9,11 @@ use Rattle.std.proofs.lemmas.Option.{slice_get_within, get_or_from_slice_get}
 use Rattle.gm_model.specs.declared.word.Letter.{Letter}
 use Rattle.gm_model.specs.Orbits.{IsWalk, IsWalkTo}
 use Rattle.gm_arena.specs.declared.slot.Slot.{Slot}
-use Rattle.gm_arena.specs.ArenaMap.{ArenaMap, IsAt, name_at}
-use Rattle.gm_walk.specs.Cells.{AreCells, IsRow}
-use Rattle.gm_walk.specs.Room.{Room, TakesIn}
-use Rattle.gm_walk.specs.Turns.{IsTurn}
-use Rattle.gm_walk.specs.Walks.{along, names_of}
+use Rattle.gm_arena.specs.inner.ArenaMap.{ArenaMap, IsAt, name_at}
+use Rattle.gm_walk.specs.inner.Cells.{AreCells, IsRow}
+use Rattle.gm_walk.specs.inner.Room.{Room, TakesIn}
+use Rattle.gm_walk.specs.inner.Turns.{IsTurn}
+use Rattle.gm_walk.specs.inner.Walks.{along, names_of}
 use Rattle.gm_walk.proofs.MetLemmas.{few_among}
 use Rattle.gm_walk.proofs.NameLemmas.{name_there, at_name, longer_after, same_after}
 

@@ -12,13 +12,13 @@ use Rattle.gm_model.specs.declared.word.Letter.TheVariants.{At, Gone}
 use Rattle.gm_model.specs.Maps.{IsGeneralised}
 use Rattle.gm_model.specs.Orbits.{Labels, HasNoRepeats, IsInOrbit, IsWalk}
 use Rattle.gm_model.specs.Rules.{label_of}
-use Rattle.gm_arena.specs.ArenaAsMap.{as_map}
-use Rattle.gm_arena.specs.ArenaMap.{ArenaMap, IsLiveName, alpha, name_at}
-use Rattle.gm_arena.specs.Lawful.{IsLawful}
+use Rattle.gm_arena.specs.inner.ArenaAsMap.{as_map}
+use Rattle.gm_arena.specs.inner.ArenaMap.{ArenaMap, IsLiveName, alpha, name_at}
+use Rattle.gm_arena.specs.inner.Lawful.{IsLawful}
 use Rattle.gm_arena.specs.declared.slot.Slot.{Slot}
 use Rattle.gm_arena.proofs.MapLemmas.{IsLiveName-name_at}
-use Rattle.gm_walk.specs.Seen.{HasLettersOf, IsClosed, HasGrownBy}
-use Rattle.gm_walk.specs.Walks.{AreLive, IsLabelUpTo, IsWord, along, label_at, names_of}
+use Rattle.gm_walk.specs.inner.Seen.{HasLettersOf, IsClosed, HasGrownBy}
+use Rattle.gm_walk.specs.inner.Walks.{AreLive, IsLabelUpTo, IsWord, along, label_at, names_of}
 use Rattle.gm_walk.proofs.GrowLemmas.{neighbour_in}
 use Rattle.gm_walk.proofs.NameLemmas.{name_there}
 use Rattle.gm_walk.proofs.OrbitLemmas.{orbit_join}

@@ -13,8 +13,8 @@ use Rattle.gm_model.specs.declared.word.Letter.TheVariants.{At, Gone}
 use Rattle.gm_model.specs.declared.word.Mask.{Mask}
 use Rattle.gm_model.specs.Labels.{has}
 use Rattle.gm_model.specs.Structure.{IsPlainWord, HasLabelsUpTo}
-use Rattle.gm_walk.specs.Seen.{HasLettersOf}
-use Rattle.gm_walk.specs.Walks.{IsLabelUpTo, IsWord, labels_of, letters_of}
+use Rattle.gm_walk.specs.inner.Seen.{HasLettersOf}
+use Rattle.gm_walk.specs.inner.Walks.{IsLabelUpTo, IsWord, labels_of, letters_of}
 
 module _ (mask : Mask) (letters : List Letter) (used index : ℕ) (labels : List ℕ) (within : index < length labels) (front : take used letters ≡ map At (filter (has mask) (take index labels))) where
   -- one more label of the mask

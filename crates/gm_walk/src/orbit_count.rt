@@ -8,12 +8,12 @@ ghost use Rattle.gm_model.specs.declared.word.Letter.TheVariants.{At};
 ghost use Rattle.gm_model.specs.Maps.{IsDart, IsGeneralised};
 ghost use Rattle.gm_model.specs.Orbits.{Labels, HasNoRepeats, HasOrbits};
 ghost use Rattle.gm_arena.specs.declared.slot.Slot.{Slot};
-ghost use Rattle.gm_arena.specs.ArenaAsMap.{as_map};
-ghost use Rattle.gm_arena.specs.ArenaMap.{ArenaMap, IsLiveSlot, alpha, name_at};
-ghost use Rattle.gm_arena.specs.Lawful.{IsLawful};
-ghost use Rattle.gm_walk.specs.Room.{Fits};
-ghost use Rattle.gm_walk.specs.Seen.{HasFollowed, HasGrownBy, HasLettersOf, HasMet, HasSeen, IsClosed, seen_count};
-ghost use Rattle.gm_walk.specs.Walks.{IsWord, letters_of, names_of, AreLive};
+ghost use Rattle.gm_arena.specs.inner.ArenaAsMap.{as_map};
+ghost use Rattle.gm_arena.specs.inner.ArenaMap.{ArenaMap, IsLiveSlot, alpha, name_at};
+ghost use Rattle.gm_arena.specs.inner.Lawful.{IsLawful};
+ghost use Rattle.gm_walk.specs.inner.Room.{Fits};
+ghost use Rattle.gm_walk.specs.inner.Seen.{HasFollowed, HasGrownBy, HasLettersOf, HasMet, HasSeen, IsClosed, seen_count};
+ghost use Rattle.gm_walk.specs.inner.Walks.{IsWord, letters_of, names_of, AreLive};
 
 use crate::scratch::Scratch;
 use crate::walk::{walk_word, word_of};

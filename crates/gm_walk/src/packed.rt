@@ -1,7 +1,7 @@
 //! A dart of a result in one number.
 ghost use Rattle.std.specs.Prelude.{◌≡◌, ◌<◌, false, IsTrue};
 ghost use Rattle.gm_walk.specs.declared.at.At.TheVariants.{Old, New};
-ghost use Rattle.gm_walk.specs.Keys.{key_of, is_old};
+ghost use Rattle.gm_walk.specs.inner.Keys.{key_of, is_old};
 
 use crate::at::At;
 use gm_arena::Slot;
@@ -16,7 +16,7 @@ pub struct PackedAt {
 
 impl Model for PackedAt {
     ghost use Rattle.gm_walk.specs.declared.at.At.{At};
-    ghost use Rattle.gm_walk.specs.Keys.{at_of, key_of, IsKey};
+    ghost use Rattle.gm_walk.specs.inner.Keys.{at_of, key_of, IsKey};
 
     ghost Value = { At };
 

@@ -1,7 +1,7 @@
 ghost use Rattle.std.specs.Prelude.{◌≡◌, ◌<◌, ◌≤◌, [], length, slice_get, MatchOption, Some, IsOk, OnOk, IsTrue, ◌↔◌};
 ghost use Rattle.std.specs.List.{Contains};
-ghost use Rattle.gm_walk.specs.Marks.{IsMarked, numbers};
-ghost use Rattle.gm_walk.specs.Room.{Fits, TakesIn};
+ghost use Rattle.gm_walk.specs.inner.Marks.{IsMarked, numbers};
+ghost use Rattle.gm_walk.specs.inner.Room.{Fits, TakesIn};
 
 use crate::mark::Mark;
 use gm_arena::{Arena, Slot};
@@ -31,7 +31,7 @@ pub struct Scratch {
 }
 
 impl Model for Scratch {
-    ghost use Rattle.gm_walk.specs.Room.{Room, room_code};
+    ghost use Rattle.gm_walk.specs.inner.Room.{Room, room_code};
 
     ghost Value = { Room };
 
@@ -39,7 +39,7 @@ impl Model for Scratch {
 
     ghost use Rattle.std.specs.Prelude.{length};
     ghost use Rattle.std.specs.Vec.{vec_capacity};
-    ghost use Rattle.gm_walk.specs.Marks.{IsKept};
+    ghost use Rattle.gm_walk.specs.inner.Marks.{IsKept};
 
     ghost view = { λ s. record { bound = length s.marks.items; walked = s.queue.items } };
 

@@ -1,11 +1,11 @@
 ghost use Rattle.std.specs.Prelude.{◌≡◌, ℕ, List, ◌+◌, ◌*◌, ◌<◌, ◌≤◌, [], length, OnOk, OnErr};
-ghost use Rattle.gm_arena.specs.ArenaMap.{IsLiveSlot, name_at};
-ghost use Rattle.gm_arena.specs.Lawful.{IsLawful};
+ghost use Rattle.gm_arena.specs.inner.ArenaMap.{IsLiveSlot, name_at};
+ghost use Rattle.gm_arena.specs.inner.Lawful.{IsLawful};
 ghost use Rattle.gm_model.specs.Orbits.{IsWalk};
-ghost use Rattle.gm_walk.specs.Cells.{AreCells};
-ghost use Rattle.gm_walk.specs.Room.{Fits};
-ghost use Rattle.gm_walk.specs.Turns.{IsBrokenOff, IsTurn};
-ghost use Rattle.gm_walk.specs.Walks.{IsWord, along, names_of, AreLive, IsWalkedTo};
+ghost use Rattle.gm_walk.specs.inner.Cells.{AreCells};
+ghost use Rattle.gm_walk.specs.inner.Room.{Fits};
+ghost use Rattle.gm_walk.specs.inner.Turns.{IsBrokenOff, IsTurn};
+ghost use Rattle.gm_walk.specs.inner.Walks.{IsWord, along, names_of, AreLive, IsWalkedTo};
 
 use crate::scratch::Scratch;
 use gm_arena::{Arena, Slot, Steps};

@@ -1,12 +1,12 @@
 ghost use Rattle.std.specs.Prelude.{◌≡◌, ℕ, ◌+◌, ◌*◌, ◌<◌, ◌≤◌, length, slice_get, MatchOption, Some, IsTrue};
 ghost use Rattle.std.specs.List.{Contains};
-ghost use Rattle.gm_arena.specs.ArenaMap.{IsLiveSlot, name_at};
-ghost use Rattle.gm_arena.specs.Lawful.{IsLawful};
+ghost use Rattle.gm_arena.specs.inner.ArenaMap.{IsLiveSlot, name_at};
+ghost use Rattle.gm_arena.specs.inner.Lawful.{IsLawful};
 ghost use Rattle.gm_model.specs.Labels.{has};
 ghost use Rattle.gm_model.specs.Orbits.{IsWalk};
-ghost use Rattle.gm_walk.specs.Room.{Fits};
-ghost use Rattle.gm_walk.specs.Lent.{slots_of, bound_of, lender_of};
-ghost use Rattle.gm_walk.specs.Walks.{IsWord, letters_of, along, names_of, AreLive, IsWalkedTo};
+ghost use Rattle.gm_walk.specs.inner.Room.{Fits};
+ghost use Rattle.gm_walk.specs.inner.Lent.{slots_of, bound_of, lender_of};
+ghost use Rattle.gm_walk.specs.inner.Walks.{IsWord, letters_of, along, names_of, AreLive, IsWalkedTo};
 
 use crate::scratch::Scratch;
 use gm_arena::{Arena, Slot, Steps};

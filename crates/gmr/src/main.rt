@@ -9,7 +9,7 @@ ghost use Rattle.std.specs.Vec.Iter.{into_iter_items};
 ghost use Rattle.gm_host.specs.Count.{counted, Rises};
 ghost use Rattle.gm_tool.specs.Loads.{OneAtMost};
 ghost use Rattle.gm_tool.specs.Tool.{words_of, EndsAs};
-ghost use Rattle.gmr.specs.Seen.{seen_of};
+ghost use Rattle.gmr.specs.inner.Seen.{seen_of};
 
 use gm_arena::Steps;
 use gm_host::{FileStore, StdSink};

@@ -8,10 +8,10 @@ use Rattle.gm_model.specs.Labels.{has}
 use Rattle.gm_model.specs.Rules.{rule_of, has_word}
 use Rattle.gm_model.specs.Structure.{IsJoined}
 use Rattle.gm_model.proofs.Nodes.{node_below}
-use Rattle.gm_embcheck.specs.Bounds.{HasLinkBounds}
-use Rattle.gm_embcheck.specs.Faults.{IsFirstComponentFault}
-use Rattle.gm_embcheck.specs.Leaders.{AreLeaders}
-use Rattle.gm_embcheck.specs.NodeSets.{IsIn}
+use Rattle.gm_embcheck.specs.inner.Bounds.{HasLinkBounds}
+use Rattle.gm_embcheck.specs.inner.Faults.{IsFirstComponentFault}
+use Rattle.gm_embcheck.specs.inner.Leaders.{AreLeaders}
+use Rattle.gm_embcheck.specs.inner.NodeSets.{IsIn}
 use Rattle.gm_embcheck.proofs.Leaders.{nodes_joined}
 use Rattle.gm_embcheck.proofs.Leading.{leads, led_source}
 use Rattle.gm_embcheck.proofs.check_embedding.Goals as goal

@@ -1,6 +1,6 @@
 use Rattle.std.proofs.Common.{◌≢◌, ℕ, refl, sym, subst, ◌∙◌}
 use Rattle.gm_tool.specs.Tool.{words_of, EndsAs}
-use Rattle.gmr.specs.Seen.{seen_of}
+use Rattle.gmr.specs.inner.Seen.{seen_of}
 use Rattle.gmr.proofs.run_over_files.Goals as goal
 
 pub returns-clause-ends : goal.returns-clause-ends

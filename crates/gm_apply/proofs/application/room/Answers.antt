@@ -1,6 +1,6 @@
 use Rattle.std.proofs.Common.{◌≡◌, ◌-◌, ◌*◌, ap₂, ◌∙◌, arith}
 use Rattle.gm_model.specs.Rules.{rule_of}
-use Rattle.gm_plan.specs.Counts.{removed_nodes}
+use Rattle.gm_plan.specs.inner.Counts.{removed_nodes}
 use Rattle.gm_apply.proofs.Applying.{few_go, no_room, no_names, has_room}
 use Rattle.gm_apply.proofs.application.room.Goals as goal
 

@@ -3,8 +3,8 @@ use Rattle.std.proofs.lemmas.Result.{err_from_is_err_and}
 use Rattle.gm_model.proofs.Exits.{unless_ok}
 use Rattle.gm_model.specs.declared.rule.RuleTable.{RuleTable}
 use Rattle.gm_model.specs.Rules.{rule_of}
-use Rattle.gm_match.specs.Outcome.{application_of}
-use Rattle.gm_apply.specs.Outcomes.{AsBefore, ForResult}
+use Rattle.gm_match.specs.inner.Outcome.{application_of}
+use Rattle.gm_apply.specs.inner.Outcomes.{AsBefore, ForResult}
 use Rattle.gm_theory.proofs.ValuesKept.{applications_keep_sound_maps}
 use Rattle.gm_apply.proofs.Applying.{refused_match, accepted_for, readable_at}
 use Rattle.gm_apply.proofs.Budgets.{find_within}

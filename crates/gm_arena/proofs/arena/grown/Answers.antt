@@ -1,7 +1,7 @@
 use Rattle.std.proofs.Common.{◌≡◌, ℕ, ◌+◌, ◌*◌, ◌≤◌, Fits, w64, length, subst, arith}
 use Rattle.gm_model.specs.Limits.{most_darts}
 use Rattle.gm_model.proofs.Exits.{unless_ok}
-use Rattle.gm_arena.specs.Inside.{no_slot}
+use Rattle.gm_arena.specs.inner.Inside.{no_slot}
 use Rattle.gm_arena.proofs.arena.grown.Goals as goal
 
 room_word : (len held more : ℕ) → len ≡ held → held + more ≤ most_darts → Fits w64 (len + more)

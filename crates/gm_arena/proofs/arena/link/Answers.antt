@@ -3,7 +3,7 @@ use Rattle.std.proofs.Math.Numerals.{add-one}
 use Rattle.std.proofs.Math.Seq.{drop-cons}
 use Rattle.std.proofs.lemmas.List.{drop_all, length-set}
 use Rattle.std.specs.List.{zip}
-use Rattle.gm_arena.specs.Inside.{linked}
+use Rattle.gm_arena.specs.inner.Inside.{linked}
 use Rattle.gm_arena.specs.declared.slot.Slot.{Slot}
 use Rattle.gm_arena.proofs.arena.link.Goals as goal
 

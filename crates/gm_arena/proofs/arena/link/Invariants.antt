@@ -1,6 +1,6 @@
 use Rattle.std.proofs.Common.{◌≡◌, drop, length}
 use Rattle.std.specs.List.{zip}
-use Rattle.gm_arena.specs.Inside.{linked}
+use Rattle.gm_arena.specs.inner.Inside.{linked}
 use Rattle.gm_arena.proofs.arena.link.Given as goal
 
 -- with those that are left it comes to the same

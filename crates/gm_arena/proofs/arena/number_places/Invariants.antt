@@ -1,6 +1,6 @@
 use Rattle.std.proofs.Common.{◌≡◌}
 use Rattle.slab.specs.Slab.{slab_len}
-use Rattle.gm_arena.specs.Inside.{AreNumbered}
+use Rattle.gm_arena.specs.inner.Inside.{AreNumbered}
 use Rattle.gm_arena.proofs.arena.number_places.Given as goal
 
 -- the places of the names so far

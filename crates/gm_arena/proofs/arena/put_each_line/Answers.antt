@@ -2,7 +2,7 @@ use Rattle.std.proofs.Common.{◌≡◌, ◌+◌, ◌-◌, ◌*◌, ◌/◌, ◌
 use Rattle.std.proofs.Math.Seq.{take-length}
 use Rattle.std.proofs.lemmas.List.{append_assoc, append-nil, length-append, length-drop, length-map}
 use Rattle.std.specs.Slice.Iter.{chunks_exact_rest}
-use Rattle.gm_arena.specs.Inside.{slot_numbered, links_in}
+use Rattle.gm_arena.specs.inner.Inside.{slot_numbered, links_in}
 use Rattle.gm_arena.proofs.LinesLemmas.{links_more, links_none, lines_more}
 use Rattle.gm_arena.proofs.arena.put_each_line.Goals as goal
 

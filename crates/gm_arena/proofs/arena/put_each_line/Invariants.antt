@@ -1,6 +1,6 @@
 use Rattle.std.proofs.Common.{◌≡◌, ◌+◌, ◌*◌, ◌/◌, ◌≤◌, ◌++◌, length, vec_capacity}
 use Rattle.std.specs.Slice.Iter.{chunks_exact_rest, chunks_exact_size}
-use Rattle.gm_arena.specs.Inside.{links_in}
+use Rattle.gm_arena.specs.inner.Inside.{links_in}
 use Rattle.gm_arena.proofs.arena.put_each_line.Given as goal
 
 -- with the lines that are left it comes to the same, and their room is still there

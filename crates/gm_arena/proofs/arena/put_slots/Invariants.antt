@@ -1,5 +1,5 @@
 use Rattle.std.proofs.Common.{◌≡◌, ◌≤◌, ◌++◌, map, take, vec_capacity}
-use Rattle.gm_arena.specs.Inside.{slot_numbered}
+use Rattle.gm_arena.specs.inner.Inside.{slot_numbered}
 use Rattle.gm_arena.proofs.arena.put_slots.Given as goal
 
 -- the slots so far stand behind those before them

@@ -1,6 +1,6 @@
 use Rattle.std.proofs.Common.{◌≡◌, ◌-◌, ap, ◌++◌, ◌∷◌, [], ◌∙◌, sym, length, replicate, arith}
 use Rattle.std.specs.List.{range_with_len}
-use Rattle.gm_arena.specs.Inside.{no_slot}
+use Rattle.gm_arena.specs.inner.Inside.{no_slot}
 use Rattle.std.proofs.lemmas.List.FromFn.{length-range_with_len}
 use Rattle.gm_arena.proofs.ListingLemmas.{numbers_more, of_ok}
 use Rattle.gm_arena.proofs.table.list_slots.Goals as goal

@@ -1,9 +1,9 @@
 use Rattle.std.proofs.Common.{List, map, refl, sym, ap, subst}
 use Rattle.std.specs.Result.{result_err}
 use Rattle.gm_forms.specs.declared.form.RuleForm.{RuleForm}
-use Rattle.gm_forms.specs.Forms.{IsRuleIn, forms_of}
-use Rattle.gm_book.specs.Building.{HasNoFaultInRules, IsFaultOfNames}
-use Rattle.gm_book.specs.FirstNameFault.{IsLeastFault}
+use Rattle.gm_forms.specs.inner.Forms.{IsRuleIn, forms_of}
+use Rattle.gm_book.specs.inner.Building.{HasNoFaultInRules, IsFaultOfNames}
+use Rattle.gm_book.specs.inner.FirstNameFault.{IsLeastFault}
 use Rattle.gm_book.proofs.Built.{no_fault, first_fault}
 use Rattle.gm_book.proofs.RuleFaults.{least_of_all}
 use Rattle.gm_model.proofs.Exits.{unless_ok}

@@ -2,9 +2,9 @@ use Rattle.std.proofs.Common.{Some, sym, ap, subst}
 use Rattle.gm_model.proofs.Exits.{unless_ok}
 use Rattle.gm_model.specs.Rules.{rule_of}
 use Rattle.gm_model.specs.declared.rule.RuleTable.{RuleTable}
-use Rattle.gm_forms.specs.Forms.{rule_form_of}
-use Rattle.gm_book.specs.Building.{IsSoundRule}
-use Rattle.gm_book.specs.FirstNameFault.{IsLeast, IsFaultInRule}
+use Rattle.gm_forms.specs.inner.Forms.{rule_form_of}
+use Rattle.gm_book.specs.inner.Building.{IsSoundRule}
+use Rattle.gm_book.specs.inner.FirstNameFault.{IsLeast, IsFaultInRule}
 use Rattle.gm_book.proofs.Checked.{at_ok, at_err, least_or}
 use Rattle.gm_book.proofs.building.checked_table.Goals as goal
 

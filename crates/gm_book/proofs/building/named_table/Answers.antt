@@ -5,10 +5,10 @@ use Rattle.std.specs.Result.{result_err}
 use Rattle.gm_model.specs.Rules.{rule_of}
 use Rattle.gm_model.specs.declared.rule.RuleTable.{RuleTable}
 use Rattle.gm_forms.specs.BookText.{MeansRule}
-use Rattle.gm_forms.specs.Forms.{rule_form_of}
-use Rattle.gm_forms.specs.Held.{names_held}
+use Rattle.gm_forms.specs.inner.Forms.{rule_form_of}
+use Rattle.gm_forms.specs.inner.Held.{names_held}
 use Rattle.gm_book.specs.declared.names.NameFault.{NameFault}
-use Rattle.gm_book.specs.FirstNameFault.{IsLeast, IsFaultInRule, IsRuleFault}
+use Rattle.gm_book.specs.inner.FirstNameFault.{IsLeast, IsFaultInRule, IsRuleFault}
 use Rattle.gm_book.proofs.Checked.{earlier_or}
 use Rattle.gm_book.proofs.RuleFaults.{least_of_rule}
 use Rattle.gm_model.proofs.Exits.{unless_ok, never_ok}

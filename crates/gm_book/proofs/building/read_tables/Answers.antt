@@ -1,8 +1,8 @@
 use Rattle.std.proofs.Common.{IfOk, map, ap, subst}
 use Rattle.std.specs.Result.{result_err}
-use Rattle.gm_forms.specs.Forms.{rule_form_of}
-use Rattle.gm_forms.specs.Held.{names_at}
-use Rattle.gm_book.specs.FirstNameFault.{IsLeast, IsFaultBehind}
+use Rattle.gm_forms.specs.inner.Forms.{rule_form_of}
+use Rattle.gm_forms.specs.inner.Held.{names_at}
+use Rattle.gm_book.specs.inner.FirstNameFault.{IsLeast, IsFaultBehind}
 use Rattle.gm_book.proofs.building.read_tables.Goals as goal
 
 pub returns-clause-fault : goal.returns-clause-fault

@@ -7,11 +7,11 @@ use Rattle.gm_model.specs.declared.rule.RuleTable.{RuleTable}
 use Rattle.gm_model.specs.Rules.{rule_of}
 use Rattle.gm_forms.specs.BookText.{MeansRule}
 use Rattle.gm_forms.specs.declared.form.RuleForm.{RuleForm}
-use Rattle.gm_forms.specs.Forms.{IsRuleIn, rule_form_of}
-use Rattle.gm_forms.specs.Held.{names_held}
+use Rattle.gm_forms.specs.inner.Forms.{IsRuleIn, rule_form_of}
+use Rattle.gm_forms.specs.inner.Held.{names_held}
 use Rattle.gm_book.specs.declared.names.NameFault.{NameFault}
-use Rattle.gm_book.specs.FirstNameFault.{IsLeast, IsFaultBehind, least_of}
-use Rattle.gm_book.specs.Fitting.{IsFitting, HasExprs}
+use Rattle.gm_book.specs.inner.FirstNameFault.{IsLeast, IsFaultBehind, least_of}
+use Rattle.gm_book.specs.inner.Fitting.{IsFitting, HasExprs}
 use Rattle.gm_book.proofs.Checked.{never_less}
 use Rattle.gm_book.proofs.ReadSets.{each_read, zip_more}
 use Rattle.gm_book.proofs.LeastOf.{least_regrouped, least_with_none}

@@ -2,10 +2,10 @@ use Rattle.std.proofs.Common.{◌≡◌, Option, None, map, take, drop}
 use Rattle.std.specs.List.{AllZip}
 use Rattle.gm_model.specs.Rules.{rule_of}
 use Rattle.gm_forms.specs.BookText.{MeansRule}
-use Rattle.gm_forms.specs.Forms.{rule_form_of}
-use Rattle.gm_forms.specs.Held.{names_held}
+use Rattle.gm_forms.specs.inner.Forms.{rule_form_of}
+use Rattle.gm_forms.specs.inner.Held.{names_held}
 use Rattle.gm_book.specs.declared.names.NameFault.{NameFault}
-use Rattle.gm_book.specs.FirstNameFault.{IsLeast, IsFaultBehind, least_of}
+use Rattle.gm_book.specs.inner.FirstNameFault.{IsLeast, IsFaultBehind, least_of}
 use Rattle.gm_book.proofs.building.read_tables_behind.Given as goal
 
 abbrev pub invariant-loop-rule : goal.invariant-loop-rule

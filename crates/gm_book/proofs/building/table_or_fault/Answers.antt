@@ -1,5 +1,5 @@
 use Rattle.std.proofs.Common.{sym, ◌∙◌}
-use Rattle.gm_forms.specs.Forms.{rule_form_of}
+use Rattle.gm_forms.specs.inner.Forms.{rule_form_of}
 use Rattle.gm_book.proofs.Checked.{names_fault_there}
 use Rattle.gm_model.proofs.Exits.{unless_ok}
 use Rattle.gm_book.proofs.building.table_or_fault.Goals as goal

@@ -1,9 +1,9 @@
 use Rattle.std.proofs.Common.{◌≡◌, ◌+◌, List, [], Option, map, drop, sym, ap, subst, ◌∙◌}
 use Rattle.std.specs.List.{AllByRecursion}
 use Rattle.gm_forms.specs.declared.form.SetForm.{SetForm}
-use Rattle.gm_forms.specs.Forms.{IsSetIn, IsItemIn, set_form_of, item_of}
+use Rattle.gm_forms.specs.inner.Forms.{IsSetIn, IsItemIn, set_form_of, item_of}
 use Rattle.gm_book.specs.declared.names.NameFault.{NameFault}
-use Rattle.gm_book.specs.FirstNameFault.{embed_names, least_of, least_set, least_assigned}
+use Rattle.gm_book.specs.inner.FirstNameFault.{embed_names, least_of, least_set, least_assigned}
 use Rattle.gm_book.proofs.Items.{node_names_sets, link_names_no_set}
 use Rattle.gm_book.proofs.LeastOf.{least_on}
 use Rattle.gm_book.proofs.Onward.{each_on, passed_on}

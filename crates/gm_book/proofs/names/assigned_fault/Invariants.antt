@@ -1,6 +1,6 @@
 use Rattle.std.proofs.Common.{◌≡◌, map, drop}
-use Rattle.gm_forms.specs.Forms.{item_of}
-use Rattle.gm_book.specs.FirstNameFault.{embed_names, least_of, least_assigned}
+use Rattle.gm_forms.specs.inner.Forms.{item_of}
+use Rattle.gm_book.specs.inner.FirstNameFault.{embed_names, least_of, least_assigned}
 use Rattle.gm_book.proofs.names.assigned_fault.Given as goal
 
 abbrev pub invariant-loop-item : goal.invariant-loop-item

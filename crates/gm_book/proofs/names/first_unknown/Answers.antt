@@ -1,8 +1,8 @@
 use Rattle.std.proofs.Common.{◌≡◌, ◌+◌, Option, map, drop, ap, subst, ◌∙◌}
-use Rattle.gm_forms.specs.Forms.{IsItemIn, item_of, mention_of}
-use Rattle.gm_forms.specs.Held.{names_held}
+use Rattle.gm_forms.specs.inner.Forms.{IsItemIn, item_of, mention_of}
+use Rattle.gm_forms.specs.inner.Held.{names_held}
 use Rattle.gm_book.specs.declared.names.NameFault.{NameFault}
-use Rattle.gm_book.specs.FirstNameFault.{least_of, unknown_at, least_unknown}
+use Rattle.gm_book.specs.inner.FirstNameFault.{least_of, unknown_at, least_unknown}
 use Rattle.gm_book.proofs.Items.{node_all_known, link_unknown}
 use Rattle.gm_book.proofs.LeastOf.{least_on}
 use Rattle.gm_book.proofs.Onward.{each_on, passed_on}

@@ -1,7 +1,7 @@
 use Rattle.std.proofs.Common.{◌≡◌, map, drop}
-use Rattle.gm_forms.specs.Forms.{item_of}
-use Rattle.gm_forms.specs.Held.{names_held}
-use Rattle.gm_book.specs.FirstNameFault.{least_of, least_unknown}
+use Rattle.gm_forms.specs.inner.Forms.{item_of}
+use Rattle.gm_forms.specs.inner.Held.{names_held}
+use Rattle.gm_book.specs.inner.FirstNameFault.{least_of, least_unknown}
 use Rattle.gm_book.proofs.names.first_unknown.Given as goal
 
 abbrev pub invariant-loop-item : goal.invariant-loop-item

@@ -4,10 +4,10 @@ use Rattle.gm_model.specs.declared.token.TokenKind.TheVariants.{Name}
 use Rattle.gm_model.specs.declared.value.Kind.TheVariants.{Int}
 use Rattle.gm_forms.specs.declared.form.ParamForm.{ParamForm}
 use Rattle.gm_forms.specs.BookText.{with_name}
-use Rattle.gm_forms.specs.Forms.{IsParamIn, param_form_of, mention_of}
-use Rattle.gm_forms.specs.Held.{names_at, names_held}
+use Rattle.gm_forms.specs.inner.Forms.{IsParamIn, param_form_of, mention_of}
+use Rattle.gm_forms.specs.inner.Held.{names_at, names_held}
 use Rattle.gm_book.specs.declared.names.NameFault.{NameFault}
-use Rattle.gm_book.specs.FirstNameFault.{least_of, again_at, least_param}
+use Rattle.gm_book.specs.inner.FirstNameFault.{least_of, again_at, least_param}
 use Rattle.gm_book.proofs.LeastOf.{least_regrouped, least_with_none}
 use Rattle.gm_book.proofs.Onward.{each_on, none_on}
 use Rattle.gm_model.proofs.Exits.{unless_ok}

@@ -1,7 +1,7 @@
 use Rattle.std.proofs.Common.{◌≡◌, [], map, drop}
-use Rattle.gm_forms.specs.Forms.{param_form_of}
-use Rattle.gm_forms.specs.Held.{names_held}
-use Rattle.gm_book.specs.FirstNameFault.{least_of, least_param}
+use Rattle.gm_forms.specs.inner.Forms.{param_form_of}
+use Rattle.gm_forms.specs.inner.Held.{names_held}
+use Rattle.gm_book.specs.inner.FirstNameFault.{least_of, least_param}
 use Rattle.gm_book.proofs.names.params_fault.Given as goal
 
 abbrev pub invariant-loop-param : goal.invariant-loop-param

@@ -1,6 +1,6 @@
 use Rattle.std.proofs.Common.{sym, subst}
-use Rattle.gm_forms.specs.Forms.{rule_form_of}
-use Rattle.gm_book.specs.FirstNameFault.{IsLeast, IsFaultInRule}
+use Rattle.gm_forms.specs.inner.Forms.{rule_form_of}
+use Rattle.gm_book.specs.inner.FirstNameFault.{IsLeast, IsFaultInRule}
 use Rattle.gm_book.proofs.RuleFaults.{least_in_rule}
 use Rattle.gm_model.proofs.Exits.{unless_ok}
 use Rattle.gm_book.proofs.names.rule_fault.Goals as goal

@@ -1,10 +1,10 @@
 use Rattle.std.proofs.Common.{◌≡◌, ◌+◌, ◌∷◌, List, Option, map, drop, sym, ap, ◌∙◌}
 use Rattle.gm_forms.specs.declared.form.SetForm.{SetForm}
 use Rattle.gm_forms.specs.BookText.{with_name}
-use Rattle.gm_forms.specs.Forms.{IsSetIn, set_form_of, mention_of}
-use Rattle.gm_forms.specs.Held.{names_at, names_held}
+use Rattle.gm_forms.specs.inner.Forms.{IsSetIn, set_form_of, mention_of}
+use Rattle.gm_forms.specs.inner.Held.{names_at, names_held}
 use Rattle.gm_book.specs.declared.names.NameFault.{NameFault}
-use Rattle.gm_book.specs.FirstNameFault.{embed_names, least_of, again_at, unknown_at, least_set}
+use Rattle.gm_book.specs.inner.FirstNameFault.{embed_names, least_of, again_at, unknown_at, least_set}
 use Rattle.gm_book.proofs.LeastOf.{least_regrouped, least_with_none}
 use Rattle.gm_book.proofs.Onward.{left_on, each_on, none_on}
 use Rattle.gm_model.proofs.Exits.{unless_ok}

@@ -1,7 +1,7 @@
 use Rattle.std.proofs.Common.{◌≡◌, [], map, drop}
-use Rattle.gm_forms.specs.Forms.{set_form_of}
-use Rattle.gm_forms.specs.Held.{names_held}
-use Rattle.gm_book.specs.FirstNameFault.{embed_names, least_of, least_set}
+use Rattle.gm_forms.specs.inner.Forms.{set_form_of}
+use Rattle.gm_forms.specs.inner.Held.{names_held}
+use Rattle.gm_book.specs.inner.FirstNameFault.{embed_names, least_of, least_set}
 use Rattle.gm_book.proofs.names.sets_fault.Given as goal
 
 abbrev pub invariant-loop-set : goal.invariant-loop-set

@@ -4,7 +4,7 @@ use Rattle.gm_model.specs.Names.{is_among}
 use Rattle.gm_model.specs.Tokens.{bytes_of}
 use Rattle.gm_forms.specs.declared.key.NameKey.{NameKey}
 use Rattle.gm_forms.specs.BookText.{with_name}
-use Rattle.gm_forms.specs.Held.{names_at, names_held}
+use Rattle.gm_forms.specs.inner.Held.{names_at, names_held}
 use Rattle.gm_forms.proofs.HeldNames.{among_held, taken_in}
 use Rattle.gm_book.specs.declared.names.NameFault.{NameFault}
 use Rattle.gm_model.proofs.Exits.{unless_ok, never_ok}

@@ -1,10 +1,10 @@
 use Rattle.std.proofs.Common.{◌≡◌, ◌+◌, Option, map, drop, ap, subst, ◌∙◌}
 use Rattle.gm_model.specs.Tokens.{bytes_of}
 use Rattle.gm_forms.specs.BookText.{with_name}
-use Rattle.gm_forms.specs.Forms.{IsItemIn, item_of, mention_of}
-use Rattle.gm_forms.specs.Held.{names_held}
+use Rattle.gm_forms.specs.inner.Forms.{IsItemIn, item_of, mention_of}
+use Rattle.gm_forms.specs.inner.Held.{names_held}
 use Rattle.gm_book.specs.declared.names.NameFault.{NameFault}
-use Rattle.gm_book.specs.FirstNameFault.{least_of, with_items, again_at, least_again}
+use Rattle.gm_book.specs.inner.FirstNameFault.{least_of, with_items, again_at, least_again}
 use Rattle.gm_book.proofs.Items.{node_taken_in, node_again, link_not_taken_in, link_not_again}
 use Rattle.gm_book.proofs.LeastOf.{least_on}
 use Rattle.gm_book.proofs.Onward.{each_on, passed_on, found_on}

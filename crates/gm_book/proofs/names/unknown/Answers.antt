@@ -1,7 +1,7 @@
 use Rattle.std.proofs.Common.{◌≡◌, true, false, refl, sym, ap, ◌∙◌}
 use Rattle.gm_model.specs.Names.{is_among}
 use Rattle.gm_model.specs.Tokens.{bytes_of}
-use Rattle.gm_forms.specs.Held.{names_held}
+use Rattle.gm_forms.specs.inner.Held.{names_held}
 use Rattle.gm_forms.proofs.HeldNames.{among_held}
 use Rattle.gm_book.proofs.names.unknown.Goals as goal
 

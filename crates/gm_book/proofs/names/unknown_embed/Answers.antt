@@ -2,7 +2,7 @@ use Rattle.std.proofs.Common.{◌≡◌, ℕ, true, false, List, Option, bytes_e
 use Rattle.std.specs.List.{position}
 use Rattle.gm_model.specs.Names.{is_among}
 use Rattle.gm_model.specs.Tokens.{bytes_of}
-use Rattle.gm_book.specs.FirstNameFault.{embed_names}
+use Rattle.gm_book.specs.inner.FirstNameFault.{embed_names}
 use Rattle.gm_book.proofs.Among.{position_any}
 use Rattle.gm_book.proofs.names.unknown_embed.Goals as goal
 

@@ -4,7 +4,7 @@ use Rattle.std.proofs.lemmas.List.{get_or-map, length-map}
 use Rattle.gm_model.specs.Rules.{rule_of}
 use Rattle.gm_text.specs.SchemaText as schemas
 use Rattle.gm_book.specs.Canonical.{rule_lines}
-use Rattle.gm_book.specs.Printing.{NamesItsNodes, HasNamedExprs}
+use Rattle.gm_book.specs.inner.Printing.{NamesItsNodes, HasNamedExprs}
 use Rattle.gm_book.proofs.Lines.{mapped_more}
 use Rattle.gm_model.proofs.Exits.{unless_ok}
 use Rattle.gm_book.proofs.printing.print_book.Goals as goal

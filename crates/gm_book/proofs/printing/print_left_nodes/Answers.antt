@@ -1,6 +1,6 @@
 use Rattle.std.proofs.Common.{◌++◌, ◌∙◌, ap}
 use Rattle.gm_model.specs.Rules.{node_of}
-use Rattle.gm_book.specs.Printing.{left_line}
+use Rattle.gm_book.specs.inner.Printing.{left_line}
 use Rattle.gm_book.proofs.Lines.{left_more}
 use Rattle.gm_model.proofs.Exits.{never_ok}
 use Rattle.gm_book.proofs.printing.print_left_nodes.Goals as goal

@@ -2,7 +2,7 @@ use Rattle.std.proofs.Common.{◌≡◌, ◌<◌, ◌++◌, ◌∷◌, [], lengt
 use Rattle.std.specs.List.{flat_map}
 use Rattle.gm_model.specs.Rules.{RuleNode, node_of, rule_of, assignment_of}
 use Rattle.gm_book.specs.Canonical.{right_line}
-use Rattle.gm_book.specs.Printing.{is_left, AreNamed}
+use Rattle.gm_book.specs.inner.Printing.{is_left, AreNamed}
 use Rattle.gm_book.proofs.Lines.{each_at, right_more}
 use Rattle.gm_model.proofs.Exits.{never_ok}
 use Rattle.gm_book.proofs.printing.print_right_nodes.Goals as goal

@@ -2,7 +2,7 @@ use Rattle.std.proofs.Common.{◌≡◌, ◌++◌, take, map, filter}
 use Rattle.std.specs.List.{flat_map}
 use Rattle.gm_model.specs.Rules.{node_of, rule_of}
 use Rattle.gm_book.specs.Canonical.{right_line}
-use Rattle.gm_book.specs.Printing.{is_left}
+use Rattle.gm_book.specs.inner.Printing.{is_left}
 use Rattle.gm_book.proofs.printing.print_right_nodes.Given as goal
 
 abbrev pub invariant-loop-node : goal.invariant-loop-node

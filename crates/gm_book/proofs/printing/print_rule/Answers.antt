@@ -5,7 +5,7 @@ use Rattle.gm_model.specs.declared.rule.Link.{Link}
 use Rattle.gm_model.specs.declared.rule.Node.{Node}
 use Rattle.gm_model.specs.Rules.{rule_of, node_of}
 use Rattle.gm_book.specs.Canonical.{params_text, left_lines, right_line, right_lines, link_line, pre_line}
-use Rattle.gm_book.specs.Printing.{AreEndsNodes, is_left}
+use Rattle.gm_book.specs.inner.Printing.{AreEndsNodes, is_left}
 use Rattle.gm_book.proofs.Lines.{put_more}
 use Rattle.gm_model.proofs.Exits.{never_ok}
 use Rattle.gm_book.proofs.printing.print_rule.Goals as goal

@@ -6,7 +6,7 @@ use Rattle.gm_model.specs.Rules.{Rule, Assignment, rule_of, assignment_of}
 use Rattle.gm_model.specs.Trees.{tree_of}
 use Rattle.gm_expr.specs.ExprText.{IsNamed, embed_name, expr_text}
 use Rattle.gm_book.specs.Canonical.{set_text}
-use Rattle.gm_book.specs.Printing.{AreNamed}
+use Rattle.gm_book.specs.inner.Printing.{AreNamed}
 use Rattle.gm_book.proofs.Lines.{each_at, mapped_more, put_more, embed_named}
 use Rattle.gm_model.proofs.Exits.{never_ok}
 use Rattle.gm_book.proofs.printing.print_sets.Goals as goal

@@ -2,14 +2,14 @@ use Rattle.std.proofs.Common.{◌≡◌, ℕ, List, sym, ap, subst, ◌∙◌}
 use Rattle.std.specs.List.{AllByRecursion}
 use Rattle.std.proofs.lemmas.Result.{err_from_is_err_and}
 use Rattle.gm_model.specs.Symbols.{Mark}
-use Rattle.gm_text.specs.Cursor.{Cursor}
-use Rattle.gm_text.specs.Nested.{Outside}
-use Rattle.gm_text.specs.SchemaAnswers.{marks_left, IsSchemaRead}
+use Rattle.gm_text.specs.inner.Cursor.{Cursor}
+use Rattle.gm_text.specs.inner.Nested.{Outside}
+use Rattle.gm_text.specs.inner.SchemaAnswers.{marks_left, IsSchemaRead}
 use Rattle.gm_text.proofs.OneSchema.{one_skipped}
-use Rattle.gm_forms.specs.Forms.{forms_of}
-use Rattle.gm_forms.specs.Reading.{AtFormat, heading_at}
-use Rattle.gm_forms.specs.Standing.{IsHeaded, IsHeadFault, AreRulesRead}
-use Rattle.gm_book.specs.Fitting.{IsFitting, HasExprs}
+use Rattle.gm_forms.specs.inner.Forms.{forms_of}
+use Rattle.gm_forms.specs.inner.Reading.{AtFormat, heading_at}
+use Rattle.gm_forms.specs.inner.Standing.{IsHeaded, IsHeadFault, AreRulesRead}
+use Rattle.gm_book.specs.inner.Fitting.{IsFitting, HasExprs}
 use Rattle.gm_book.proofs.ReadBook.{rules_there, fitting_there, exprs_there, head_fault, skip_fault, rules_fault, names_in_schema, answer_stands, answer_faults, answer_in_range, answer_within_limits, answer_typed, answer_unsigned}
 use Rattle.gm_model.proofs.Exits.{unless_ok}
 use Rattle.gm_book.proofs.reading.read_book.Goals as goal

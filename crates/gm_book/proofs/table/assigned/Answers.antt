@@ -1,8 +1,8 @@
 use Rattle.std.proofs.Common.{List, map, refl, sym, subst}
 use Rattle.gm_model.specs.Rules.{node_of, assignment_of}
-use Rattle.gm_tree.specs.FirstNames.{first_names}
+use Rattle.gm_tree.specs.inner.FirstNames.{first_names}
 use Rattle.gm_forms.specs.declared.key.NameKey.{NameKey}
-use Rattle.gm_book.specs.Building.{IsSoundNode}
+use Rattle.gm_book.specs.inner.Building.{IsSoundNode}
 use Rattle.gm_book.proofs.Checked.{at_ok, at_err, node_sound, set_fault_of}
 use Rattle.gm_book.proofs.ReadSets.{zip_more}
 use Rattle.gm_book.proofs.RuleNames.{good_at}
@@ -10,8 +10,8 @@ use Rattle.gm_model.proofs.Exits.{unless_ok}
 use Rattle.std.proofs.lemmas.List.{take_all}
 use Rattle.std.specs.List.{AllByRecursion, AllZip}
 use Rattle.gm_forms.specs.declared.form.Item.{Item}
-use Rattle.gm_forms.specs.Forms.{IsItemIn, rule_form_of}
-use Rattle.gm_forms.specs.Held.{names_at}
+use Rattle.gm_forms.specs.inner.Forms.{IsItemIn, rule_form_of}
+use Rattle.gm_forms.specs.inner.Held.{names_at}
 use Rattle.gm_book.proofs.table.assigned.Goals as goal
 
 pub node-requires-clause-good : goal.node-requires-clause-good

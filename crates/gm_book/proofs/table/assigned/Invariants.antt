@@ -1,10 +1,10 @@
 use Rattle.std.proofs.Common.{map, take}
 use Rattle.std.specs.List.{AllZip}
 use Rattle.gm_model.specs.Rules.{node_of}
-use Rattle.gm_tree.specs.FirstNames.{first_names}
-use Rattle.gm_forms.specs.Forms.{rule_form_of}
-use Rattle.gm_forms.specs.Held.{names_at}
-use Rattle.gm_book.specs.Building.{IsSoundNode}
+use Rattle.gm_tree.specs.inner.FirstNames.{first_names}
+use Rattle.gm_forms.specs.inner.Forms.{rule_form_of}
+use Rattle.gm_forms.specs.inner.Held.{names_at}
+use Rattle.gm_book.specs.inner.Building.{IsSoundNode}
 use Rattle.gm_book.proofs.table.assigned.Given as goal
 
 abbrev pub invariant-loop-name : goal.invariant-loop-name

@@ -1,7 +1,7 @@
 use Rattle.std.proofs.Common.{◌≡◌, ◌+◌, ℕ, List, [], ◌∷◌, ◌++◌, Vec, Global, map, drop, ap, refl, subst, ◌∙◌}
 use Rattle.gm_forms.specs.BookText.{hooks_in}
-use Rattle.gm_forms.specs.Forms.{IsItemIn, item_of}
-use Rattle.gm_forms.specs.Held.{names_held}
+use Rattle.gm_forms.specs.inner.Forms.{IsItemIn, item_of}
+use Rattle.gm_forms.specs.inner.Held.{names_held}
 use Rattle.gm_book.proofs.Items.{hook_there, no_hook, link_no_hook}
 use Rattle.gm_book.proofs.Onward.{each_on, passed_on, gathered_on, gathered_all}
 use Rattle.gm_book.proofs.table.hooks.Goals as goal

@@ -1,8 +1,8 @@
 use Rattle.std.proofs.Common.{◌+◌, List, [], ◌∷◌, ◌++◌, Vec, Global, map, drop, ap, refl, subst, ◌∙◌}
 use Rattle.gm_model.specs.declared.rule.Link.{Link}
 use Rattle.gm_forms.specs.BookText.{links_in}
-use Rattle.gm_forms.specs.Forms.{IsItemIn, item_of}
-use Rattle.gm_forms.specs.Held.{names_held}
+use Rattle.gm_forms.specs.inner.Forms.{IsItemIn, item_of}
+use Rattle.gm_forms.specs.inner.Held.{names_held}
 use Rattle.gm_book.proofs.Items.{link_there, node_no_link}
 use Rattle.gm_book.proofs.Onward.{each_on, passed_on, gathered_on, gathered_all}
 use Rattle.gm_model.proofs.Exits.{unless_ok}

@@ -3,8 +3,8 @@ use Rattle.std.proofs.lemmas.List.{take_all}
 use Rattle.gm_model.specs.Rules.{node_of}
 use Rattle.gm_forms.specs.declared.key.NameKey.{NameKey}
 use Rattle.gm_forms.specs.BookText.{node_in}
-use Rattle.gm_forms.specs.Forms.{rule_form_of}
-use Rattle.gm_forms.specs.Held.{names_at}
+use Rattle.gm_forms.specs.inner.Forms.{rule_form_of}
+use Rattle.gm_forms.specs.inner.Held.{names_at}
 use Rattle.gm_book.proofs.Mapped.{seen_more}
 use Rattle.gm_book.proofs.RuleNames.{good_at}
 use Rattle.gm_model.proofs.Exits.{unless_ok}

@@ -1,8 +1,8 @@
 use Rattle.std.proofs.Common.{◌≡◌, [], map, take}
 use Rattle.gm_forms.specs.BookText.{node_in}
 use Rattle.gm_model.specs.Rules.{node_of}
-use Rattle.gm_forms.specs.Forms.{rule_form_of}
-use Rattle.gm_forms.specs.Held.{names_at}
+use Rattle.gm_forms.specs.inner.Forms.{rule_form_of}
+use Rattle.gm_forms.specs.inner.Held.{names_at}
 use Rattle.gm_book.proofs.table.nodes.Given as goal
 
 abbrev pub invariant-loop-name : goal.invariant-loop-name

@@ -3,7 +3,7 @@ use Rattle.std.specs.List.{position, position_or_len}
 use Rattle.std.specs.Option.{unwrap_or}
 use Rattle.std.specs.Str.{bytes_eq}
 use Rattle.gm_forms.specs.declared.key.NameKey.{NameKey}
-use Rattle.gm_forms.specs.Held.{names_at}
+use Rattle.gm_forms.specs.inner.Held.{names_at}
 use Rattle.gm_forms.proofs.HeldNames.{same_bytes, numbered, place_or_count}
 use Rattle.gm_book.proofs.table.number.Goals as goal
 

@@ -6,16 +6,16 @@ use Rattle.gm_model.specs.Rules.{node_of}
 use Rattle.gm_model.specs.Trees.{tree_of}
 use Rattle.gm_forms.specs.declared.form.Item.{Item}
 use Rattle.gm_forms.specs.BookText.{RuleForm, param_of, nodes_of, links_in, hooks_in, names_for}
-use Rattle.gm_forms.specs.Forms.{IsItemIn, item_of, rule_form_of}
+use Rattle.gm_forms.specs.inner.Forms.{IsItemIn, item_of, rule_form_of}
 use Rattle.gm_book.specs.declared.names.NameFault.{NameFault}
 use Rattle.gm_book.specs.declared.table.Values.{Values}
-use Rattle.gm_book.specs.Building.{AreSoundValues}
+use Rattle.gm_book.specs.inner.Building.{AreSoundValues}
 use Rattle.gm_book.proofs.Checked.{at_ok, at_err, nodes_mean, rule_sound, values_fault_there}
 use Rattle.gm_book.proofs.ReadSets.{IsAssigned, means_rule}
 use Rattle.gm_model.proofs.Exits.{unless_ok}
 use Rattle.gm_model.specs.Names.{IsName}
 use Rattle.gm_forms.specs.declared.key.NameKey.{NameKey}
-use Rattle.gm_forms.specs.Held.{names_at}
+use Rattle.gm_forms.specs.inner.Held.{names_at}
 use Rattle.gm_book.proofs.table.numbered_table.Goals as goal
 
 pub returns-in-Ok : goal.returns-in-Ok

@@ -6,7 +6,7 @@ use Rattle.gm_model.specs.declared.value.Kind.TheVariants.{Int}
 use Rattle.gm_model.specs.Tokens.{bytes_of}
 use Rattle.gm_forms.specs.declared.form.ParamForm.{ParamForm}
 use Rattle.gm_forms.specs.BookText.{param_of}
-use Rattle.gm_forms.specs.Forms.{IsParamIn, param_form_of}
+use Rattle.gm_forms.specs.inner.Forms.{IsParamIn, param_form_of}
 use Rattle.gm_book.proofs.Mapped.{pushed_more}
 use Rattle.gm_book.proofs.Onward.{each_on}
 use Rattle.gm_model.proofs.Exits.{unless_ok}

@@ -6,8 +6,8 @@ use Rattle.gm_model.specs.Names.{IsName}
 use Rattle.gm_model.specs.Rules.{node_of}
 use Rattle.gm_forms.specs.declared.key.NameKey.{NameKey}
 use Rattle.gm_forms.specs.BookText.{node_in}
-use Rattle.gm_forms.specs.Forms.{rule_form_of}
-use Rattle.gm_forms.specs.Held.{names_at}
+use Rattle.gm_forms.specs.inner.Forms.{rule_form_of}
+use Rattle.gm_forms.specs.inner.Held.{names_at}
 use Rattle.gm_book.specs.declared.table.Parts.{Parts}
 use Rattle.gm_book.proofs.table.parts_of.Goals as goal
 

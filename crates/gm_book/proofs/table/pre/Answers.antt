@@ -2,12 +2,12 @@ use Rattle.std.proofs.Common.{Option, Some, None, refl, sym, subst}
 use Rattle.std.specs.Option.{option_map}
 use Rattle.gm_model.proofs.Exits.{unless_ok}
 use Rattle.gm_model.specs.Trees.{tree_of}
-use Rattle.gm_tree.specs.FirstNames.{first_names}
+use Rattle.gm_tree.specs.inner.FirstNames.{first_names}
 use Rattle.gm_forms.specs.declared.form.Span.{Span}
 use Rattle.gm_forms.specs.BookText.{IsPre}
-use Rattle.gm_forms.specs.Forms.{IsPreIn, value_of}
-use Rattle.gm_book.specs.Building.{IsSoundPre}
-use Rattle.gm_book.specs.FirstNameFault.{IsPreFault}
+use Rattle.gm_forms.specs.inner.Forms.{IsPreIn, value_of}
+use Rattle.gm_book.specs.inner.Building.{IsSoundPre}
+use Rattle.gm_book.specs.inner.FirstNameFault.{IsPreFault}
 use Rattle.gm_book.proofs.Checked.{least_at, ok_at}
 use Rattle.gm_book.proofs.table.pre.Goals as goal
 

@@ -8,12 +8,12 @@ use Rattle.gm_model.specs.Maps.{IsSchema}
 use Rattle.gm_model.specs.Rules.{node_of}
 use Rattle.gm_model.specs.Trees.{tree_of}
 use Rattle.gm_parse.specs.Meaning.{Names}
-use Rattle.gm_tree.specs.FirstNames.{first_names}
+use Rattle.gm_tree.specs.inner.FirstNames.{first_names}
 use Rattle.gm_forms.specs.BookText.{RuleForm, names_for, param_of, nodes_of, node_in}
-use Rattle.gm_forms.specs.Forms.{rule_form_of}
-use Rattle.gm_forms.specs.Held.{names_at}
-use Rattle.gm_book.specs.Building.{HasKnownSets}
-use Rattle.gm_book.specs.Fitting.{IsFitting}
+use Rattle.gm_forms.specs.inner.Forms.{rule_form_of}
+use Rattle.gm_forms.specs.inner.Held.{names_at}
+use Rattle.gm_book.specs.inner.Building.{HasKnownSets}
+use Rattle.gm_book.specs.inner.Fitting.{IsFitting}
 use Rattle.gm_book.proofs.Checked.{at_ok, at_err, embed_there, values_of, set_fault_in, pre_fault_in}
 use Rattle.gm_book.proofs.ReadSets.{all_known}
 use Rattle.gm_book.proofs.ValueNames.{names_same}

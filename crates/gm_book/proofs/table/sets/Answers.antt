@@ -14,14 +14,14 @@ use Rattle.gm_model.specs.Rules.{assignment_of}
 use Rattle.gm_model.specs.Tokens.{bytes_of}
 use Rattle.gm_model.specs.Trees.{tree_of}
 use Rattle.gm_parse.specs.Meaning.{embed_number}
-use Rattle.gm_tree.specs.FirstNames.{first_names}
+use Rattle.gm_tree.specs.inner.FirstNames.{first_names}
 use Rattle.gm_forms.specs.declared.form.SetForm.{SetForm}
 use Rattle.gm_forms.specs.BookText.{kind_of_embed}
-use Rattle.gm_forms.specs.Forms.{IsSetIn, set_form_of, mention_of}
+use Rattle.gm_forms.specs.inner.Forms.{IsSetIn, set_form_of, mention_of}
 use Rattle.gm_book.specs.declared.names.NameFault.{NameFault}
-use Rattle.gm_book.specs.Building.{IsKnownSet, IsSoundSet}
-use Rattle.gm_book.specs.FirstNameFault.{embed_names, IsLeast, IsValueFault}
-use Rattle.gm_book.specs.Values.{IsValueRead}
+use Rattle.gm_book.specs.inner.Building.{IsKnownSet, IsSoundSet}
+use Rattle.gm_book.specs.inner.FirstNameFault.{embed_names, IsLeast, IsValueFault}
+use Rattle.gm_book.specs.inner.Values.{IsValueRead}
 use Rattle.gm_book.proofs.Onward.{each_on}
 use Rattle.gm_book.proofs.ReadSets.{each_read, embed_known, read_among, zip_more}
 use Rattle.gm_model.proofs.Exits.{unless_ok}

@@ -1,9 +1,9 @@
 use Rattle.std.proofs.Common.{map, take}
 use Rattle.std.specs.List.{AllZip}
 use Rattle.gm_model.specs.Rules.{assignment_of}
-use Rattle.gm_tree.specs.FirstNames.{first_names}
-use Rattle.gm_forms.specs.Forms.{set_form_of}
-use Rattle.gm_book.specs.Building.{IsSoundSet}
+use Rattle.gm_tree.specs.inner.FirstNames.{first_names}
+use Rattle.gm_forms.specs.inner.Forms.{set_form_of}
+use Rattle.gm_book.specs.inner.Building.{IsSoundSet}
 use Rattle.gm_book.proofs.table.sets.Given as goal
 
 abbrev pub invariant-loop-form : goal.invariant-loop-form

@@ -3,13 +3,13 @@ use Rattle.std.specs.Prelude.{IfOk}
 use Rattle.std.specs.Result.{MatchResult}
 use Rattle.std.specs.List.{AllByRecursion, AllZip}
 use Rattle.gm_model.specs.Rules.{assignment_of}
-use Rattle.gm_tree.specs.FirstNames.{first_names}
+use Rattle.gm_tree.specs.inner.FirstNames.{first_names}
 use Rattle.gm_forms.specs.declared.form.Item.{Item}
 use Rattle.gm_forms.specs.declared.form.SetForm.{SetForm}
 use Rattle.gm_forms.specs.BookText.{SetForm as Form, sets_in}
-use Rattle.gm_forms.specs.Forms.{IsSetIn, IsItemIn, set_form_of, item_of}
-use Rattle.gm_book.specs.Building.{IsKnownSet, HasKnownSets, IsSoundSet}
-use Rattle.gm_book.specs.FirstNameFault.{IsSetFault}
+use Rattle.gm_forms.specs.inner.Forms.{IsSetIn, IsItemIn, set_form_of, item_of}
+use Rattle.gm_book.specs.inner.Building.{IsKnownSet, HasKnownSets, IsSoundSet}
+use Rattle.gm_book.specs.inner.FirstNameFault.{IsSetFault}
 use Rattle.gm_book.proofs.Items.{sets_there, no_sets, link_no_sets}
 use Rattle.gm_book.proofs.Onward.{each_on, passed_on, found_on, none_on}
 use Rattle.gm_book.proofs.ReadSets.{each_read}

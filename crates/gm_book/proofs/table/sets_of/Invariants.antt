@@ -1,6 +1,6 @@
 use Rattle.std.proofs.Common.{◌≡◌, map, drop}
 use Rattle.gm_forms.specs.BookText.{sets_in}
-use Rattle.gm_forms.specs.Forms.{item_of}
+use Rattle.gm_forms.specs.inner.Forms.{item_of}
 use Rattle.gm_book.proofs.table.sets_of.Given as goal
 
 abbrev pub invariant-loop-item : goal.invariant-loop-item

@@ -1,9 +1,9 @@
 use Rattle.std.proofs.Common.{◌≡◌, [], map, sym, ap, subst, ◌∙◌}
 use Rattle.std.specs.List.{AllByRecursion}
 use Rattle.gm_model.specs.Names.{IsName}
-use Rattle.gm_forms.specs.Forms.{item_of, rule_form_of}
-use Rattle.gm_book.specs.FirstNameFault.{with_items}
-use Rattle.gm_forms.specs.Held.{names_held}
+use Rattle.gm_forms.specs.inner.Forms.{item_of, rule_form_of}
+use Rattle.gm_book.specs.inner.FirstNameFault.{with_items}
+use Rattle.gm_forms.specs.inner.Held.{names_held}
 use Rattle.gm_book.proofs.RuleNames.{rule_names_counted, good_items}
 use Rattle.gm_model.proofs.Exits.{never_ok}
 use Rattle.gm_book.proofs.table.take_in_rule.Goals as goal

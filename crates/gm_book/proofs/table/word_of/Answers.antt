@@ -1,6 +1,6 @@
 use Rattle.std.proofs.Common.{◌≡◌, ◌+◌, ◌∷◌, Some, map, drop, sym, subst, ◌∙◌}
 use Rattle.gm_forms.specs.BookText.{word_in}
-use Rattle.gm_forms.specs.Forms.{IsItemIn, item_of}
+use Rattle.gm_forms.specs.inner.Forms.{IsItemIn, item_of}
 use Rattle.gm_book.proofs.Items.{word_there, no_word, link_no_word}
 use Rattle.gm_book.proofs.Onward.{each_on, passed_on, found_on, none_on}
 use Rattle.gm_book.proofs.table.word_of.Goals as goal

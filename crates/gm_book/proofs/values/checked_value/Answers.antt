@@ -1,13 +1,13 @@
 use Rattle.std.proofs.Common.{◌≡◌, true, false, Some, refl, sym, ap, subst, ◌∙◌}
 use Rattle.gm_model.specs.Trees.{tree_of}
-use Rattle.gm_text.specs.SchemaAnswers.{marks_left}
-use Rattle.gm_tree.specs.FirstNames.{first_names}
+use Rattle.gm_text.specs.inner.SchemaAnswers.{marks_left}
+use Rattle.gm_tree.specs.inner.FirstNames.{first_names}
 use Rattle.gm_forms.specs.BookText.{first_place}
-use Rattle.gm_forms.specs.Forms.{value_of}
+use Rattle.gm_forms.specs.inner.Forms.{value_of}
 use Rattle.gm_parse.specs.Meaning.{UnknownAt, TwiceAt}
 use Rattle.gm_book.specs.declared.names.NameFault.TheVariants.{Unknown, Twice}
-use Rattle.gm_book.specs.FirstNameFault.{IsLeast, IsValueFault}
-use Rattle.gm_book.specs.Values.{IsReadFault}
+use Rattle.gm_book.specs.inner.FirstNameFault.{IsLeast, IsValueFault}
+use Rattle.gm_book.specs.inner.Values.{IsReadFault}
 use Rattle.gm_book.proofs.ValueFaults.{first_is_least, no_fault_is_least, other_kind_is_least}
 use Rattle.gm_book.proofs.ValueTokens.{are_within, first_token}
 use Rattle.gm_book.proofs.values.checked_value.Goals as goal

@@ -2,14 +2,14 @@ use Rattle.std.proofs.Common.{◌≡◌, ◌+◌, ◌∷◌, List, [], Option, N
 use Rattle.std.proofs.lemmas.List.{drop_all}
 use Rattle.std.specs.List.{AllByRecursion}
 use Rattle.gm_model.specs.declared.rule.Side.TheVariants.{Right}
-use Rattle.gm_tree.specs.FirstNames.{first_names}
+use Rattle.gm_tree.specs.inner.FirstNames.{first_names}
 use Rattle.gm_forms.specs.declared.form.Item.{Item}
 use Rattle.gm_forms.specs.declared.form.SetForm.{SetForm}
 use Rattle.gm_forms.specs.BookText.{IsSet, IsItem}
 use Rattle.gm_forms.specs.BookText as books
-use Rattle.gm_forms.specs.Forms.{IsSetIn, IsItemIn, set_form_of, item_of}
+use Rattle.gm_forms.specs.inner.Forms.{IsSetIn, IsItemIn, set_form_of, item_of}
 use Rattle.gm_book.specs.declared.names.NameFault.{NameFault}
-use Rattle.gm_book.specs.FirstNameFault.{IsLeast, IsSetFault, IsAssignedFault, least_of}
+use Rattle.gm_book.specs.inner.FirstNameFault.{IsLeast, IsSetFault, IsAssignedFault, least_of}
 use Rattle.gm_book.proofs.Items.{node_assigns, link_assigns_nothing}
 use Rattle.gm_book.proofs.LeastOf.{least_regrouped, least_with_none}
 use Rattle.gm_book.proofs.Onward.{left_on, each_on}

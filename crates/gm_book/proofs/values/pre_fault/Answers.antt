@@ -1,9 +1,9 @@
 use Rattle.std.proofs.Common.{Option, IfOk, sym, subst}
 use Rattle.std.specs.Option.{option_map}
-use Rattle.gm_tree.specs.FirstNames.{first_names}
+use Rattle.gm_tree.specs.inner.FirstNames.{first_names}
 use Rattle.gm_forms.specs.declared.form.Span.{Span}
-use Rattle.gm_forms.specs.Forms.{value_of}
-use Rattle.gm_book.specs.FirstNameFault.{IsLeast, IsPreFault}
+use Rattle.gm_forms.specs.inner.Forms.{value_of}
+use Rattle.gm_book.specs.inner.FirstNameFault.{IsLeast, IsPreFault}
 use Rattle.gm_book.proofs.values.pre_fault.Goals as goal
 
 pub returns-in-Some : goal.returns-in-Some

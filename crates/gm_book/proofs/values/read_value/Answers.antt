@@ -2,11 +2,11 @@ use Rattle.std.proofs.Common.{sym, subst}
 use Rattle.std.proofs.lemmas.Result.{IfOk-weaker, IfErr-weaker}
 use Rattle.gm_model.specs.declared.expr.Expr.{Expr}
 use Rattle.gm_model.specs.Trees.{tree_of}
-use Rattle.gm_text.specs.SchemaAnswers.{marks_left}
-use Rattle.gm_parse.specs.Answers.{HasExpr, IsExprRead, IsExprFault}
-use Rattle.gm_tree.specs.FirstNames.{first_names}
-use Rattle.gm_forms.specs.Forms.{value_of}
-use Rattle.gm_book.specs.Values.{IsValueRead, IsReadFault}
+use Rattle.gm_text.specs.inner.SchemaAnswers.{marks_left}
+use Rattle.gm_parse.specs.inner.Answers.{HasExpr, IsExprRead, IsExprFault}
+use Rattle.gm_tree.specs.inner.FirstNames.{first_names}
+use Rattle.gm_forms.specs.inner.Forms.{value_of}
+use Rattle.gm_book.specs.inner.Values.{IsValueRead, IsReadFault}
 use Rattle.gm_book.proofs.ValueTokens.{has_expr, read_is, fault_is}
 use Rattle.gm_book.proofs.values.read_value.Goals as goal
 

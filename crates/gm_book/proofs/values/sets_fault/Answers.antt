@@ -1,12 +1,12 @@
 use Rattle.std.proofs.Common.{◌≡◌, ◌+◌, ◌∷◌, List, [], Option, None, map, drop, sym, ap, subst, ◌∙◌}
 use Rattle.std.proofs.lemmas.List.{drop_all}
 use Rattle.gm_model.specs.declared.value.Kind.{Kind}
-use Rattle.gm_tree.specs.FirstNames.{first_names}
+use Rattle.gm_tree.specs.inner.FirstNames.{first_names}
 use Rattle.gm_forms.specs.declared.form.SetForm.{SetForm}
 use Rattle.gm_forms.specs.BookText.{IsSet, kind_of_embed}
-use Rattle.gm_forms.specs.Forms.{IsSetIn, set_form_of}
+use Rattle.gm_forms.specs.inner.Forms.{IsSetIn, set_form_of}
 use Rattle.gm_book.specs.declared.names.NameFault.{NameFault}
-use Rattle.gm_book.specs.FirstNameFault.{IsLeast, IsSetFault, IsValueFault, least_of}
+use Rattle.gm_book.specs.inner.FirstNameFault.{IsLeast, IsSetFault, IsValueFault, least_of}
 use Rattle.gm_book.proofs.LeastOf.{least_regrouped, least_with_none}
 use Rattle.gm_book.proofs.Onward.{left_on, each_on}
 use Rattle.gm_book.proofs.ReadSets.{each_read}

@@ -1,8 +1,8 @@
 use Rattle.std.proofs.Common.{Option, map, drop}
-use Rattle.gm_tree.specs.FirstNames.{first_names}
-use Rattle.gm_forms.specs.Forms.{set_form_of}
+use Rattle.gm_tree.specs.inner.FirstNames.{first_names}
+use Rattle.gm_forms.specs.inner.Forms.{set_form_of}
 use Rattle.gm_book.specs.declared.names.NameFault.{NameFault}
-use Rattle.gm_book.specs.FirstNameFault.{IsLeast, IsSetFault, least_of}
+use Rattle.gm_book.specs.inner.FirstNameFault.{IsLeast, IsSetFault, least_of}
 use Rattle.gm_book.proofs.values.sets_fault.Given as goal
 
 abbrev pub invariant-loop-set : goal.invariant-loop-set

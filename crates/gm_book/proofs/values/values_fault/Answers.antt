@@ -1,11 +1,11 @@
 use Rattle.std.proofs.Common.{◌≡◌, List, map, sym, ap, subst, ◌∙◌}
 use Rattle.std.specs.List.{AllByRecursion}
 use Rattle.gm_model.specs.Rules.{node_of}
-use Rattle.gm_tree.specs.FirstNames.{first_names}
+use Rattle.gm_tree.specs.inner.FirstNames.{first_names}
 use Rattle.gm_forms.specs.declared.form.Item.{Item}
 use Rattle.gm_forms.specs.BookText.{names_for, param_of}
-use Rattle.gm_forms.specs.Forms.{IsItemIn, item_of, rule_form_of}
-use Rattle.gm_book.specs.FirstNameFault.{IsLeast, IsAssignedFault, IsFaultOfValues}
+use Rattle.gm_forms.specs.inner.Forms.{IsItemIn, item_of, rule_form_of}
+use Rattle.gm_book.specs.inner.FirstNameFault.{IsLeast, IsAssignedFault, IsFaultOfValues}
 use Rattle.gm_book.proofs.ValueFaults.{least_of_values}
 use Rattle.gm_book.proofs.ValueNames.{names_same}
 use Rattle.gm_model.proofs.Exits.{unless_ok}

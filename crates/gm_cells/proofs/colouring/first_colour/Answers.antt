@@ -1,7 +1,7 @@
 use Rattle.std.proofs.Common.{◌+◌, ◌≤◌, refl, sym, ap, subst, ◌∙◌, arith}
 use Rattle.gm_model.proofs.Exits.{unless_ok}
 use Rattle.gm_arena.proofs.MapLemmas.{name_below}
-use Rattle.gm_cells.specs.Ascending.{IsAscendingOf}
+use Rattle.gm_cells.specs.inner.Ascending.{IsAscendingOf}
 use Rattle.gm_cells.proofs.Ascending.{none_below, gap, next_has, next_not}
 use Rattle.gm_cells.proofs.ColouredLemmas.{IsOfFirst, has_first, has_other, first_colour_is}
 use Rattle.gm_cells.proofs.InOrder.{name_up, none_between, below_all}

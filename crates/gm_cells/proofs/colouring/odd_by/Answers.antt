@@ -1,10 +1,10 @@
 use Rattle.std.proofs.Common.{ℕ, ◌*◌, length, sym, ap, subst, ◌∙◌, arith}
 use Rattle.std.proofs.lemmas.List.{length-replicate}
 use Rattle.gm_model.proofs.Exits.{unless_ok}
-use Rattle.gm_arena.specs.ArenaAsMap.{as_map}
-use Rattle.gm_arena.specs.ArenaMap.{name_at}
+use Rattle.gm_arena.specs.inner.ArenaAsMap.{as_map}
+use Rattle.gm_arena.specs.inner.ArenaMap.{name_at}
 use Rattle.gm_cells.specs.Colours.{IsFirstOdd}
-use Rattle.gm_cells.specs.Search.{IsFresh, IsSearched}
+use Rattle.gm_cells.specs.inner.Search.{IsFresh, IsSearched}
 use Rattle.gm_cells.proofs.ColouredLemmas.{fresh_marks, odd_started}
 use Rattle.gm_cells.proofs.LeastLemmas.{first_odd_is}
 use Rattle.gm_cells.proofs.colouring.odd_by.Goals as goal

@@ -1,7 +1,7 @@
 use Rattle.std.proofs.Common.{length, replicate, subst, sym, ap, ◌∙◌}
 use Rattle.std.proofs.lemmas.List.{length-replicate}
 use Rattle.gm_model.proofs.Exits.{unless_ok}
-use Rattle.gm_cells.specs.Painted.{ArePainted}
+use Rattle.gm_cells.specs.inner.Painted.{ArePainted}
 use Rattle.gm_cells.proofs.ColouredLemmas.{written_whole}
 use Rattle.gm_cells.proofs.colouring.orient.Goals as goal
 

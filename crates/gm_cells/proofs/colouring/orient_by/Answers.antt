@@ -1,8 +1,8 @@
 use Rattle.std.proofs.Common.{◌*◌, ◌≤◌, replicate, sym, subst, ap, ◌∙◌}
-use Rattle.gm_arena.specs.ArenaAsMap.{as_map}
+use Rattle.gm_arena.specs.inner.ArenaAsMap.{as_map}
 use Rattle.gm_model.proofs.Exits.{unless_ok}
 use Rattle.gm_cells.specs.Colours.{AreOfFirstColour}
-use Rattle.gm_cells.specs.Painted.{IsBeforeOdd}
+use Rattle.gm_cells.specs.inner.Painted.{IsBeforeOdd}
 use Rattle.gm_cells.proofs.ColouredLemmas.{colours_before}
 use Rattle.gm_cells.proofs.colouring.orient_by.Goals as goal
 

@@ -1,6 +1,6 @@
 use Rattle.std.proofs.Common.{refl, []}
 use Rattle.gm_arena.proofs.MapLemmas.{IsAt-name_at}
-use Rattle.gm_arena.specs.ArenaMap.{name_at}
+use Rattle.gm_arena.specs.inner.ArenaMap.{name_at}
 use Rattle.gm_cells.proofs.PaintedLemmas.{added}
 use Rattle.gm_cells.proofs.components.add_component.Goals as goal
 

@@ -1,9 +1,9 @@
 use Rattle.std.proofs.Common.{ℕ, ◌+◌, ◌≤◌, length, refl, sym, ap, subst, ◌∙◌, None, arith}
 use Rattle.std.proofs.lemmas.List.{length-replicate}
 use Rattle.gm_model.proofs.Exits.{unless_ok}
-use Rattle.gm_arena.specs.ArenaMap.{IsLiveSlot, name_at}
+use Rattle.gm_arena.specs.inner.ArenaMap.{IsLiveSlot, name_at}
 use Rattle.gm_arena.proofs.MapLemmas.{IsAt-name_at, name_at-is, name_below}
-use Rattle.gm_cells.specs.Painted.{ArePainted}
+use Rattle.gm_cells.specs.inner.Painted.{ArePainted}
 use Rattle.gm_cells.proofs.InOrder.{name_up}
 use Rattle.gm_cells.proofs.PaintedLemmas.{none_painted, unpainted_here, skipped, all_painted}
 use Rattle.gm_cells.proofs.components.paint_components.Goals as goal

@@ -1,5 +1,5 @@
 use Rattle.std.proofs.Common.{◌≡◌, ◌-◌, ◌≤◌, length}
-use Rattle.gm_cells.specs.Painted.{ArePainted}
+use Rattle.gm_cells.specs.inner.Painted.{ArePainted}
 use Rattle.gm_cells.proofs.components.paint_components.Given as goal
 
 abbrev pub invariant-loop-slot : goal.invariant-loop-slot

@@ -2,7 +2,7 @@ use Rattle.std.proofs.Common.{length, replicate, subst, sym, ap, ◌∙◌}
 use Rattle.std.proofs.lemmas.List.{length-replicate}
 use Rattle.std.proofs.Math.Nat.{le_refl}
 use Rattle.gm_model.proofs.Exits.{unless_ok}
-use Rattle.gm_cells.specs.Painted.{ArePainted}
+use Rattle.gm_cells.specs.inner.Painted.{ArePainted}
 use Rattle.gm_cells.proofs.ColouredLemmas.{components_are, written_whole}
 use Rattle.gm_cells.proofs.counts.count_and_orient.Goals as goal
 

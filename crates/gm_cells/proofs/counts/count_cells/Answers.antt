@@ -1,7 +1,7 @@
 use Rattle.std.proofs.Common.{◌≡◌, ℕ, ◌∙◌, ◌+◌, ◌*◌, ◌<◌, ◌≤◌, ap, length, subst, arith}
 use Rattle.std.proofs.Math.Nat.{le_refl, le_trans}
 use Rattle.std.proofs.lemmas.List.{length_push}
-use Rattle.gm_arena.specs.ArenaAsMap.{as_map}
+use Rattle.gm_arena.specs.inner.ArenaAsMap.{as_map}
 use Rattle.gm_cells.specs.Cells.{HasCellsOf}
 use Rattle.gm_cells.proofs.LabelLemmas.{by_label_more, by_label_all, cells_counted, mask_within, one_turn_more}
 use Rattle.gm_model.proofs.Exits.{unless_ok}

@@ -1,6 +1,6 @@
 use Rattle.std.proofs.Common.{subst, sym}
 use Rattle.gm_arena.proofs.Keys.{darts_counted}
-use Rattle.gm_arena.specs.ArenaAsMap.{as_map}
+use Rattle.gm_arena.specs.inner.ArenaAsMap.{as_map}
 use Rattle.gm_cells.specs.Cells.{HasCells, HasFreeDarts}
 use Rattle.gm_model.specs.Maps.{IsDart}
 use Rattle.gm_model.specs.Orbits.{HasCount}

@@ -1,7 +1,7 @@
 use Rattle.std.proofs.Common.{◌≡◌, ◌≢◌, ℕ, ◌+◌, ◌<◌, length, get_or, set, sym, ap, subst, ◌∙◌, inl, inr, arith}
 use Rattle.std.proofs.lemmas.Bool.{cases_lt}
 use Rattle.std.proofs.lemmas.List.{get_or-set_same, get_or-set_other, length-set}
-use Rattle.gm_cells.specs.Painted.{queued_at}
+use Rattle.gm_cells.specs.inner.Painted.{queued_at}
 use Rattle.gm_cells.proofs.free.add_dart.Goals as goal
 use Rattle.gm_cells.proofs.free.add_dart.Goals.{then-to-slot, else-to-slot}
 

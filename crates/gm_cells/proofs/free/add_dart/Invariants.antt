@@ -1,5 +1,5 @@
 use Rattle.std.proofs.Common.{◌≡◌, ◌≢◌, ℕ, ◌+◌, ◌<◌, ◌≤◌, length, get_or}
-use Rattle.gm_cells.specs.Painted.{queued_at}
+use Rattle.gm_cells.specs.inner.Painted.{queued_at}
 use Rattle.gm_cells.proofs.free.add_dart.Given as goal
 
 abbrev pub invariant-loop-label : goal.invariant-loop-label

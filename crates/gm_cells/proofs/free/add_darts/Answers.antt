@@ -2,10 +2,10 @@ use Rattle.std.proofs.Common.{◌≡◌, ℕ, ◌+◌, ◌<◌, Some, length, ge
 use Rattle.std.specs.FinMap.{get}
 use Rattle.std.proofs.lemmas.Bool.{cases_lt, cases_eq}
 use Rattle.std.proofs.lemmas.List.{get_or_past, length-replicate}
-use Rattle.gm_arena.specs.ArenaMap.{IsLiveSlot, name_at}
+use Rattle.gm_arena.specs.inner.ArenaMap.{IsLiveSlot, name_at}
 use Rattle.gm_arena.specs.declared.slot.Slot.{Slot}
 use Rattle.gm_arena.proofs.MapLemmas.{name_at-is, name_below}
-use Rattle.gm_cells.specs.Painted.{no_place, queued_at}
+use Rattle.gm_cells.specs.inner.Painted.{no_place, queued_at}
 use Rattle.gm_cells.proofs.FreeLemmas.{AreFree, all_free, free_next, none_free}
 use Rattle.gm_cells.proofs.InOrder.{name_up}
 use Rattle.gm_cells.proofs.PaintLemmas.{row_long, row_there}

@@ -1,6 +1,6 @@
 use Rattle.std.proofs.Common.{◌≡◌, length, subst, sym, ap, arith}
 use Rattle.gm_model.specs.declared.schema.Schema.{Schema}
-use Rattle.gm_arena.specs.ArenaAsMap.{as_map}
+use Rattle.gm_arena.specs.inner.ArenaAsMap.{as_map}
 use Rattle.gm_model.proofs.Exits.{unless_ok}
 use Rattle.gm_cells.specs.Cells.{HasFreeDarts}
 use Rattle.gm_cells.proofs.ColouredLemmas.{written_whole}

@@ -1,7 +1,7 @@
 use Rattle.std.proofs.Common.{◌+◌, ◌*◌, ◌-◌, ℕ, get_or, sym, subst}
 use Rattle.std.proofs.lemmas.Bool.{some_since}
 use Rattle.std.proofs.lemmas.Option.{MatchOption-at_some}
-use Rattle.gm_cells.specs.OddStart.{IsNearer, IsFirstNearer}
+use Rattle.gm_cells.specs.inner.OddStart.{IsNearer, IsFirstNearer}
 use Rattle.gm_cells.proofs.LeastLemmas.{IsOnWay, begins, some_nearer, one_nearer, ends}
 use Rattle.gm_cells.proofs.odd_walk.least_odd_walk.Goals as goal
 

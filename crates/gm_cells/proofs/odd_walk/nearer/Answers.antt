@@ -1,9 +1,9 @@
 use Rattle.std.proofs.Common.{rules, ◌≡◌, ◌≢◌, ℕ, ◌+◌, ◌-◌, ◌*◌, ◌%◌, ◌<◌, ◌≤◌, Fits, w8, List, subst, ◌∙◌, ap, arith}
 use Rattle.gm_arena.proofs.MapLemmas.{IsAt-name_at}
-use Rattle.gm_arena.specs.ArenaMap.{ArenaMap, IsAt, IsLiveSlot, alpha, name_at}
-use Rattle.gm_arena.specs.Lawful.{IsLawful}
-use Rattle.gm_cells.specs.OddStart.{IsNearer}
-use Rattle.gm_cells.specs.Search.{mark_of}
+use Rattle.gm_arena.specs.inner.ArenaMap.{ArenaMap, IsAt, IsLiveSlot, alpha, name_at}
+use Rattle.gm_arena.specs.inner.Lawful.{IsLawful}
+use Rattle.gm_cells.specs.inner.OddStart.{IsNearer}
+use Rattle.gm_cells.specs.inner.Search.{mark_of}
 use Rattle.gm_cells.proofs.odd_walk.nearer.Goals as goal
 
 never_past : (at bound found : ℕ) → at < bound → found ≡ bound → found ≤ at → ⊥

@@ -1,5 +1,5 @@
 use Rattle.std.proofs.Common.{ℕ, ◌<◌}
-use Rattle.gm_cells.specs.OddStart.{IsNearer}
+use Rattle.gm_cells.specs.inner.OddStart.{IsNearer}
 use Rattle.gm_cells.proofs.odd_walk.nearer.Given as goal
 
 abbrev pub invariant-loop-label : goal.invariant-loop-label

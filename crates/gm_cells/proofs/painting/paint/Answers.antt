@@ -2,8 +2,8 @@ use Rattle.std.proofs.Common.{◌≡◌, ℕ, ◌+◌, ◌-◌, ◌%◌, ◌<◌
 use Rattle.std.proofs.lemmas.List.{length-set}
 use Rattle.gm_model.proofs.Exits.{unless_ok}
 use Rattle.gm_arena.proofs.MapLemmas.{IsAt-name_at}
-use Rattle.gm_arena.specs.ArenaMap.{name_at}
-use Rattle.gm_cells.specs.Painted.{IsPainting}
+use Rattle.gm_arena.specs.inner.ArenaMap.{name_at}
+use Rattle.gm_cells.specs.inner.Painted.{IsPainting}
 use Rattle.gm_cells.proofs.PaintLemmas.{begun, all_painted}
 use Rattle.gm_cells.proofs.painting.paint.Goals as goal
 

@@ -1,6 +1,6 @@
 use Rattle.std.proofs.Common.{◌≡◌, ◌-◌, length}
-use Rattle.gm_arena.specs.ArenaMap.{name_at}
-use Rattle.gm_cells.specs.Painted.{IsPainting, unpainted}
+use Rattle.gm_arena.specs.inner.ArenaMap.{name_at}
+use Rattle.gm_cells.specs.inner.Painted.{IsPainting, unpainted}
 use Rattle.gm_cells.proofs.painting.paint.Given as goal
 
 abbrev pub invariant-loop-at : goal.invariant-loop-at

@@ -1,11 +1,11 @@
 use Rattle.std.proofs.Common.{◌≡◌, ◌≢◌, ◌-◌, ◌<◌, ◌≤◌, ◌∷◌, [], Some, length, get_or, map, refl, sym, ap, subst, ◌∙◌, arith}
 use Rattle.std.specs.FinMap.{get}
 use Rattle.std.proofs.lemmas.List.{get_or_read, get_or_append_left, get_or-set_other, length-set, length_push}
-use Rattle.gm_arena.specs.ArenaMap.{IsAt, IsLiveSlot, alpha, name_at}
+use Rattle.gm_arena.specs.inner.ArenaMap.{IsAt, IsLiveSlot, alpha, name_at}
 use Rattle.gm_arena.specs.declared.slot.Slot.{Slot}
 use Rattle.gm_model.proofs.Exits.{unless_ok}
 use Rattle.gm_arena.proofs.MapLemmas.{IsAt-name_at, name_at-is}
-use Rattle.gm_cells.specs.Painted.{colour_in, no_place, queued_at}
+use Rattle.gm_cells.specs.inner.Painted.{colour_in, no_place, queued_at}
 use Rattle.gm_cells.proofs.PaintLemmas.{slot_room, row_long, row_there, neighbour_new, neighbour_clash, neighbour_fits, dart_done}
 use Rattle.gm_cells.proofs.painting.paint_neighbours.Goals as goal
 use Rattle.gm_cells.proofs.painting.paint_neighbours.Goals.{then-there-eq-NONE+in_ok-push, else-there-eq-NONE+then-there-own+then-to-slot, else-there-eq-NONE+else-there-own, else-there-own-via-then-there-own+else-to-slot, else-there-own-via-else-there-own}

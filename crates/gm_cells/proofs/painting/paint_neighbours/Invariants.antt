@@ -1,5 +1,5 @@
 use Rattle.std.proofs.Common.{◌≡◌, ℕ, ◌<◌, List, length, get_or}
-use Rattle.gm_cells.specs.Painted.{IsPainting, colour_in, no_place}
+use Rattle.gm_cells.specs.inner.Painted.{IsPainting, colour_in, no_place}
 use Rattle.gm_cells.proofs.painting.paint_neighbours.Given as goal
 
 abbrev pub invariant-loop-to : goal.invariant-loop-to

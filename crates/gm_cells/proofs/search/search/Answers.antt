@@ -1,7 +1,7 @@
 use Rattle.std.proofs.Common.{◌∙◌, ◌<◌, length, refl, subst, arith}
 use Rattle.gm_arena.proofs.MapLemmas.{IsAt-name_at}
-use Rattle.gm_arena.specs.ArenaMap.{name_at}
-use Rattle.gm_cells.specs.Search.{Reaches}
+use Rattle.gm_arena.specs.inner.ArenaMap.{name_at}
+use Rattle.gm_cells.specs.inner.Search.{Reaches}
 use Rattle.gm_cells.proofs.SearchLemmas.{begun, searched, short_queue}
 use Rattle.gm_model.proofs.Exits.{never_ok}
 use Rattle.gm_cells.proofs.search.search.Goals as goal

@@ -1,6 +1,6 @@
 use Rattle.std.proofs.Common.{◌≡◌, ◌-◌, length}
-use Rattle.gm_arena.specs.ArenaMap.{name_at}
-use Rattle.gm_cells.specs.Search.{IsSearching, unmarked}
+use Rattle.gm_arena.specs.inner.ArenaMap.{name_at}
+use Rattle.gm_cells.specs.inner.Search.{IsSearching, unmarked}
 use Rattle.gm_cells.proofs.search.search.Given as goal
 
 abbrev pub invariant-loop-at : goal.invariant-loop-at

@@ -1,8 +1,8 @@
 use Rattle.std.proofs.Common.{◌≡◌, ◌≢◌, ◌+◌, ◌*◌, ◌<◌, ◌≤◌, length, refl, sym, ap, subst, ◌∙◌, arith}
 use Rattle.std.proofs.lemmas.List.{get_or_read}
-use Rattle.gm_arena.specs.ArenaMap.{IsAt, IsLiveSlot, alpha, name_at}
+use Rattle.gm_arena.specs.inner.ArenaMap.{IsAt, IsLiveSlot, alpha, name_at}
 use Rattle.gm_cells.specs.declared.search.Visit.{Visit}
-use Rattle.gm_cells.specs.Search.{Reaches, nowhere, dart_in}
+use Rattle.gm_cells.specs.inner.Search.{Reaches, nowhere, dart_in}
 use Rattle.gm_cells.proofs.SearchLemmas.{stays_there, reached_there, next_visit, longer_after, same_after}
 use Rattle.gm_model.proofs.Exits.{never_ok}
 use Rattle.gm_cells.proofs.search.visit_neighbours.Goals as goal

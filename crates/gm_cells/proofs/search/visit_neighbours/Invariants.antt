@@ -1,5 +1,5 @@
 use Rattle.std.proofs.Common.{◌≡◌, ℕ, ◌<◌, List, length, get_or}
-use Rattle.gm_cells.specs.Search.{IsSearching, nowhere}
+use Rattle.gm_cells.specs.inner.Search.{IsSearching, nowhere}
 use Rattle.gm_cells.proofs.search.visit_neighbours.Given as goal
 
 abbrev pub invariant-loop-label : goal.invariant-loop-label

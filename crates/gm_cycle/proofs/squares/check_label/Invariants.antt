@@ -1,5 +1,5 @@
 use Rattle.gm_model.specs.Rules.{rule_of}
-use Rattle.gm_cycle.specs.NodeSquares.{HasLabelSquares}
+use Rattle.gm_cycle.specs.inner.NodeSquares.{HasLabelSquares}
 use Rattle.gm_cycle.proofs.squares.check_label.Given as goal
 
 abbrev pub invariant-loop-j : goal.invariant-loop-j

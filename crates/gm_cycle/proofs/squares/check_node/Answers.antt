@@ -1,6 +1,6 @@
 use Rattle.std.proofs.Common.{ℕ, ◌+◌, ◌<◌, ◌≤◌, below_more, arith}
 use Rattle.gm_model.specs.Rules.{rule_of}
-use Rattle.gm_cycle.specs.NodeSquares.{HasLabelSquares}
+use Rattle.gm_cycle.specs.inner.NodeSquares.{HasLabelSquares}
 use Rattle.gm_cycle.proofs.squares.check_node.Goals as goal
 
 upto_top : (label top : ℕ) → label < top + 1 → label ≤ top

@@ -4,7 +4,7 @@ use Rattle.gm_model.specs.declared.step.Step.{Step}
 use Rattle.gm_model.specs.declared.step.Step.TheVariants.{Absent, Exp, Imp}
 use Rattle.gm_model.specs.Rules.{rule_of, hook_label}
 use Rattle.gm_model.specs.Squares.{ClosesBy, Closes, IsApart}
-use Rattle.gm_cycle.specs.StepRows.{step_of}
+use Rattle.gm_cycle.specs.inner.StepRows.{step_of}
 use Rattle.gm_cycle.proofs.SameSteps.{same_step}
 use Rattle.gm_cycle.proofs.steps.closes.Goals as goal
 use Rattle.gm_cycle.proofs.steps.closes.Goals.{in-Exp, in_default-matches}

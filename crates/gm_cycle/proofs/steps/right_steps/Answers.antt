@@ -6,7 +6,7 @@ use Rattle.gm_model.specs.declared.rule.Side.TheVariants.{Right}
 use Rattle.gm_model.specs.declared.step.Step.{Step}
 use Rattle.gm_model.specs.declared.step.Step.TheVariants.{Absent}
 use Rattle.gm_model.specs.Rules.{Rule, rule_of, step}
-use Rattle.gm_cycle.specs.StepRows.{step_of, HasRows}
+use Rattle.gm_cycle.specs.inner.StepRows.{step_of, HasRows}
 use Rattle.gm_cycle.proofs.steps.right_steps.Goals as goal
 
 -- one more row

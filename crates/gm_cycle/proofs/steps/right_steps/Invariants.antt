@@ -1,6 +1,6 @@
 use Rattle.std.proofs.Common.{◌≡◌, length}
 use Rattle.gm_model.specs.Rules.{rule_of}
-use Rattle.gm_cycle.specs.StepRows.{HasRows}
+use Rattle.gm_cycle.specs.inner.StepRows.{HasRows}
 use Rattle.gm_cycle.proofs.steps.right_steps.Given as goal
 
 abbrev pub invariant-loop-node : goal.invariant-loop-node

@@ -1,12 +1,12 @@
 use Rattle.std.proofs.Common.{◌≡◌, ℕ, map, length, get_or, Some, None, is_some, sym, ap, subst, ◌∙◌, arith}
 use Rattle.std.specs.FinMap.{get}
 use Rattle.gm_arena.specs.declared.slot.Slot.{Slot}
-use Rattle.gm_arena.specs.ArenaMap.{ArenaMap, Dart, IsAt, name_at}
-use Rattle.gm_arena.specs.Edits.{with_dart}
-use Rattle.gm_arena.specs.Lawful.{AreGoodValues}
+use Rattle.gm_arena.specs.inner.ArenaMap.{ArenaMap, Dart, IsAt, name_at}
+use Rattle.gm_arena.specs.inner.Edits.{with_dart}
+use Rattle.gm_arena.specs.inner.Lawful.{AreGoodValues}
 use Rattle.gm_arena.proofs.MapLemmas.{name_at-is, name_below}
 use Rattle.gm_walk.proofs.CountLemmas.{has_slot, is_live, name_of_slot}
-use Rattle.gm_dual.specs.Building.{AreAdded}
+use Rattle.gm_dual.specs.inner.Building.{AreAdded}
 use Rattle.gm_dual.proofs.BuildLemmas.{added_more, apart, good_dual}
 use Rattle.gm_dual.proofs.map.add_darts.Goals as goal
 

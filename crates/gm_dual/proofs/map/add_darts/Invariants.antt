@@ -1,5 +1,5 @@
 use Rattle.std.proofs.Common.{◌≡◌, ◌+◌, ◌*◌}
-use Rattle.gm_dual.specs.Building.{AreAdded}
+use Rattle.gm_dual.specs.inner.Building.{AreAdded}
 use Rattle.gm_dual.proofs.map.add_darts.Given as goal
 
 abbrev pub invariant-loop-name : goal.invariant-loop-name

@@ -3,12 +3,12 @@ use Rattle.std.specs.FinMap.{get}
 use Rattle.gm_model.specs.Limits.{most_names}
 use Rattle.gm_model.specs.Maps.{IsSchema, IsSound}
 use Rattle.gm_model.proofs.Exits.{unless_ok}
-use Rattle.gm_arena.specs.ArenaAsMap.{as_map}
-use Rattle.gm_arena.specs.ArenaMap.{ArenaMap}
+use Rattle.gm_arena.specs.inner.ArenaAsMap.{as_map}
+use Rattle.gm_arena.specs.inner.ArenaMap.{ArenaMap}
 use Rattle.gm_arena.proofs.MapLemmas.{name_below}
 use Rattle.gm_walk.proofs.CountLemmas.{names_counted}
 use Rattle.gm_dual.specs.Duals.{dual_schema}
-use Rattle.gm_dual.specs.Building.{AreLinked}
+use Rattle.gm_dual.specs.inner.Building.{AreLinked}
 use Rattle.gm_dual.proofs.BuildLemmas.{all_linked, as_dual, none_added, none_linked}
 use Rattle.gm_dual.proofs.RuleLemmas.{is_some_map}
 use Rattle.gm_dual.proofs.StepLemmas.{names_within, dual_within}

@@ -5,11 +5,11 @@ use Rattle.std.proofs.lemmas.Bool.{cases_eq, false≢true, some_since}
 use Rattle.std.proofs.lemmas.List.{get_or-map, length-map}
 use Rattle.gm_model.specs.declared.schema.Schema.{Schema}
 use Rattle.gm_arena.specs.declared.slot.Slot.{Slot}
-use Rattle.gm_arena.specs.ArenaMap.{ArenaMap, Dart, IsAt, IsLiveName, name_at}
-use Rattle.gm_arena.specs.Edits.{free_dart, turned, with_alpha}
+use Rattle.gm_arena.specs.inner.ArenaMap.{ArenaMap, Dart, IsAt, IsLiveName, name_at}
+use Rattle.gm_arena.specs.inner.Edits.{free_dart, turned, with_alpha}
 use Rattle.gm_arena.proofs.MapLemmas.{get-with_alpha_same, name_at-is}
 use Rattle.gm_walk.proofs.CountLemmas.{name_of_slot}
-use Rattle.gm_dual.specs.Building.{IsAllBut, IsLinkedTo}
+use Rattle.gm_dual.specs.inner.Building.{IsAllBut, IsLinkedTo}
 use Rattle.gm_dual.proofs.BuildLemmas.{all_but_more, all_neighbours, linked_more, unlinked}
 use Rattle.gm_dual.proofs.map.link_dart.Goals as goal
 

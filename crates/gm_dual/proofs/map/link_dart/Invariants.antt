@@ -1,7 +1,7 @@
 use Rattle.std.proofs.Common.{◌≡◌, ◌+◌, ◌*◌, Some}
 use Rattle.std.specs.FinMap.{get}
-use Rattle.gm_arena.specs.ArenaMap.{Dart, name_at}
-use Rattle.gm_dual.specs.Building.{IsAllBut, IsLinkedTo}
+use Rattle.gm_arena.specs.inner.ArenaMap.{Dart, name_at}
+use Rattle.gm_dual.specs.inner.Building.{IsAllBut, IsLinkedTo}
 use Rattle.gm_dual.proofs.map.link_dart.Given as goal
 
 abbrev pub invariant-loop-label : goal.invariant-loop-label

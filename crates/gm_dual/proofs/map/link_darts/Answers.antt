@@ -2,10 +2,10 @@ use Rattle.std.proofs.Common.{◌≡◌, ℕ, ◌+◌, ◌*◌, length, get_or, 
 use Rattle.std.specs.FinMap.{get}
 use Rattle.std.proofs.lemmas.Bool.{false≢true, some_since}
 use Rattle.gm_arena.specs.declared.slot.Slot.{Slot}
-use Rattle.gm_arena.specs.ArenaMap.{IsAt}
+use Rattle.gm_arena.specs.inner.ArenaMap.{IsAt}
 use Rattle.gm_arena.proofs.MapLemmas.{name_at-is}
 use Rattle.gm_walk.proofs.CountLemmas.{has_slot, is_live, name_of_slot}
-use Rattle.gm_dual.specs.Building.{AreLinked, IsAllBut, dual_of, free_of}
+use Rattle.gm_dual.specs.inner.Building.{AreLinked, IsAllBut, dual_of, free_of}
 use Rattle.gm_dual.proofs.BuildLemmas.{linked_next, live_linked}
 use Rattle.gm_dual.proofs.map.link_darts.Goals as goal
 

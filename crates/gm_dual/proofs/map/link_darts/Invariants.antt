@@ -1,5 +1,5 @@
 use Rattle.std.proofs.Common.{◌≡◌, ◌+◌, ◌*◌}
-use Rattle.gm_dual.specs.Building.{AreLinked}
+use Rattle.gm_dual.specs.inner.Building.{AreLinked}
 use Rattle.gm_dual.proofs.map.link_darts.Given as goal
 
 abbrev pub invariant-loop-name : goal.invariant-loop-name

@@ -5,12 +5,12 @@ use Rattle.gm_model.specs.Labels.{has}
 use Rattle.gm_model.specs.declared.word.Letter.{Letter}
 use Rattle.gm_model.specs.declared.word.Mask.{Mask}
 use Rattle.gm_model.specs.Maps.{IsGeneralised}
-use Rattle.gm_arena.specs.ArenaAsMap.{as_map}
-use Rattle.gm_arena.specs.ArenaMap.{ArenaMap, IsAt, name_at}
-use Rattle.gm_arena.specs.Lawful.{IsLawful}
+use Rattle.gm_arena.specs.inner.ArenaAsMap.{as_map}
+use Rattle.gm_arena.specs.inner.ArenaMap.{ArenaMap, IsAt, name_at}
+use Rattle.gm_arena.specs.inner.Lawful.{IsLawful}
 use Rattle.gm_arena.proofs.MapLemmas.{name_at-is}
-use Rattle.gm_walk.specs.Seen.{HasGrownBy, HasLettersOf, HasSeen, IsClosed, seen_count}
-use Rattle.gm_walk.specs.Walks.{letters_of}
+use Rattle.gm_walk.specs.inner.Seen.{HasGrownBy, HasLettersOf, HasSeen, IsClosed, seen_count}
+use Rattle.gm_walk.specs.inner.Walks.{letters_of}
 use Rattle.gm_walk.proofs.CountLemmas.{has_slot, name_of_slot, names_counted}
 use Rattle.gm_walk.proofs.MetLemmas.{few_seen, steps_more}
 use Rattle.gm_walk.proofs.SlotLemmas.{nothing_there, unseen_lacks}

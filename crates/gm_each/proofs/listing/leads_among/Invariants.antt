@@ -1,6 +1,6 @@
 use Rattle.std.proofs.Common.{◌≡◌, ◌+◌, ◌*◌, ◌≤◌, ℕ, List, length}
 use Rattle.gm_model.specs.Labels.{has}
-use Rattle.gm_walk.specs.Seen.{HasSeen, seen_count}
+use Rattle.gm_walk.specs.inner.Seen.{HasSeen, seen_count}
 use Rattle.gm_each.proofs.LeastLemmas.{HasListed}
 use Rattle.gm_each.proofs.listing.leads_among.Given as goal
 

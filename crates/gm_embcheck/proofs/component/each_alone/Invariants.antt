@@ -1,5 +1,5 @@
 use Rattle.std.proofs.Common.{◌≡◌, ℕ, ◌<◌, length}
-use Rattle.gm_embcheck.specs.Leaders.{leader_in}
+use Rattle.gm_embcheck.specs.inner.Leaders.{leader_in}
 use Rattle.gm_embcheck.proofs.component.each_alone.Given as goal
 
 abbrev pub invariant-loop-node : goal.invariant-loop-node

@@ -5,7 +5,7 @@ use Rattle.std.proofs.lemmas.List.Elements.{All-more, Contains-get_or}
 use Rattle.gm_model.specs.declared.rule.Link.{Link}
 use Rattle.gm_model.specs.Labels.{has}
 use Rattle.gm_model.specs.Rules.{IsLinked}
-use Rattle.gm_embcheck.specs.Leaders.{leader_in, HasJoined}
+use Rattle.gm_embcheck.specs.inner.Leaders.{leader_in, HasJoined}
 use Rattle.gm_embcheck.proofs.Leaders.{IsClosed, closed_more, joined_more, are_leaders}
 use Rattle.gm_embcheck.proofs.component.leaders_of.Goals as goal
 use Rattle.gm_embcheck.proofs.component.leaders_of.Goals.{then-has, else-has}

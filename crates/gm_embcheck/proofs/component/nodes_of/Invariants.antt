@@ -1,6 +1,6 @@
 use Rattle.std.proofs.Common.{◌≡◌, ℕ, ◌<◌, eqb, length}
-use Rattle.gm_embcheck.specs.Leaders.{leader_in}
-use Rattle.gm_embcheck.specs.NodeSets.{is_in}
+use Rattle.gm_embcheck.specs.inner.Leaders.{leader_in}
+use Rattle.gm_embcheck.specs.inner.NodeSets.{is_in}
 use Rattle.gm_embcheck.proofs.component.nodes_of.Given as goal
 
 abbrev pub invariant-loop-other : goal.invariant-loop-other

@@ -1,6 +1,6 @@
 use Rattle.std.proofs.Common.{◌≡◌, length}
 use Rattle.gm_model.specs.Rules.{rule_of}
-use Rattle.gm_embcheck.specs.Keepers.{AreFirstPreserved}
+use Rattle.gm_embcheck.specs.inner.Keepers.{AreFirstPreserved}
 use Rattle.gm_embcheck.proofs.keepers.first_preserved.Given as goal
 
 abbrev pub invariant-loop-node : goal.invariant-loop-node

@@ -3,8 +3,8 @@ use Rattle.gm_model.specs.declared.rule.Side.TheVariants.{Right}
 use Rattle.gm_model.specs.Components.{IsKeeper, IsNew}
 use Rattle.gm_model.specs.Rules.{rule_of}
 use Rattle.gm_model.proofs.Nodes.{node_below}
-use Rattle.gm_embcheck.specs.Keepers.{keeper_in}
-use Rattle.gm_embcheck.specs.Leaders.{leader_in}
+use Rattle.gm_embcheck.specs.inner.Keepers.{keeper_in}
+use Rattle.gm_embcheck.specs.inner.Leaders.{leader_in}
 use Rattle.gm_embcheck.proofs.Kept.{leader_below, keeper_here}
 use Rattle.gm_embcheck.proofs.keepers.keepers_of.Goals as goal
 

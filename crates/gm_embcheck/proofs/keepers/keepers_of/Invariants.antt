@@ -1,6 +1,6 @@
 use Rattle.std.proofs.Common.{◌≡◌, ℕ, ◌<◌, length}
-use Rattle.gm_embcheck.specs.Keepers.{keeper_in}
-use Rattle.gm_embcheck.specs.Leaders.{leader_in}
+use Rattle.gm_embcheck.specs.inner.Keepers.{keeper_in}
+use Rattle.gm_embcheck.specs.inner.Leaders.{leader_in}
 use Rattle.gm_embcheck.proofs.keepers.keepers_of.Given as goal
 
 abbrev pub invariant-loop-node : goal.invariant-loop-node

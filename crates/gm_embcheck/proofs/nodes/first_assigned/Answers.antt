@@ -2,7 +2,7 @@ use Rattle.std.proofs.Common.{◌≡◌, ℕ, ◌+◌, ◌<◌, ◌≤◌, sym, 
 use Rattle.std.proofs.lemmas.Bool.{cases_lt, false≢true}
 use Rattle.std.proofs.lemmas.Option.{slice_get_within}
 use Rattle.gm_model.specs.Rules.{rule_of}
-use Rattle.gm_embcheck.specs.NodeSets.{IsAssignedIn}
+use Rattle.gm_embcheck.specs.inner.NodeSets.{IsAssignedIn}
 use Rattle.gm_embcheck.proofs.nodes.first_assigned.Goals as goal
 use Rattle.gm_embcheck.proofs.nodes.first_assigned.Goals.{else-component-node-via-then-component-node+else-assigns, else-component-node-via-else-component-node}
 

@@ -1,6 +1,6 @@
 use Rattle.std.proofs.Common.{ℕ, ◌<◌}
 use Rattle.gm_model.specs.Rules.{rule_of}
-use Rattle.gm_embcheck.specs.NodeSets.{IsPreservedOutside}
+use Rattle.gm_embcheck.specs.inner.NodeSets.{IsPreservedOutside}
 use Rattle.gm_embcheck.proofs.nodes.first_outside.Given as goal
 
 abbrev pub invariant-loop-node : goal.invariant-loop-node

@@ -1,7 +1,7 @@
 use Rattle.std.proofs.Common.{below_more}
 use Rattle.gm_model.specs.Labels.{has}
 use Rattle.gm_model.specs.Rules.{rule_of}
-use Rattle.gm_embcheck.specs.NodeSets.{IsCovered}
+use Rattle.gm_embcheck.specs.inner.NodeSets.{IsCovered}
 use Rattle.gm_embcheck.proofs.places.first_uncovered.Goals as goal
 
 pub loop-place-preserved : goal.loop-place-preserved

@@ -2,7 +2,7 @@ use Rattle.std.proofs.Common.{ℕ, ◌<◌}
 use Rattle.gm_model.specs.Components.{HasLetterIn}
 use Rattle.gm_model.specs.Labels.{has}
 use Rattle.gm_model.specs.Rules.{rule_of}
-use Rattle.gm_embcheck.specs.NodeSets.{IsIn}
+use Rattle.gm_embcheck.specs.inner.NodeSets.{IsIn}
 use Rattle.gm_embcheck.proofs.places.has_letter_among.Given as goal
 
 abbrev pub invariant-loop-node : goal.invariant-loop-node

@@ -3,7 +3,7 @@ use Rattle.gm_model.specs.declared.rule.Side.TheVariants.{Left}
 use Rattle.gm_model.specs.Labels.{has}
 use Rattle.gm_model.specs.Rules.{rule_of}
 use Rattle.gm_model.specs.Structure.{IsJoined}
-use Rattle.gm_embcheck.specs.NodeSets.{IsIn}
+use Rattle.gm_embcheck.specs.inner.NodeSets.{IsIn}
 use Rattle.gm_embcheck.proofs.Found.{merged, from_one, merged_along, all_inherited}
 use Rattle.gm_embcheck.proofs.Leaders.{nodes_joined}
 use Rattle.gm_embcheck.proofs.sources.check_inherited.Goals as goal

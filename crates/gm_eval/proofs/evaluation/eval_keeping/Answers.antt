@@ -1,9 +1,9 @@
 use Rattle.std.proofs.Common.{◌⊎◌, subst}
 use Rattle.std.specs.List.{Contains}
 use Rattle.gm_model.specs.Trees.{tree_of}
-use Rattle.gm_eval.specs.Places.{reading_in}
-use Rattle.gm_eval.specs.Keeping.{KeptOf}
-use Rattle.gm_eval.specs.Sharing.{IsAtHand, collectors_of}
+use Rattle.gm_eval.specs.inner.Places.{reading_in}
+use Rattle.gm_eval.specs.inner.Keeping.{KeptOf}
+use Rattle.gm_eval.specs.inner.Sharing.{IsAtHand, collectors_of}
 use Rattle.gm_eval.proofs.Sharing.{model_units}
 use Rattle.gm_eval.proofs.evaluation.eval_keeping.Goals as goal
 

@@ -2,7 +2,7 @@ use Rattle.std.proofs.Common.{◌≡◌, ap₂, subst, ◌∙◌}
 use Rattle.std.specs.Int.{int_div_euclid, w128}
 use Rattle.std.proofs.lemmas.Int.{to_z-of_z}
 use Rattle.gm_model.specs.Expressions.{floor}
-use Rattle.gm_eval.specs.Made.{IsExact}
+use Rattle.gm_eval.specs.inner.Made.{IsExact}
 use Rattle.gm_eval.proofs.Casts.{opposite_is}
 use Rattle.gm_eval.proofs.Floors.{floor_below}
 use Rattle.gm_eval.proofs.numbers.quotient_by_negative.Goals as goal

@@ -1,7 +1,7 @@
 use Rattle.std.proofs.Common.{◌<◌, FitsSigned, List, w64, rules, ap, ◌∙◌, arith}
 use Rattle.std.proofs.lemmas.List.{take_all}
 use Rattle.gm_arena.specs.declared.slot.Slot.{Slot}
-use Rattle.gm_eval.specs.Sums.{part, part_at, parts_at, sum_of}
+use Rattle.gm_eval.specs.inner.Sums.{part, part_at, parts_at, sum_of}
 use Rattle.gm_eval.proofs.Sums.{more_fits, small_more, sum_step}
 use Rattle.gm_eval.proofs.totals.add_up.Goals as goal
 

@@ -1,5 +1,5 @@
 use Rattle.std.proofs.Common.{◌≡◌, ◌+◌, take}
-use Rattle.gm_eval.specs.Sums.{parts_at, sum_of}
+use Rattle.gm_eval.specs.inner.Sums.{parts_at, sum_of}
 use Rattle.gm_eval.proofs.Sums.{IsSmall}
 use Rattle.gm_eval.proofs.totals.add_up.Given as goal
 

@@ -4,7 +4,7 @@ use Rattle.std.specs.List.{fold}
 use Rattle.std.proofs.lemmas.Int.{to_z-of_z}
 use Rattle.std.proofs.lemmas.List.{take_all}
 use Rattle.gm_arena.specs.declared.slot.Slot.{Slot}
-use Rattle.gm_eval.specs.Sums.{first_at, part, part_at, parts_at}
+use Rattle.gm_eval.specs.inner.Sums.{first_at, part, part_at, parts_at}
 use Rattle.gm_eval.proofs.Sums.{fold_step}
 use Rattle.gm_eval.proofs.totals.extremes.Goals as goal
 

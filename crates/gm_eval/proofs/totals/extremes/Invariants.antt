@@ -1,7 +1,7 @@
 use Rattle.std.proofs.Common.{◌≡◌, ◌+◌, take}
 use Rattle.std.specs.Int.{int_max, int_min}
 use Rattle.std.specs.List.{fold}
-use Rattle.gm_eval.specs.Sums.{first_at, parts_at}
+use Rattle.gm_eval.specs.inner.Sums.{first_at, parts_at}
 use Rattle.gm_eval.proofs.totals.extremes.Given as goal
 
 abbrev pub invariant-loop-slot : goal.invariant-loop-slot

@@ -1,5 +1,5 @@
 use Rattle.std.proofs.Common.{refl}
-use Rattle.gm_expr.specs.Writable.{names_of}
+use Rattle.gm_expr.specs.inner.Writable.{names_of}
 use Rattle.gm_expr.proofs.NoShorter.{no_shorter}
 use Rattle.gm_expr.proofs.ReadWritable.{read_writable}
 use Rattle.gm_expr.proofs.laws.no_text_is_shorter.Goals as goal

@@ -1,5 +1,5 @@
 use Rattle.std.proofs.Common.{refl}
-use Rattle.gm_expr.specs.Writable.{names_of}
+use Rattle.gm_expr.specs.inner.Writable.{names_of}
 use Rattle.gm_expr.proofs.CanonicalRead.{short_read, again_read, all_known}
 use Rattle.gm_expr.proofs.ReadWritable.{read_writable}
 use Rattle.gm_expr.proofs.laws.what_is_printed_is_read_again.Goals as goal

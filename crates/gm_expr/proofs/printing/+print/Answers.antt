@@ -5,7 +5,7 @@ use Rattle.std.proofs.lemmas.Result.{on_err_weaker, on_ok_weaker}
 use Rattle.gm_model.specs.declared.expr.Expr.{Expr}
 use Rattle.gm_model.specs.Rules.{rule_of}
 use Rattle.gm_model.specs.Trees.{Tree, tree_of}
-use Rattle.gm_text.specs.SchemaPrinting.{IsCut}
+use Rattle.gm_text.specs.inner.SchemaPrinting.{IsCut}
 use Rattle.gm_expr.specs.ExprText.{expr_text, head_of, level, sign_of, tail_of, wrapped}
 use Rattle.gm_parse.specs.Levels.{least_of_part, least_on_left, least_on_right}
 use Rattle.gm_model.proofs.Exits.{never_ok, on_err}

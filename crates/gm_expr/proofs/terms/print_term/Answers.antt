@@ -2,7 +2,7 @@ use Rattle.std.proofs.Common.{subst}
 use Rattle.std.specs.Prelude.{OnErr}
 use Rattle.std.proofs.lemmas.Result.{on_err_weaker}
 use Rattle.gm_model.specs.Rules.{name_at, rule_of}
-use Rattle.gm_text.specs.SchemaPrinting.{IsCut}
+use Rattle.gm_text.specs.inner.SchemaPrinting.{IsCut}
 use Rattle.gm_expr.specs.ExprText.{path_text}
 use Rattle.gm_text.proofs.Cuts.{cut_behind}
 use Rattle.gm_expr.proofs.terms.print_term.Goals as goal

@@ -1,6 +1,6 @@
 use Rattle.std.proofs.Common.{subst}
-use Rattle.gm_text.specs.Cursor.{Cursor}
-use Rattle.gm_text.specs.SchemaAnswers.{IsNext, IsNoneNext}
+use Rattle.gm_text.specs.inner.Cursor.{Cursor}
+use Rattle.gm_text.specs.inner.SchemaAnswers.{IsNext, IsNoneNext}
 use Rattle.gm_forms.proofs.ValuesRead.{token_here, none_here}
 use Rattle.gm_forms.proofs.exprs.next_place.Goals as goal
 

@@ -1,8 +1,8 @@
 use Rattle.std.proofs.Common.{[], map, ap, refl}
 use Rattle.std.proofs.lemmas.Result.{err_from_is_err_and}
-use Rattle.gm_forms.specs.Forms.{rule_form_of}
-use Rattle.gm_forms.specs.Reading.{PreSlot, Required, Held}
-use Rattle.gm_forms.specs.Standing.{rules_of, current_of}
+use Rattle.gm_forms.specs.inner.Forms.{rule_form_of}
+use Rattle.gm_forms.specs.inner.Reading.{PreSlot, Required, Held}
+use Rattle.gm_forms.specs.inner.Standing.{rules_of, current_of}
 use Rattle.gm_forms.proofs.Values.{pre_past, value_fails}
 use Rattle.gm_model.proofs.Exits.{unless_ok}
 use Rattle.gm_forms.proofs.exprs.past_pre_value.Goals as goal

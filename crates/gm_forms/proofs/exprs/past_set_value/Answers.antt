@@ -1,8 +1,8 @@
 use Rattle.std.proofs.Common.{[], map, ap, refl}
 use Rattle.std.proofs.lemmas.Result.{err_from_is_err_and}
-use Rattle.gm_forms.specs.Forms.{mention_of, rule_form_of}
-use Rattle.gm_forms.specs.Reading.{SetSlot, Assigned, Held}
-use Rattle.gm_forms.specs.Standing.{rules_of, current_of, spot_of}
+use Rattle.gm_forms.specs.inner.Forms.{mention_of, rule_form_of}
+use Rattle.gm_forms.specs.inner.Reading.{SetSlot, Assigned, Held}
+use Rattle.gm_forms.specs.inner.Standing.{rules_of, current_of, spot_of}
 use Rattle.gm_forms.proofs.Values.{set_past, value_fails}
 use Rattle.gm_model.proofs.Exits.{unless_ok}
 use Rattle.gm_forms.proofs.exprs.past_set_value.Goals as goal

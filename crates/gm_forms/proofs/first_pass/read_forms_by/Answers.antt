@@ -1,7 +1,7 @@
 use Rattle.std.proofs.lemmas.Result.{err_from_is_err_and}
 use Rattle.gm_model.proofs.Exits.{unless_ok}
-use Rattle.gm_text.specs.SchemaAnswers.{marks_left}
-use Rattle.gm_forms.specs.Standing.{rules_of, current_of}
+use Rattle.gm_text.specs.inner.SchemaAnswers.{marks_left}
+use Rattle.gm_forms.specs.inner.Standing.{rules_of, current_of}
 use Rattle.gm_forms.proofs.Run.{are_rules_read, is_rules_fault}
 use Rattle.gm_forms.proofs.first_pass.read_forms_by.Goals as goal
 

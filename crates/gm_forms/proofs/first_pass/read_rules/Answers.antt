@@ -1,8 +1,8 @@
 use Rattle.std.proofs.Common.{ℕ, ◌≤◌, List, length, ◌∙◌, Option, Ok, subst, arith}
 use Rattle.std.proofs.lemmas.Result.{err_from_is_err_and}
 use Rattle.gm_model.specs.declared.token.Token.{Token}
-use Rattle.gm_text.specs.SchemaAnswers.{marks_left}
-use Rattle.gm_forms.specs.Standing.{IsNext, IsStateIn, IsDraftIn, rules_stand, stand_of, read_on}
+use Rattle.gm_text.specs.inner.SchemaAnswers.{marks_left}
+use Rattle.gm_forms.specs.inner.Standing.{IsNext, IsStateIn, IsDraftIn, rules_stand, stand_of, read_on}
 use Rattle.gm_forms.proofs.Onward.{goes_on, stops_here, keeps_on, past_on, past_stops, stray_stops}
 use Rattle.gm_model.proofs.Exits.{unless_ok}
 use Rattle.gm_forms.proofs.first_pass.read_rules.Goals as goal

@@ -1,6 +1,6 @@
 use Rattle.std.proofs.Common.{◌≡◌, ◌-◌, length}
-use Rattle.gm_text.specs.SchemaAnswers.{marks_left}
-use Rattle.gm_forms.specs.Standing.{IsOutside, IsStateIn, IsDraftIn, rules_stand, stand_of, read_on}
+use Rattle.gm_text.specs.inner.SchemaAnswers.{marks_left}
+use Rattle.gm_forms.specs.inner.Standing.{IsOutside, IsStateIn, IsDraftIn, rules_stand, stand_of, read_on}
 use Rattle.gm_forms.proofs.first_pass.read_rules.Given as goal
 
 abbrev pub invariant-loop-token : goal.invariant-loop-token

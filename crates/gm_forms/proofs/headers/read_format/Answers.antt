@@ -4,8 +4,8 @@ use Rattle.std.specs.Str.{bytes_eq}
 use Rattle.gm_model.specs.declared.token.Token.{Token}
 use Rattle.gm_model.specs.declared.token.TokenKind.TheVariants as kinds
 use Rattle.gm_model.specs.Tokens.{bytes_of}
-use Rattle.gm_forms.specs.Reading.{AtFormat}
-use Rattle.gm_forms.specs.Standing.{IsNext}
+use Rattle.gm_forms.specs.inner.Reading.{AtFormat}
+use Rattle.gm_forms.specs.inner.Standing.{IsNext}
 use Rattle.gm_forms.proofs.HeadRead.{at_stray, at_end, at_token, no_word, other_word, book_read}
 use Rattle.gm_model.proofs.Exits.{unless_ok}
 use Rattle.gm_forms.proofs.headers.read_format.Goals as goal

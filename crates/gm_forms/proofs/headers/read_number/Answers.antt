@@ -4,8 +4,8 @@ use Rattle.gm_model.specs.declared.token.Token.{Token}
 use Rattle.gm_model.specs.declared.token.TokenKind.TheVariants as kinds
 use Rattle.gm_model.specs.Tokens.{bytes_of}
 use Rattle.gm_text.proofs.SchemaMoves.{kind_is, kind_other}
-use Rattle.gm_forms.specs.Reading.{AtVersion}
-use Rattle.gm_forms.specs.Standing.{IsNext}
+use Rattle.gm_forms.specs.inner.Reading.{AtVersion}
+use Rattle.gm_forms.specs.inner.Standing.{IsNext}
 use Rattle.gm_forms.proofs.HeadRead.{at_stray, at_end, at_token, no_number, other_version, one_or_two, one_byte, version_read}
 use Rattle.gm_model.proofs.Exits.{unless_ok}
 use Rattle.gm_forms.proofs.headers.read_number.Goals as goal

@@ -1,9 +1,9 @@
 use Rattle.std.proofs.lemmas.Result.{IfErr-weaker}
-use Rattle.gm_text.specs.Nested.{Outside}
+use Rattle.gm_text.specs.inner.Nested.{Outside}
 use Rattle.gm_forms.specs.declared.form_fault.FormFault.{FormFault}
-use Rattle.gm_forms.specs.Reading.{AtFormat, AtVersion}
-use Rattle.gm_text.specs.SchemaAnswers.{marks_left}
-use Rattle.gm_forms.specs.Standing.{IsHeadFault}
+use Rattle.gm_forms.specs.inner.Reading.{AtFormat, AtVersion}
+use Rattle.gm_text.specs.inner.SchemaAnswers.{marks_left}
+use Rattle.gm_forms.specs.inner.Standing.{IsHeadFault}
 use Rattle.gm_forms.proofs.HeadRead.{fault_behind}
 use Rattle.gm_forms.proofs.headers.read_version.Goals as goal
 

@@ -1,4 +1,4 @@
-use Rattle.gm_forms.specs.Standing.{number_mark}
+use Rattle.gm_forms.specs.inner.Standing.{number_mark}
 use Rattle.gm_forms.proofs.Behind.{leads_at, stays_in_at}
 use Rattle.gm_forms.proofs.signs.at_number.Goals as goal
 

@@ -1,5 +1,5 @@
 use Rattle.std.proofs.Common.{◌+◌, [], ◌∷◌, sym, ap, subst, ◌∙◌}
-use Rattle.gm_grid.specs.Building.{point_of, AreAdded}
+use Rattle.gm_grid.specs.inner.Building.{point_of, AreAdded}
 use Rattle.gm_grid.proofs.Finished.{point_named}
 use Rattle.gm_grid.proofs.Stages.{added_more}
 use Rattle.gm_grid.proofs.grid.add_dart.Goals as goal

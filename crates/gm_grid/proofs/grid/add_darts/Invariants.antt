@@ -1,5 +1,5 @@
 use Rattle.std.proofs.Common.{◌≡◌, ◌+◌, ◌*◌}
-use Rattle.gm_grid.specs.Building.{AreAdded}
+use Rattle.gm_grid.specs.inner.Building.{AreAdded}
 use Rattle.gm_grid.proofs.grid.add_darts.Given as goal
 
 abbrev pub invariant-loop-square : goal.invariant-loop-square

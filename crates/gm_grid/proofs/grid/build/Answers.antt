@@ -1,9 +1,9 @@
 use Rattle.std.proofs.Common.{◌≡◌, ℕ, ◌+◌, ◌*◌, ◌≤◌, sym, ap, subst, arith}
 use Rattle.std.proofs.lemmas.Nat.{mul-lt}
 use Rattle.std.proofs.lemmas.Result.{IfOk-from_err}
-use Rattle.gm_arena.specs.ArenaMap.{ArenaMap}
+use Rattle.gm_arena.specs.inner.ArenaMap.{ArenaMap}
 use Rattle.gm_model.specs.Maps.{IsSchema}
-use Rattle.gm_grid.specs.Building.{AreAdded, AreLinked}
+use Rattle.gm_grid.specs.inner.Building.{AreAdded, AreLinked}
 use Rattle.gm_grid.specs.GridMap.{dart_count}
 use Rattle.gm_grid.proofs.GridSchema.{is_schema}
 use Rattle.gm_grid.proofs.Stages.{none_added}

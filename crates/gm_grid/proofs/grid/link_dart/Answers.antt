@@ -1,6 +1,6 @@
 use Rattle.std.proofs.Common.{◌≡◌, ℕ, ◌+◌, is_some, sym, subst, ap, ◌∙◌, arith}
-use Rattle.gm_arena.specs.ArenaMap.{ArenaMap, IsLiveName}
-use Rattle.gm_grid.specs.Building.{neighbour_of, AreLinked}
+use Rattle.gm_arena.specs.inner.ArenaMap.{ArenaMap, IsLiveName}
+use Rattle.gm_grid.specs.inner.Building.{neighbour_of, AreLinked}
 use Rattle.gm_grid.specs.GridMap.{neighbour}
 use Rattle.gm_grid.proofs.Finished.{neighbour_is}
 use Rattle.gm_grid.proofs.Stages.{at_slot, at_turned, live_of, live_turned, linked_more}

@@ -1,5 +1,5 @@
 use Rattle.std.proofs.Common.{◌+◌, ◌*◌, sym, subst, arith}
-use Rattle.gm_grid.specs.Building.{AreLinked}
+use Rattle.gm_grid.specs.inner.Building.{AreLinked}
 use Rattle.gm_grid.proofs.Stages.{dart_of_square, in_grid}
 use Rattle.gm_grid.proofs.grid.link_square.Goals as goal
 

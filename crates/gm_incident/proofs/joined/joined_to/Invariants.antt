@@ -1,6 +1,6 @@
 use Rattle.std.proofs.Common.{ℕ}
 use Rattle.std.specs.List.{Contains}
-use Rattle.gm_incident.specs.Reached.{IsReached, unreached, IsJoinedToHook}
+use Rattle.gm_incident.specs.inner.Reached.{IsReached, unreached, IsJoinedToHook}
 use Rattle.gm_incident.proofs.joined.joined_to.Given as goal
 
 abbrev pub invariant-loop : goal.invariant-loop

@@ -1,6 +1,6 @@
 use Rattle.std.proofs.Common.{◌≡◌, ℕ, ◌↔◌, length, take}
 use Rattle.std.specs.List.{Contains}
-use Rattle.gm_incident.specs.Reached.{IsReached}
+use Rattle.gm_incident.specs.inner.Reached.{IsReached}
 use Rattle.gm_incident.proofs.joined.marked.Given as goal
 
 abbrev pub invariant-loop-node : goal.invariant-loop-node

@@ -4,7 +4,7 @@ use Rattle.std.proofs.lemmas.List.{take_all, length-set}
 use Rattle.std.proofs.lemmas.List.Elements.{All-more, Contains-get_or}
 use Rattle.gm_model.specs.declared.rule.Link.{Link}
 use Rattle.gm_model.specs.Rules.{IsLinked}
-use Rattle.gm_incident.specs.Reached.{is_reached, unreached}
+use Rattle.gm_incident.specs.inner.Reached.{is_reached, unreached}
 use Rattle.gm_incident.proofs.Marks.{HasEvenEnds, spread_more, unreached_less, differ, agree}
 use Rattle.gm_incident.proofs.joined.spread.Goals as goal
 use Rattle.gm_incident.proofs.joined.spread.Goals.{then-reached-link, else-reached-link}

@@ -1,7 +1,7 @@
 use Rattle.std.proofs.Common.{◌≡◌, ◌<◌, ◌≤◌, true, false, length, take}
 use Rattle.std.specs.List.{All}
 use Rattle.gm_model.specs.declared.rule.Link.{Link}
-use Rattle.gm_incident.specs.Reached.{is_reached, unreached, HasSpread}
+use Rattle.gm_incident.specs.inner.Reached.{is_reached, unreached, HasSpread}
 use Rattle.gm_incident.proofs.joined.spread.Given as goal
 
 abbrev pub invariant-loop-link : goal.invariant-loop-link

@@ -1,6 +1,6 @@
 use Rattle.std.proofs.Common.{◌≢◌, rules}
 use Rattle.gm_model.specs.declared.word.Letter.TheVariants.{Gone}
-use Rattle.gm_incident.specs.Words.{StandsBefore}
+use Rattle.gm_incident.specs.inner.Words.{StandsBefore}
 use Rattle.gm_incident.proofs.Letters.{labels_more, distinct_more}
 use Rattle.gm_incident.proofs.structure.is_plain.Goals as goal
 

@@ -1,5 +1,5 @@
 use Rattle.std.proofs.Common.{◌+◌, ◌*◌, length, get_or, subst, arith, below_more}
-use Rattle.gm_laws.specs.Darts.{Commutes, IsFirstPair}
+use Rattle.gm_laws.specs.inner.Darts.{Commutes, IsFirstPair}
 use Rattle.gm_laws.proofs.CostLemmas.{all_each, more_each}
 use Rattle.gm_laws.proofs.NameLemmas.{has_slot, name_of_slot, first_name, all_names}
 use Rattle.gm_laws.proofs.FirstLemmas.{crossing}

@@ -1,5 +1,5 @@
 use Rattle.std.proofs.Common.{ℕ, ◌+◌, ◌*◌, ◌<◌, ◌≤◌, get_or}
-use Rattle.gm_laws.specs.Darts.{Commutes}
+use Rattle.gm_laws.specs.inner.Darts.{Commutes}
 use Rattle.gm_laws.proofs.commuting.first_not_commuting.Given as goal
 
 abbrev pub invariant-loop-name : goal.invariant-loop-name

@@ -1,9 +1,9 @@
 use Rattle.std.proofs.Common.{◌+◌, ◌*◌, ap, subst, ◌∙◌, falls, inl, inr, le_of_eq, le_refl, le_trans, le-add_right, lt_irrefl}
 use Rattle.std.proofs.lemmas.Bool.{cases_lt}
-use Rattle.gm_arena.specs.ArenaMap.{name_at}
+use Rattle.gm_arena.specs.inner.ArenaMap.{name_at}
 use Rattle.gm_arena.proofs.InsideLemmas.{is_some_at}
 use Rattle.gm_model.specs.declared.schema.Schema.{Schema}
-use Rattle.gm_laws.specs.Darts.{Commute}
+use Rattle.gm_laws.specs.inner.Darts.{Commute}
 use Rattle.gm_laws.proofs.CommuteLemmas.{above_fits, below_end, crosses, end_fits, label_upto, last_label, left_at, left_behind, meets, next_upto, no_less, none_between, three_each, three_more}
 use Rattle.gm_laws.proofs.commuting.label_not_commuting.Goals as goal
 

@@ -1,6 +1,6 @@
 use Rattle.std.proofs.Common.{ℕ, ◌+◌, ◌*◌, ◌<◌, ◌≤◌}
-use Rattle.gm_arena.specs.ArenaMap.{name_at}
-use Rattle.gm_laws.specs.Darts.{Commute}
+use Rattle.gm_arena.specs.inner.ArenaMap.{name_at}
+use Rattle.gm_laws.specs.inner.Darts.{Commute}
 use Rattle.gm_laws.proofs.commuting.label_not_commuting.Given as goal
 
 abbrev pub invariant-loop-j : goal.invariant-loop-j

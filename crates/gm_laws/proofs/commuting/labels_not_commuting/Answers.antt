@@ -1,8 +1,8 @@
 use Rattle.std.proofs.Common.{◌≡◌, ◌+◌, ◌*◌, ◌≤◌, ap, subst, ◌∙◌, falls, inl, inr, le_refl, le_trans, le-add_right}
 use Rattle.std.proofs.lemmas.Bool.{cases_lt}
-use Rattle.gm_arena.specs.ArenaMap.{name_at}
+use Rattle.gm_arena.specs.inner.ArenaMap.{name_at}
 use Rattle.gm_model.specs.declared.schema.Schema.{Schema}
-use Rattle.gm_laws.specs.Darts.{CommutesWith}
+use Rattle.gm_laws.specs.inner.Darts.{CommutesWith}
 use Rattle.gm_laws.proofs.CommuteLemmas.{below_end, end_fits, label_upto, last_label, next_upto, none_yet}
 use Rattle.gm_laws.proofs.CostLemmas.{in_all, one_more}
 use Rattle.gm_laws.proofs.commuting.labels_not_commuting.Goals as goal

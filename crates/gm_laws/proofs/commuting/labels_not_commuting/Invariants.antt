@@ -1,6 +1,6 @@
 use Rattle.std.proofs.Common.{ℕ, ◌+◌, ◌*◌, ◌<◌, ◌≤◌}
-use Rattle.gm_arena.specs.ArenaMap.{name_at}
-use Rattle.gm_laws.specs.Darts.{CommutesWith}
+use Rattle.gm_arena.specs.inner.ArenaMap.{name_at}
+use Rattle.gm_laws.specs.inner.Darts.{CommutesWith}
 use Rattle.gm_laws.proofs.commuting.labels_not_commuting.Given as goal
 
 abbrev pub invariant-loop-i : goal.invariant-loop-i

@@ -1,9 +1,9 @@
 use Rattle.std.proofs.Common.{◌+◌, ◌*◌, length, get_or, sym, subst, ap, ◌∙◌, falls, inl, inr, le_refl, le_trans, le-add_right, lt_of_lt_of_le}
 use Rattle.std.proofs.lemmas.Bool.{cases_lt}
 use Rattle.std.proofs.lemmas.Option.{same_Some}
-use Rattle.gm_arena.specs.ArenaMap.{alpha}
+use Rattle.gm_arena.specs.inner.ArenaMap.{alpha}
 use Rattle.gm_arena.proofs.InsideLemmas.{is_some_at}
-use Rattle.gm_laws.specs.Darts.{IsFirst, IsOrbitLabel, HasSame, IsAlike}
+use Rattle.gm_laws.specs.inner.Darts.{IsFirst, IsOrbitLabel, HasSame, IsAlike}
 use Rattle.gm_laws.proofs.CommuteLemmas.{last_label, no_less, none_yet}
 use Rattle.gm_laws.proofs.CostLemmas.{found_at, next_name, none_found, two_more}
 use Rattle.gm_laws.proofs.NameLemmas.{has_slot, slot_there, name_of_slot, first_name, all_names}

@@ -1,5 +1,5 @@
 use Rattle.std.proofs.Common.{ℕ, ◌+◌, ◌*◌, ◌<◌, ◌≤◌, get_or}
-use Rattle.gm_laws.specs.Darts.{IsAlike}
+use Rattle.gm_laws.specs.inner.Darts.{IsAlike}
 use Rattle.gm_laws.proofs.embedded.first_not_alike.Given as goal
 
 abbrev pub invariant-loop-name : goal.invariant-loop-name

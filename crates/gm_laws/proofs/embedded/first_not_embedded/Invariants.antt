@@ -1,7 +1,7 @@
 use Rattle.std.proofs.Common.{ℕ, ◌+◌, ◌*◌, ◌<◌, ◌≤◌, length}
 use Rattle.gm_model.specs.declared.schema.Embed.{Embed}
 use Rattle.gm_model.specs.Maps.{IsEmbedAt}
-use Rattle.gm_laws.specs.Darts.{AreAlike}
+use Rattle.gm_laws.specs.inner.Darts.{AreAlike}
 use Rattle.gm_laws.proofs.embedded.first_not_embedded.Given as goal
 
 abbrev pub invariant-loop-embed : goal.invariant-loop-embed

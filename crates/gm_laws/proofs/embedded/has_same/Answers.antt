@@ -1,6 +1,6 @@
 use Rattle.std.proofs.Common.{◌≡◌, ◌↔◌, true, sym, ap, ◌∙◌}
 use Rattle.gm_arena.proofs.MapLemmas.{name_at-is}
-use Rattle.gm_arena.specs.ArenaAsMap.{value}
+use Rattle.gm_arena.specs.inner.ArenaAsMap.{value}
 use Rattle.gm_laws.proofs.ValueLemmas.{same_told, same_value}
 use Rattle.gm_laws.proofs.embedded.has_same.Goals as goal
 

@@ -1,8 +1,8 @@
 use Rattle.std.proofs.Common.{ℕ, IsTrue, sym, ◌∙◌, arith, below_more}
 use Rattle.std.proofs.lemmas.Bool.{false≢true}
-use Rattle.gm_arena.specs.ArenaMap.{name_at}
+use Rattle.gm_arena.specs.inner.ArenaMap.{name_at}
 use Rattle.gm_model.specs.Labels.{has}
-use Rattle.gm_laws.specs.Darts.{HasSame}
+use Rattle.gm_laws.specs.inner.Darts.{HasSame}
 use Rattle.gm_laws.proofs.embedded.label_not_alike.Goals as goal
 use Rattle.gm_laws.proofs.embedded.label_not_alike.Goals.{else-has-via-then-has+else-not-has_same, else-has-via-else-has}
 

@@ -1,7 +1,7 @@
 use Rattle.std.proofs.Common.{ℕ, ◌+◌, ◌*◌, ◌<◌, ◌≤◌, IsTrue}
-use Rattle.gm_arena.specs.ArenaMap.{name_at}
+use Rattle.gm_arena.specs.inner.ArenaMap.{name_at}
 use Rattle.gm_model.specs.Labels.{has}
-use Rattle.gm_laws.specs.Darts.{HasSame}
+use Rattle.gm_laws.specs.inner.Darts.{HasSame}
 use Rattle.gm_laws.proofs.embedded.label_not_alike.Given as goal
 
 abbrev pub invariant-loop-label : goal.invariant-loop-label

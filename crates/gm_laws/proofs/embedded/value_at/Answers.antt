@@ -1,6 +1,6 @@
 use Rattle.std.proofs.Common.{◌<◌, length, sym, ap, ◌∙◌, arith}
 use Rattle.gm_arena.proofs.MapLemmas.{name_at-is}
-use Rattle.gm_arena.specs.ArenaAsMap.{value}
+use Rattle.gm_arena.specs.inner.ArenaAsMap.{value}
 use Rattle.gm_laws.proofs.RowLemmas.{values_long, value_is}
 use Rattle.gm_laws.proofs.embedded.value_at.Goals as goal
 

@@ -1,9 +1,9 @@
 use Rattle.std.proofs.Common.{ℕ, ◌+◌, ◌*◌, arith, below_more}
 use Rattle.std.proofs.lemmas.Bool.{and_parts}
-use Rattle.gm_arena.specs.ArenaMap.{name_at}
+use Rattle.gm_arena.specs.inner.ArenaMap.{name_at}
 use Rattle.gm_arena.proofs.MapLemmas.{IsAt-name_at}
-use Rattle.gm_laws.specs.Darts.{IsLabel}
-use Rattle.gm_laws.specs.Holding.{Holds}
+use Rattle.gm_laws.specs.inner.Darts.{IsLabel}
+use Rattle.gm_laws.specs.inner.Holding.{Holds}
 use Rattle.gm_laws.proofs.CostLemmas.{more_each}
 use Rattle.gm_laws.proofs.HoldingLemmas.{keeps_laws}
 use Rattle.gm_laws.proofs.holding.do_slots_hold_along.Goals as goal

@@ -1,7 +1,7 @@
 use Rattle.std.proofs.Common.{ℕ, ◌+◌, ◌*◌, ◌<◌, ◌≤◌, IsTrue}
-use Rattle.gm_arena.specs.ArenaMap.{name_at}
-use Rattle.gm_laws.specs.Darts.{IsLabel}
-use Rattle.gm_laws.specs.Holding.{Holds}
+use Rattle.gm_arena.specs.inner.ArenaMap.{name_at}
+use Rattle.gm_laws.specs.inner.Darts.{IsLabel}
+use Rattle.gm_laws.specs.inner.Holding.{Holds}
 use Rattle.gm_laws.proofs.holding.do_slots_hold_along.Given as goal
 
 abbrev pub invariant-loop-at : goal.invariant-loop-at

@@ -1,6 +1,6 @@
 use Rattle.std.proofs.Common.{◌≡◌, ℕ, ◌+◌, ◌<◌, ◌≤◌, IsTrue, slice_index_or}
 use Rattle.gm_arena.specs.declared.slot.Slot.{Slot}
-use Rattle.gm_arena.specs.ArenaMap.{name_at, alpha}
+use Rattle.gm_arena.specs.inner.ArenaMap.{name_at, alpha}
 use Rattle.gm_laws.proofs.holding.does_commute.Given as goal
 
 abbrev pub invariant-loop-above : goal.invariant-loop-above

@@ -1,8 +1,8 @@
 use Rattle.std.proofs.Common.{◌+◌, ◌≤◌, arith, below_more}
 use Rattle.std.proofs.Math.Nat.{mul-le-mul_right}
 use Rattle.std.proofs.lemmas.Bool.{and_parts}
-use Rattle.gm_arena.specs.ArenaMap.{name_at}
-use Rattle.gm_laws.specs.Holding.{Holds}
+use Rattle.gm_arena.specs.inner.ArenaMap.{name_at}
+use Rattle.gm_laws.specs.inner.Holding.{Holds}
 use Rattle.gm_laws.proofs.holding.does_dart_hold.Goals as goal
 
 pub does_label_hold-hold-requires-clause-label : goal.does_label_hold-hold-requires-clause-label

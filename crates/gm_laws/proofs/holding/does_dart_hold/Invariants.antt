@@ -1,6 +1,6 @@
 use Rattle.std.proofs.Common.{ℕ, ◌+◌, ◌*◌, ◌<◌, ◌≤◌, IsTrue}
-use Rattle.gm_arena.specs.ArenaMap.{name_at}
-use Rattle.gm_laws.specs.Holding.{Holds}
+use Rattle.gm_arena.specs.inner.ArenaMap.{name_at}
+use Rattle.gm_laws.specs.inner.Holding.{Holds}
 use Rattle.gm_laws.proofs.holding.does_dart_hold.Given as goal
 
 abbrev pub invariant-loop-label : goal.invariant-loop-label

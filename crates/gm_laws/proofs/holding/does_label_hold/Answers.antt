@@ -3,7 +3,7 @@ use Rattle.std.proofs.lemmas.Bool.{and_parts}
 use Rattle.std.proofs.lemmas.List.{get_or_default}
 use Rattle.gm_model.specs.declared.schema.Embed.{Embed}
 use Rattle.gm_arena.specs.declared.slot.Slot.{Slot}
-use Rattle.gm_laws.specs.Holding.{AreSameAlong}
+use Rattle.gm_laws.specs.inner.Holding.{AreSameAlong}
 use Rattle.gm_laws.proofs.HoldingLemmas.{row_is, alphas_long, row_values_long, holds_along}
 use Rattle.gm_laws.proofs.holding.does_label_hold.Goals as goal
 

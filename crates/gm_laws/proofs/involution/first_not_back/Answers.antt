@@ -1,5 +1,5 @@
 use Rattle.std.proofs.Common.{get_or, subst, arith}
-use Rattle.gm_laws.specs.Darts.{IsFirst, IsLabel, LeadsBack, IsBack}
+use Rattle.gm_laws.specs.inner.Darts.{IsFirst, IsLabel, LeadsBack, IsBack}
 use Rattle.gm_laws.proofs.NameLemmas.{has_slot, name_of_slot, first_name, all_names}
 use Rattle.gm_laws.proofs.FirstLemmas.{one_way}
 use Rattle.gm_laws.proofs.involution.first_not_back.Goals as goal

@@ -1,5 +1,5 @@
 use Rattle.std.proofs.Common.{ℕ, ◌+◌, ◌*◌, ◌<◌, ◌≤◌, get_or}
-use Rattle.gm_laws.specs.Darts.{IsBack}
+use Rattle.gm_laws.specs.inner.Darts.{IsBack}
 use Rattle.gm_laws.proofs.involution.first_not_back.Given as goal
 
 abbrev pub invariant-loop-name : goal.invariant-loop-name

@@ -1,6 +1,6 @@
 use Rattle.std.proofs.Common.{◌≤◌, ◌≡◌, ℕ, ◌+◌, ◌*◌, ◌<◌}
-use Rattle.gm_arena.specs.ArenaMap.{name_at}
-use Rattle.gm_laws.specs.Darts.{LeadsBack}
+use Rattle.gm_arena.specs.inner.ArenaMap.{name_at}
+use Rattle.gm_laws.specs.inner.Darts.{LeadsBack}
 use Rattle.gm_laws.proofs.involution.label_not_back.Given as goal
 
 abbrev pub invariant-loop-label : goal.invariant-loop-label

@@ -2,12 +2,12 @@ use Rattle.std.proofs.Common.{◌≡◌, ℕ, not, ◌+◌, ◌-◌, ◌*◌, �
 use Rattle.std.proofs.lemmas.List.{length_push}
 use Rattle.std.specs.FinMap.{get}
 use Rattle.std.specs.Slice.Iter.{chunks_exact_rest}
-use Rattle.gm_arena.specs.ArenaMap.{IsAt}
+use Rattle.gm_arena.specs.inner.ArenaMap.{IsAt}
 use Rattle.gm_arena.specs.declared.slot.Slot.{Slot}
 use Rattle.gm_model.specs.declared.schema.Schema.{Schema}
 use Rattle.gm_mapfile.specs.MapText.{rows_of}
-use Rattle.gm_mapfile.specs.Rows.{row_in, valued, darts_in}
-use Rattle.gm_mapfile.specs.Building.{AreAdded, AreValued}
+use Rattle.gm_mapfile.specs.inner.Rows.{row_in, valued, darts_in}
+use Rattle.gm_mapfile.specs.inner.Building.{AreAdded, AreValued}
 use Rattle.gm_mapfile.proofs.Chunks.{fewer_lines, byte_fits, width_fits, width_some, name_of_line, none_left, darts_end, rows_of_darts_in, length_darts_in}
 use Rattle.gm_mapfile.proofs.Adding.{answered_none, answered_some, answered_on}
 use Rattle.gm_mapfile.proofs.AddedDarts.{HasDarts, has_none, has_more_named, has_again_named, line_split, line_good, line_spare, line_long, line_values, line_below, width_read, behind_read, values_read, good_read, schema_kept}

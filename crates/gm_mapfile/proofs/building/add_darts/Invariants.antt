@@ -1,9 +1,9 @@
 use Rattle.std.proofs.Common.{◌≡◌, ◌+◌, ◌*◌, ◌/◌, ◌≤◌, List, ◌++◌, length}
 use Rattle.std.specs.List.{AllByRecursion}
 use Rattle.std.specs.Slice.Iter.{chunks_exact_rest, chunks_exact_size}
-use Rattle.gm_arena.specs.Lawful.{AreGoodValues}
+use Rattle.gm_arena.specs.inner.Lawful.{AreGoodValues}
 use Rattle.gm_mapfile.specs.MapText.{DartRow}
-use Rattle.gm_mapfile.specs.Rows.{darts_in}
+use Rattle.gm_mapfile.specs.inner.Rows.{darts_in}
 use Rattle.gm_mapfile.proofs.AddedDarts.{HasDarts}
 use Rattle.gm_mapfile.proofs.building.add_darts.Given as goal
 

@@ -1,6 +1,6 @@
 use Rattle.std.proofs.Common.{◌+◌, ◌*◌, arith}
-use Rattle.gm_mapfile.specs.Draft.{version_in}
-use Rattle.gm_mapfile.specs.Rows.{darts_in}
+use Rattle.gm_mapfile.specs.inner.Draft.{version_in}
+use Rattle.gm_mapfile.specs.inner.Rows.{darts_in}
 use Rattle.std.proofs.lemmas.Result.{err_from_is_err_and}
 use Rattle.gm_model.proofs.Exits.{unless_ok}
 use Rattle.gm_mapfile.proofs.Joined.{if_err, if_ok_both}

@@ -1,11 +1,11 @@
 use Rattle.std.proofs.Common.{◌≡◌, ◌+◌, ◌*◌, ◌≤◌, length, sym, ap, subst}
-use Rattle.gm_arena.specs.ArenaMap.{ArenaMap}
+use Rattle.gm_arena.specs.inner.ArenaMap.{ArenaMap}
 use Rattle.gm_model.specs.declared.schema.Schema.{Schema}
-use Rattle.gm_mapfile.specs.Building.{AreInRoom, IsHeld}
-use Rattle.gm_mapfile.specs.Draft.{version_in}
+use Rattle.gm_mapfile.specs.inner.Building.{AreInRoom, IsHeld}
+use Rattle.gm_mapfile.specs.inner.Draft.{version_in}
 use Rattle.gm_mapfile.specs.MapFaults.{AreBelow}
-use Rattle.gm_mapfile.specs.Rows.{darts_in, rows_in}
-use Rattle.gm_mapfile.specs.Faults.{IsNameFault}
+use Rattle.gm_mapfile.specs.inner.Rows.{darts_in, rows_in}
+use Rattle.gm_mapfile.specs.inner.Faults.{IsNameFault}
 use Rattle.gm_mapfile.proofs.Whole.{fresh_map}
 use Rattle.gm_mapfile.proofs.building.build_lines.Goals as goal
 

@@ -1,4 +1,4 @@
-use Rattle.gm_mapfile.specs.Draft.{version_in}
+use Rattle.gm_mapfile.specs.inner.Draft.{version_in}
 use Rattle.gm_mapfile.proofs.Built.{steps_added, twice_of, live_of, not_below_of, link_ready_of, lack_of, held_of, steps_of, many_of}
 use Rattle.gm_mapfile.proofs.building.fill.Goals as goal
 

@@ -1,14 +1,14 @@
 use Rattle.std.specs.Prelude.{OnOk, IfErr}
 use Rattle.std.proofs.lemmas.Result.{err_from_is_err_and}
 use Rattle.std.proofs.Common.{◌≡◌, ◌+◌, ◌*◌, ◌≤◌, length, sym, ap, subst, ◌∙◌, arith, ◌/◌}
-use Rattle.gm_arena.specs.ArenaMap.{ArenaMap}
+use Rattle.gm_arena.specs.inner.ArenaMap.{ArenaMap}
 use Rattle.gm_model.specs.declared.schema.Schema.{Schema}
 use Rattle.gm_model.specs.GMap.{IsLive}
-use Rattle.gm_mapfile.specs.Building.{AreInRoom, IsHeld}
-use Rattle.gm_mapfile.specs.Draft.{version_in}
-use Rattle.gm_mapfile.specs.Rows.{darts_in, rows_in}
+use Rattle.gm_mapfile.specs.inner.Building.{AreInRoom, IsHeld}
+use Rattle.gm_mapfile.specs.inner.Draft.{version_in}
+use Rattle.gm_mapfile.specs.inner.Rows.{darts_in, rows_in}
 use Rattle.gm_model.specs.Limits.{most_darts}
-use Rattle.gm_mapfile.specs.Faults.{IsNameFault}
+use Rattle.gm_mapfile.specs.inner.Faults.{IsNameFault}
 use Rattle.gm_model.proofs.Exits.{never_ok}
 use Rattle.gm_mapfile.proofs.Whole.{still_fresh}
 use Rattle.gm_mapfile.proofs.building.fill_with_room.Goals as goal

@@ -1,6 +1,6 @@
 use Rattle.std.proofs.Common.{◌∷◌, [], ◌++◌, subst, ◌∙◌, arith}
-use Rattle.gm_mapfile.specs.Building.{IsNotBelow}
-use Rattle.gm_mapfile.specs.Rows.{row_in, rows_in}
+use Rattle.gm_mapfile.specs.inner.Building.{IsNotBelow}
+use Rattle.gm_mapfile.specs.inner.Rows.{row_in, rows_in}
 use Rattle.gm_mapfile.proofs.Chunks.{one_more, no_more, name_of_line}
 use Rattle.gm_mapfile.proofs.NextName.{low_more_named, high_more_named}
 use Rattle.gm_mapfile.proofs.building.least_not_below.Goals as goal

@@ -1,5 +1,5 @@
 use Rattle.std.proofs.Common.{◌≡◌, ◌+◌, ◌<◌, ap, subst, arith, refl}
-use Rattle.gm_mapfile.specs.Building.{IsDartLinked}
+use Rattle.gm_mapfile.specs.inner.Building.{IsDartLinked}
 use Rattle.gm_mapfile.proofs.Linking.{same_dim, none_linked, linked_at, not_live, no_target, slot_live}
 use Rattle.gm_mapfile.proofs.building.link_dart.Goals as goal
 

@@ -1,6 +1,6 @@
 use Rattle.std.proofs.Common.{◌+◌, ◌*◌, ◌≤◌}
-use Rattle.gm_arena.specs.ArenaMap.{IsAt}
-use Rattle.gm_mapfile.specs.Building.{IsDartLinked}
+use Rattle.gm_arena.specs.inner.ArenaMap.{IsAt}
+use Rattle.gm_mapfile.specs.inner.Building.{IsDartLinked}
 use Rattle.gm_mapfile.proofs.building.link_dart.Given as goal
 
 abbrev pub invariant-loop-label : goal.invariant-loop-label

@@ -2,8 +2,8 @@ use Rattle.std.proofs.Common.{◌≡◌, ℕ, ◌+◌, ◌*◌, ◌<◌, ◌≤�
 use Rattle.std.proofs.Math.Nat.{le_refl, le_trans}
 use Rattle.std.proofs.lemmas.List.{length_push}
 use Rattle.std.specs.Slice.Iter.{chunks_exact_rest}
-use Rattle.gm_mapfile.specs.Rows.{row_in, rows_in}
-use Rattle.gm_mapfile.specs.Building.{AreLinkedUnless, AreWhole}
+use Rattle.gm_mapfile.specs.inner.Rows.{row_in, rows_in}
+use Rattle.gm_mapfile.specs.inner.Building.{AreLinkedUnless, AreWhole}
 use Rattle.gm_mapfile.proofs.Chunks.{fewer_lines, byte_fits, width_fits, width_some, one_more, no_more}
 use Rattle.gm_mapfile.proofs.Linking.{none_relinked, same_dim, slots_live}
 use Rattle.gm_mapfile.proofs.LinkedLine.{line_live, line_linked, line_lacks, steps_more, neighbours_long}

@@ -1,8 +1,8 @@
 use Rattle.std.proofs.Common.{◌≡◌, ◌+◌, ◌*◌, ◌≤◌, List, ◌++◌, length}
 use Rattle.std.specs.Slice.Iter.{chunks_exact_rest, chunks_exact_size}
 use Rattle.gm_model.specs.GMap.{Row}
-use Rattle.gm_mapfile.specs.Rows.{rows_in}
-use Rattle.gm_mapfile.specs.Building.{IsRelinked, AreLinkedUnless}
+use Rattle.gm_mapfile.specs.inner.Rows.{rows_in}
+use Rattle.gm_mapfile.specs.inner.Building.{IsRelinked, AreLinkedUnless}
 use Rattle.gm_mapfile.proofs.building.link_darts.Given as goal
 
 abbrev pub invariant-loop-line : goal.invariant-loop-line

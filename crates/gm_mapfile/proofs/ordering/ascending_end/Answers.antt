@@ -2,7 +2,7 @@ use Rattle.std.proofs.Common.{◌≡◌, ◌∷◌, [], ◌++◌, get_or, ap, su
 use Rattle.std.specs.Slice.Iter.{chunks_exact_rest}
 use Rattle.gm_model.specs.Limits.{most_names}
 use Rattle.gm_mapfile.specs.MapFaults.{AreBelow}
-use Rattle.gm_mapfile.specs.Rows.{row_in, rows_in}
+use Rattle.gm_mapfile.specs.inner.Rows.{row_in, rows_in}
 use Rattle.gm_mapfile.proofs.Chunks.{one_more, no_more, name_live, name_of_line, rows_below}
 use Rattle.gm_mapfile.proofs.NextName.{below_more}
 use Rattle.gm_mapfile.proofs.ordering.ascending_end.Goals as goal

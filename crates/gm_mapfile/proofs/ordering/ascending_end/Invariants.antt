@@ -3,7 +3,7 @@ use Rattle.std.specs.Slice.Iter.{chunks_exact_rest, chunks_exact_size}
 use Rattle.gm_model.specs.GMap.{Row}
 use Rattle.gm_model.specs.Limits.{most_names}
 use Rattle.gm_mapfile.specs.MapFaults.{AreBelow}
-use Rattle.gm_mapfile.specs.Rows.{rows_in}
+use Rattle.gm_mapfile.specs.inner.Rows.{rows_in}
 use Rattle.gm_mapfile.proofs.ordering.ascending_end.Given as goal
 
 abbrev pub invariant-loop-line : goal.invariant-loop-line

@@ -1,6 +1,6 @@
 use Rattle.std.proofs.Common.{ℕ, ◌++◌, ◌∷◌, [], map, sym, ap, ◌∙◌, arith}
 use Rattle.std.proofs.lemmas.List.{map-append}
-use Rattle.gm_mapfile.specs.Ordering.{counted_from}
+use Rattle.gm_mapfile.specs.inner.Ordering.{counted_from}
 use Rattle.gm_mapfile.specs.declared.ordering.Line.{Line}
 use Rattle.gm_model.proofs.Exits.{unless_ok}
 use Rattle.gm_mapfile.proofs.Reordered.{counted_push}

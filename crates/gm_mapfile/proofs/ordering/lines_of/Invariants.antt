@@ -1,5 +1,5 @@
 use Rattle.std.proofs.Common.{◌≡◌, map}
-use Rattle.gm_mapfile.specs.Ordering.{counted_from}
+use Rattle.gm_mapfile.specs.inner.Ordering.{counted_from}
 use Rattle.gm_mapfile.specs.declared.ordering.Line.{Line}
 use Rattle.gm_mapfile.proofs.ordering.lines_of.Given as goal
 

@@ -1,5 +1,5 @@
 use Rattle.std.proofs.Common.{◌≡◌, ◌++◌, map, take}
-use Rattle.gm_mapfile.specs.Ordering.{on_lines}
+use Rattle.gm_mapfile.specs.inner.Ordering.{on_lines}
 use Rattle.gm_mapfile.specs.declared.ordering.Line.{Line}
 use Rattle.gm_mapfile.proofs.ordering.take_lines.Given as goal
 

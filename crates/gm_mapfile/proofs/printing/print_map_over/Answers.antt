@@ -2,8 +2,8 @@ use Rattle.std.proofs.Common.{ℕ, ◌+◌, ◌≤◌, List, ◌++◌, sym, ap, 
 use Rattle.gm_model.proofs.Exits.{unless_ok}
 use Rattle.gm_mapfile.proofs.Printed.{printed_within}
 use Rattle.gm_mapfile.specs.MapText.{MapText, canonical}
-use Rattle.gm_mapfile.specs.Printing.{renumbered}
-use Rattle.gm_mapfile.specs.Rows.{listed_of}
+use Rattle.gm_mapfile.specs.inner.Printing.{renumbered}
+use Rattle.gm_mapfile.specs.inner.Rows.{listed_of}
 use Rattle.gm_mapfile.proofs.ArenaDarts.{darts_ascending}
 use Rattle.gm_mapfile.proofs.Printable.{arena_printed}
 use Rattle.gm_mapfile.proofs.SoundRows.{as_listed}

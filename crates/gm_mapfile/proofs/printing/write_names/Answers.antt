@@ -2,7 +2,7 @@ use Rattle.std.proofs.Common.{◌≡◌, ℕ, ◌∷◌, ◌++◌, length, drop,
 use Rattle.std.proofs.lemmas.List.{drop_all, length-map}
 use Rattle.std.specs.List.{flat_map}
 use Rattle.std.specs.Prelude.{decimal}
-use Rattle.gm_arena.specs.ArenaMap.{name_at}
+use Rattle.gm_arena.specs.inner.ArenaMap.{name_at}
 use Rattle.gm_arena.specs.declared.slot.Slot.{Slot}
 use Rattle.gm_mapfile.proofs.Printed.{name_before}
 use Rattle.gm_mapfile.proofs.printing.write_names.Goals as goal

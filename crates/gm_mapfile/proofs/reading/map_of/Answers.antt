@@ -2,9 +2,9 @@ use Rattle.std.proofs.Common.{◌≡◌, ℕ, ◌<◌, ◌≤◌, subst, sym, ap
 use Rattle.std.proofs.lemmas.Result.{err_from_is_err_and}
 use Rattle.std.proofs.Math.Nat.{le_trans}
 use Rattle.gm_model.specs.Limits.{most_names}
-use Rattle.gm_mapfile.specs.Answered.{name_told}
-use Rattle.gm_mapfile.specs.Draft.{version_in}
-use Rattle.gm_mapfile.specs.Faults.{IsNamedFaultOf}
+use Rattle.gm_mapfile.specs.inner.Answered.{name_told}
+use Rattle.gm_mapfile.specs.inner.Draft.{version_in}
+use Rattle.gm_mapfile.specs.inner.Faults.{IsNamedFaultOf}
 use Rattle.gm_model.proofs.Exits.{unless_ok}
 use Rattle.gm_mapfile.proofs.ReadMap.{in_room, name_fault_of, sound_of, text_of_held, law_fault_of, built_within, all_within}
 use Rattle.gm_mapfile.proofs.reading.map_of.Goals as goal

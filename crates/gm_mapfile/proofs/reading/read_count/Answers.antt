@@ -1,6 +1,6 @@
 use Rattle.std.proofs.Common.{[], arith}
 use Rattle.std.proofs.lemmas.Result.{err_from_is_err_and}
-use Rattle.gm_text.specs.Nested.{Outside}
+use Rattle.gm_text.specs.inner.Nested.{Outside}
 use Rattle.gm_mapfile.specs.MapReading.{AtDarts, AtCount, among, darts_wants}
 use Rattle.gm_model.proofs.Exits.{unless_ok}
 use Rattle.gm_mapfile.proofs.Joined.{reads_then, stops_then}

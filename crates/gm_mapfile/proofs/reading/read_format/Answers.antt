@@ -1,6 +1,6 @@
 use Rattle.std.proofs.Common.{rules, true, false}
 use Rattle.std.proofs.lemmas.Result.{err_from_is_err_and}
-use Rattle.gm_text.specs.Nested.{Outside}
+use Rattle.gm_text.specs.inner.Nested.{Outside}
 use Rattle.gm_text.specs.declared.schema_fault.SchemaFault.TheVariants as faults
 use Rattle.gm_mapfile.specs.MapReading.{start, into_schema, AtVersion}
 use Rattle.gm_model.proofs.Exits.{unless_ok}

@@ -1,8 +1,8 @@
 use Rattle.std.proofs.Common.{[]}
 use Rattle.std.proofs.lemmas.Result.{err_from_is_err_and}
-use Rattle.gm_text.specs.Nested.{Outside}
-use Rattle.gm_text.specs.SchemaReading as schema
-use Rattle.gm_mapfile.specs.Draft.{version_in}
+use Rattle.gm_text.specs.inner.Nested.{Outside}
+use Rattle.gm_text.specs.inner.SchemaReading as schema
+use Rattle.gm_mapfile.specs.inner.Draft.{version_in}
 use Rattle.gm_mapfile.specs.MapReading.{Head, start, into_schema, behind_schema, AtDarts, among, darts_wants}
 use Rattle.gm_model.proofs.Exits.{unless_ok}
 use Rattle.gm_mapfile.proofs.Joined.{reads_then, stops_then}

@@ -1,5 +1,5 @@
 use Rattle.std.proofs.Common.{pos, [], ◌∷◌, subst, arith}
-use Rattle.gm_text.specs.Cursor.{Cursor}
+use Rattle.gm_text.specs.inner.Cursor.{Cursor}
 use Rattle.gm_mapfile.specs.MapText.{DartName}
 use Rattle.gm_mapfile.specs.MapReading.{TheNumber, Takes}
 use Rattle.gm_mapfile.proofs.MapSteps.{name_takes}

@@ -1,7 +1,7 @@
 use Rattle.std.proofs.Common.{rules, ◌≡◌, ◌≤◌, true, false, pos, ◌∷◌, [], refl, subst, to_z, arith}
 use Rattle.std.specs.Int.{w64}
 use Rattle.std.specs.Prelude.{IfOk, IfErr}
-use Rattle.gm_text.specs.Cursor.{Cursor}
+use Rattle.gm_text.specs.inner.Cursor.{Cursor}
 use Rattle.gm_text.specs.ValueText.{greatest, is_channel}
 use Rattle.gm_mapfile.specs.MapReading.{Takes, Misses, Component}
 use Rattle.gm_mapfile.proofs.ValueSteps.{component_takes}

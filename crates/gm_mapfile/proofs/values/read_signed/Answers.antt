@@ -2,8 +2,8 @@ use Rattle.gm_model.proofs.Exits.{unless_ok}
 use Rattle.std.specs.Prelude.{IfOk, IfErr}
 use Rattle.std.proofs.Common.{false, subst, ◌∙◌}
 use Rattle.std.proofs.lemmas.Result.{err_from_is_err_and}
-use Rattle.gm_text.specs.Cursor.{Cursor}
-use Rattle.gm_mapfile.specs.Words.{IsSignedNext, IsNoSignedNext}
+use Rattle.gm_text.specs.inner.Cursor.{Cursor}
+use Rattle.gm_mapfile.specs.inner.Words.{IsSignedNext, IsNoSignedNext}
 use Rattle.gm_mapfile.proofs.WordTokens.{plain_next, sign_next, minus_next, minus_lacks}
 use Rattle.gm_mapfile.proofs.values.read_signed.Goals as goal
 

@@ -1,10 +1,10 @@
 use Rattle.std.proofs.Common.{ℕ, sym, subst, ◌∙◌, arith}
-use Rattle.gm_arena.specs.ArenaMap.{alpha}
+use Rattle.gm_arena.specs.inner.ArenaMap.{alpha}
 use Rattle.gm_model.specs.declared.step.Step.{Step}
 use Rattle.gm_model.specs.Matches.{IsStepMet}
 use Rattle.gm_model.specs.Structure.{AreGood, IsFirstBad}
 use Rattle.std.specs.Option.{MatchOption}
-use Rattle.gm_match.specs.Outcome.{place_of}
+use Rattle.gm_match.specs.inner.Outcome.{place_of}
 use Rattle.gm_match.proofs.ForcedMet.{forced_met}
 use Rattle.gm_match.proofs.Stepping.{other_below, place_below}
 use Rattle.gm_match.proofs.TestsMet.{exp_some, imp_some}

@@ -1,10 +1,10 @@
 use borrow.Author.Count.{below_more, below_none}
 use Rattle.std.proofs.Common.{arith}
 use Rattle.std.proofs.Math.Nat.{le_refl, lt_of_lt_of_le}
-use Rattle.gm_arena.specs.ArenaMap.{alpha}
+use Rattle.gm_arena.specs.inner.ArenaMap.{alpha}
 use Rattle.gm_model.specs.declared.step.Step.TheVariants.{Exp}
 use Rattle.gm_model.specs.Matches.{IsStepMet}
-use Rattle.gm_match.specs.Outcome.{place_of}
+use Rattle.gm_match.specs.inner.Outcome.{place_of}
 use Rattle.gm_match.proofs.Leading.{linked, unlinked}
 use Rattle.gm_match.proofs.Stepping.{slot_live}
 use Rattle.gm_match.proofs.arcs.first_unlinked.Goals as goal

@@ -1,9 +1,9 @@
 use Rattle.std.proofs.Common.{◌+◌, ◌≤◌}
-use Rattle.gm_arena.specs.ArenaMap.{alpha}
+use Rattle.gm_arena.specs.inner.ArenaMap.{alpha}
 use Rattle.gm_model.specs.declared.step.Step.TheVariants.{Exp}
 use Rattle.gm_model.specs.Matches.{IsStepMet}
 use Rattle.gm_model.specs.Structure.{AreGood}
-use Rattle.gm_match.specs.Outcome.{place_of}
+use Rattle.gm_match.specs.inner.Outcome.{place_of}
 use Rattle.gm_match.proofs.arcs.first_unlinked.Given as goal
 
 abbrev pub invariant-loop-position : goal.invariant-loop-position

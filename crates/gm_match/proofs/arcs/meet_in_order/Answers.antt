@@ -4,8 +4,8 @@ use Rattle.gm_model.specs.declared.rule.Side.TheVariants.{Left}
 use Rattle.gm_model.specs.Rules.{rule_of}
 use Rattle.gm_model.specs.Structure.{IsFirstBad}
 use Rattle.gm_theory.proofs.RuleSteps.{word_below}
-use Rattle.gm_match.specs.Firsts.{AreMetBy}
-use Rattle.gm_match.specs.Firsts.IsFirstStep.{NotMet}
+use Rattle.gm_match.specs.inner.Firsts.{AreMetBy}
+use Rattle.gm_match.specs.inner.Firsts.IsFirstStep.{NotMet}
 use Rattle.gm_match.proofs.Costs.{nothing_below, part_cost, whole_cost}
 use Rattle.gm_match.proofs.ForcedMet.{all_met}
 use Rattle.gm_match.proofs.Stepping.{same_count}

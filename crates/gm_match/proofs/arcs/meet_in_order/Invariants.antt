@@ -1,7 +1,7 @@
 use Rattle.std.proofs.Common.{◌+◌, ◌*◌, ◌≤◌}
 use Rattle.gm_model.specs.Rules.{rule_of}
 use Rattle.gm_model.specs.Structure.{AreGood}
-use Rattle.gm_match.specs.Firsts.{AreMetBy}
+use Rattle.gm_match.specs.inner.Firsts.{AreMetBy}
 use Rattle.gm_match.proofs.arcs.meet_in_order.Given as goal
 
 abbrev pub invariant-loop-node : goal.invariant-loop-node

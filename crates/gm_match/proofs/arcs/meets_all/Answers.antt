@@ -2,15 +2,15 @@ use Rattle.std.proofs.Common.{ℕ, ◌+◌, ◌*◌, ◌≤◌, get_or, length, 
 use Rattle.std.proofs.lemmas.Bool.{cases_eq, false≢true}
 use Rattle.std.proofs.lemmas.Option.{same_Some, slice_get-get_or, slice_get_within}
 use Rattle.std.proofs.Math.Nat.{le_trans}
-use Rattle.gm_arena.specs.ArenaAsMap.{as_map}
+use Rattle.gm_arena.specs.inner.ArenaAsMap.{as_map}
 use Rattle.gm_model.specs.declared.schema.Schema.{Schema}
 use Rattle.gm_model.specs.declared.step.Step.TheVariants.{Absent}
 use Rattle.gm_model.specs.Matches.{IsMetAt}
 use Rattle.gm_model.specs.Rules.{rule_of}
 use Rattle.gm_model.specs.Structure.{AreGood}
 use Rattle.gm_plan.specs.declared.tested.Test.{Test}
-use Rattle.gm_plan.specs.Tested.{test_of}
-use Rattle.gm_match.specs.Outcome.{place_of}
+use Rattle.gm_plan.specs.inner.Tested.{test_of}
+use Rattle.gm_match.specs.inner.Outcome.{place_of}
 use Rattle.gm_match.proofs.TestsMet.{each_met, label_found, node_found, none_broken, tests_cost}
 use Rattle.gm_match.proofs.arcs.meets_all.Goals as goal
 

@@ -1,11 +1,11 @@
 use Rattle.std.proofs.Common.{◌≡◌, ℕ, ◌+◌, ◌*◌, ◌<◌, ◌≤◌, Some}
 use Rattle.std.specs.List.{slice_get}
-use Rattle.gm_arena.specs.ArenaAsMap.{as_map}
+use Rattle.gm_arena.specs.inner.ArenaAsMap.{as_map}
 use Rattle.gm_model.specs.Matches.{IsMetAt}
 use Rattle.gm_model.specs.Rules.{rule_of}
 use Rattle.gm_model.specs.Structure.{AreGood}
 use Rattle.gm_plan.specs.declared.tested.Test.{Test}
-use Rattle.gm_match.specs.Outcome.{place_of}
+use Rattle.gm_match.specs.inner.Outcome.{place_of}
 use Rattle.gm_match.proofs.arcs.meets_all.Given as goal
 
 abbrev pub invariant-loop-test : goal.invariant-loop-test

@@ -5,11 +5,11 @@ use Rattle.std.proofs.lemmas.Option.{get_or_from_slice_get}
 use Rattle.std.proofs.lemmas.Result.{IfOk-from_err}
 use Rattle.gm_model.specs.Rules.{rule_of}
 use Rattle.gm_arena.specs.declared.slot.Slot.{Slot}
-use Rattle.gm_arena.specs.ArenaMap.{IsLiveName, IsLiveSlot, name_at}
+use Rattle.gm_arena.specs.inner.ArenaMap.{IsLiveName, IsLiveSlot, name_at}
 use Rattle.gm_arena.proofs.MapLemmas.{IsLiveName-name_at}
 use Rattle.gm_theory.proofs.Candidates.{hook_left}
-use Rattle.gm_walk.specs.Turns.{IsTurn}
-use Rattle.gm_walk.specs.Walks.{names_of}
+use Rattle.gm_walk.specs.inner.Turns.{IsTurn}
+use Rattle.gm_walk.specs.inner.Walks.{names_of}
 use Rattle.gm_walk.proofs.CellLemmas.{each_entry}
 use Rattle.gm_walk.proofs.NameLemmas.{name_there}
 use Rattle.gm_match.proofs.Placing.{IsTurned, names_begin, some_position, firsts_of, is_candidate, walk_slots}

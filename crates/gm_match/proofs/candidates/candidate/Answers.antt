@@ -4,13 +4,13 @@ use Rattle.gm_model.proofs.Exits.{unless_ok}
 use Rattle.gm_model.specs.Orbits.{IsWalk}
 use Rattle.gm_model.specs.Rules.{rule_of, first_hook}
 use Rattle.std.specs.Prelude.{slice_index}
-use Rattle.gm_walk.specs.Cells.{AreCells}
-use Rattle.gm_walk.specs.Room.{Fits}
-use Rattle.gm_walk.specs.Turns.{IsTurn}
-use Rattle.gm_match.specs.Layout.{ends, walk_of}
-use Rattle.gm_match.specs.Taken.{AreSlotsOf}
+use Rattle.gm_walk.specs.inner.Cells.{AreCells}
+use Rattle.gm_walk.specs.inner.Room.{Fits}
+use Rattle.gm_walk.specs.inner.Turns.{IsTurn}
+use Rattle.gm_match.specs.inner.Layout.{ends, walk_of}
+use Rattle.gm_match.specs.inner.Taken.{AreSlotsOf}
 use Rattle.gm_match.proofs.EdgeWalks.{other_walk, walk_made}
-use Rattle.gm_walk.specs.Walks.{AreLive, along, names_of}
+use Rattle.gm_walk.specs.inner.Walks.{AreLive, along, names_of}
 use Rattle.gm_walk.proofs.NameLemmas.{name_there}
 use Rattle.gm_match.proofs.Placing.{hook_has_word, word_is, can_be_walked, walk_cost, along_cost}
 use Rattle.gm_match.proofs.candidates.candidate.Goals as goal

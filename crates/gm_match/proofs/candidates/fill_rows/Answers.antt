@@ -5,12 +5,12 @@ use Rattle.std.proofs.lemmas.List.Elements.{All-get_or, All-replicate}
 use Rattle.gm_model.specs.Rules.{rule_of, width}
 use Rattle.std.specs.List.{slice_get}
 use Rattle.gm_arena.specs.declared.slot.Slot.{Slot}
-use Rattle.gm_arena.specs.ArenaMap.{IsLiveSlot}
-use Rattle.gm_plan.specs.Plans.{IsLeftCount}
+use Rattle.gm_arena.specs.inner.ArenaMap.{IsLiveSlot}
+use Rattle.gm_plan.specs.inner.Plans.{IsLeftCount}
 use Rattle.gm_plan.proofs.Hooks.{few_hooks}
-use Rattle.gm_walk.specs.Walks.{AreLive, names_of}
+use Rattle.gm_walk.specs.inner.Walks.{AreLive, names_of}
 use Rattle.gm_walk.proofs.NameLemmas.{name_there}
-use Rattle.gm_match.specs.Layout.{AreRows, dart_in, stepped}
+use Rattle.gm_match.specs.inner.Layout.{AreRows, dart_in, stepped}
 use Rattle.gm_match.proofs.Growing.{first_next, later_next, none_yet, one_first, one_more, wide_row, none_ok}
 use Rattle.gm_match.proofs.Costs.{row_cost, row_room, some_node}
 use Rattle.gm_match.proofs.Stepping.{same_count}

@@ -1,7 +1,7 @@
 use Rattle.std.proofs.Common.{◌+◌, ◌*◌, ◌≤◌, length, vec_capacity}
 use Rattle.gm_model.specs.Rules.{rule_of}
-use Rattle.gm_walk.specs.Walks.{AreLive, names_of}
-use Rattle.gm_match.specs.Layout.{AreRows, LeadBefore}
+use Rattle.gm_walk.specs.inner.Walks.{AreLive, names_of}
+use Rattle.gm_match.specs.inner.Layout.{AreRows, LeadBefore}
 use Rattle.gm_match.proofs.candidates.fill_rows.Given as goal
 
 abbrev pub invariant-loop-position : goal.invariant-loop-position

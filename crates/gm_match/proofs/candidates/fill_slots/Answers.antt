@@ -2,10 +2,10 @@ use Rattle.std.proofs.Common.{◌∙◌, length, sym, subst}
 use Rattle.std.proofs.Math.Nat.{le_refl}
 use Rattle.std.proofs.lemmas.Result.{on_ok_weaker}
 use Rattle.gm_model.specs.Rules.{rule_of}
-use Rattle.gm_plan.specs.Plans.{IsLeftCount}
+use Rattle.gm_plan.specs.inner.Plans.{IsLeftCount}
 use Rattle.gm_plan.proofs.Hooks.{few_hooks}
-use Rattle.gm_walk.specs.Walks.{names_of}
-use Rattle.gm_match.specs.Layout.{AreRows}
+use Rattle.gm_walk.specs.inner.Walks.{names_of}
+use Rattle.gm_match.specs.inner.Layout.{AreRows}
 use Rattle.gm_match.proofs.Column.{column_rows}
 use Rattle.gm_match.proofs.Costs.{row_cost, some_node}
 use Rattle.gm_match.proofs.OneNode.{walk_rows}

@@ -1,5 +1,5 @@
 use Rattle.std.proofs.Common.{ℕ, ◌-◌, ◌≤◌, length}
-use Rattle.gm_match.specs.Layout.{IsFirstTo}
+use Rattle.gm_match.specs.inner.Layout.{IsFirstTo}
 use Rattle.gm_match.proofs.candidates.next_turn.Given as goal
 
 abbrev pub invariant-loop-turn : goal.invariant-loop-turn

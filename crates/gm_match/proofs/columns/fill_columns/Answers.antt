@@ -3,8 +3,8 @@ use Rattle.std.proofs.Math.Nat.{le_refl}
 use Rattle.gm_model.proofs.Exits.{never_ok}
 use Rattle.gm_model.specs.Rules.{rule_of}
 use Rattle.gm_plan.proofs.Hooks.{few_hooks}
-use Rattle.gm_walk.specs.Walks.{AreLive, names_of}
-use Rattle.gm_match.specs.Layout.{AreAlongWalk}
+use Rattle.gm_walk.specs.inner.Walks.{AreLive, names_of}
+use Rattle.gm_match.specs.inner.Layout.{AreAlongWalk}
 use Rattle.gm_match.proofs.Costs.{few_slots, row_cost, row_room}
 use Rattle.gm_match.proofs.EdgeRows.{written_whole}
 use Rattle.gm_match.proofs.Column.{resized_live}

@@ -2,9 +2,9 @@ use Rattle.std.proofs.Common.{◌+◌, ◌*◌, inl, inr, length, sym, ◌∙◌
 use Rattle.std.proofs.Math.Nat.{le_refl}
 use Rattle.std.proofs.lemmas.List.Elements.{All-set, All-get_or}
 use Rattle.gm_arena.specs.declared.slot.Slot.{Slot}
-use Rattle.gm_arena.specs.ArenaMap.{IsLiveSlot, alpha}
+use Rattle.gm_arena.specs.inner.ArenaMap.{IsLiveSlot, alpha}
 use Rattle.gm_walk.proofs.NameLemmas.{live_at}
-use Rattle.gm_match.specs.Layout.{dart_at}
+use Rattle.gm_match.specs.inner.Layout.{dart_at}
 use Rattle.gm_match.proofs.Column.{place_within, column_begun, column_next, led_on, place_low, start_low}
 use Rattle.gm_match.proofs.Paths.{row_name}
 use Rattle.gm_match.proofs.columns.follow_link.Goals as goal

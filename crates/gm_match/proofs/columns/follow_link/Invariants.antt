@@ -1,7 +1,7 @@
 use Rattle.std.proofs.Common.{◌≡◌, ◌+◌}
-use Rattle.gm_arena.specs.ArenaMap.{alpha}
-use Rattle.gm_walk.specs.Walks.{AreLive}
-use Rattle.gm_match.specs.Layout.{dart_at}
+use Rattle.gm_arena.specs.inner.ArenaMap.{alpha}
+use Rattle.gm_walk.specs.inner.Walks.{AreLive}
+use Rattle.gm_match.specs.inner.Layout.{dart_at}
 use Rattle.gm_match.proofs.Column.{IsColumnSoFar}
 use Rattle.gm_match.proofs.columns.follow_link.Given as goal
 

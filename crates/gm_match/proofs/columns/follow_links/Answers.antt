@@ -1,7 +1,7 @@
 use Rattle.std.proofs.Common.{ℕ, get_or, refl, ◌∙◌, arith}
 use Rattle.std.proofs.lemmas.Option.{slice_get-get_or}
 use Rattle.gm_model.specs.Rules.{link_from, rule_of}
-use Rattle.gm_match.specs.Layout.{dart_at}
+use Rattle.gm_match.specs.inner.Layout.{dart_at}
 use Rattle.gm_match.proofs.Column.{links_cost}
 use Rattle.gm_match.proofs.Paths.{from_left, to_left, low_label, few_links, hooks_reached, hooks_stay, all_forced, link_reached}
 use Rattle.gm_match.proofs.columns.follow_links.Goals as goal

@@ -2,8 +2,8 @@ use Rattle.std.proofs.Common.{◌+◌, ◌*◌, get_or, length, sym, ◌∙◌}
 use Rattle.std.proofs.lemmas.List.Elements.{All-get_or, All-set}
 use Rattle.std.specs.Prelude.{slice_index}
 use Rattle.gm_arena.specs.declared.slot.Slot.{Slot}
-use Rattle.gm_arena.specs.ArenaMap.{IsLiveSlot}
-use Rattle.gm_walk.specs.Walks.{names_of}
+use Rattle.gm_arena.specs.inner.ArenaMap.{IsLiveSlot}
+use Rattle.gm_walk.specs.inner.Walks.{names_of}
 use Rattle.gm_walk.proofs.NameLemmas.{name_there}
 use Rattle.gm_match.proofs.Column.{place_within, column_next}
 use Rattle.gm_match.proofs.columns.lay_walk.Goals as goal

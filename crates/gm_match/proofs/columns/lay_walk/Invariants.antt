@@ -1,5 +1,5 @@
 use Rattle.std.specs.Prelude.{slice_index}
-use Rattle.gm_walk.specs.Walks.{AreLive, names_of}
+use Rattle.gm_walk.specs.inner.Walks.{AreLive, names_of}
 use Rattle.gm_match.proofs.Column.{IsColumnSoFar}
 use Rattle.gm_match.proofs.columns.lay_walk.Given as goal
 

@@ -1,8 +1,8 @@
 use Rattle.std.proofs.Common.{◌≡◌, ◌<◌, length, refl, sym, subst, ◌∙◌, arith}
 use Rattle.std.specs.Prelude.{slice_index}
 use Rattle.gm_model.specs.Rules.{rule_of}
-use Rattle.gm_walk.specs.Walks.{names_of}
-use Rattle.gm_match.specs.Layout.{dart_at}
+use Rattle.gm_walk.specs.inner.Walks.{names_of}
+use Rattle.gm_match.specs.inner.Layout.{dart_at}
 use Rattle.gm_match.proofs.Costs.{one_each}
 use Rattle.gm_match.proofs.Growing.{one_hook}
 use Rattle.gm_match.proofs.Hooks.{hooks_long, hook_at, hook_below}

@@ -4,11 +4,11 @@ use Rattle.std.proofs.lemmas.List.Elements.{All-push}
 use Rattle.std.proofs.lemmas.Option.{slice_get-get_or}
 use Rattle.std.specs.List.{slice_get}
 use Rattle.gm_arena.specs.declared.slot.Slot.{Slot}
-use Rattle.gm_arena.specs.ArenaMap.{ArenaMap, IsAt, IsLiveSlot, IsLiveName, name_at}
+use Rattle.gm_arena.specs.inner.ArenaMap.{ArenaMap, IsAt, IsLiveSlot, IsLiveName, name_at}
 use Rattle.gm_walk.proofs.NameLemmas.{at_name, live_at}
 use Rattle.gm_theory.proofs.Lists.{some_same}
-use Rattle.gm_match.specs.Layout.{AreHookSlots}
-use Rattle.gm_match.specs.Layout.IsNoDart.{Dead}
+use Rattle.gm_match.specs.inner.Layout.{AreHookSlots}
+use Rattle.gm_match.specs.inner.Layout.IsNoDart.{Dead}
 use Rattle.gm_match.proofs.darts.hook_darts.Goals as goal
 
 -- one more hook that names a live dart

@@ -1,5 +1,5 @@
 use Rattle.std.proofs.Common.{◌≡◌, ◌+◌, ◌≤◌, length, take}
-use Rattle.gm_match.specs.Layout.{AreDarts, AreHookSlots}
+use Rattle.gm_match.specs.inner.Layout.{AreDarts, AreHookSlots}
 use Rattle.gm_match.proofs.darts.hook_darts.Given as goal
 
 abbrev pub invariant-loop-index : goal.invariant-loop-index

@@ -1,7 +1,7 @@
 use Rattle.std.proofs.Common.{length, drop, subst, ◌∙◌, sym, arith}
 use Rattle.gm_model.specs.Rules.{rule_of}
-use Rattle.gm_walk.specs.Walks.{names_of, AreLive}
-use Rattle.gm_match.specs.Layout.{AreRows}
+use Rattle.gm_walk.specs.inner.Walks.{names_of, AreLive}
+use Rattle.gm_match.specs.inner.Layout.{AreRows}
 use Rattle.gm_match.proofs.EdgeRows.{written_whole}
 use Rattle.std.proofs.Math.Nat.{le_refl, le_trans}
 use Rattle.gm_model.proofs.Exits.{never_ok}

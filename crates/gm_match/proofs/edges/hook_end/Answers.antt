@@ -4,7 +4,7 @@ use Rattle.gm_model.specs.Rules.{rule_of, letters, label_at}
 use Rattle.gm_theory.proofs.Lists.{some_same, contained_at}
 use Rattle.gm_match.proofs.EdgeRows.{only_letter}
 use Rattle.std.proofs.lemmas.Option.{slice_get_within}
-use Rattle.gm_arena.specs.ArenaMap.{alpha, name_at}
+use Rattle.gm_arena.specs.inner.ArenaMap.{alpha, name_at}
 use Rattle.gm_theory.proofs.Candidates.{letter_low}
 use Rattle.gm_walk.proofs.NameLemmas.{at_name, live_at}
 use Rattle.gm_match.proofs.EdgeWalks.{same_label}

@@ -2,7 +2,7 @@ use Rattle.std.proofs.Common.{◌∙◌, set, ◌+◌, ◌<◌, ◌*◌, length,
 use Rattle.gm_match.proofs.EdgeRows.{first_stays, second_stays, first_set, second_set}
 use Rattle.std.proofs.lemmas.List.Elements.{All-set}
 use Rattle.gm_arena.specs.declared.slot.Slot.{Slot}
-use Rattle.gm_arena.specs.ArenaMap.{IsLiveSlot}
+use Rattle.gm_arena.specs.inner.ArenaMap.{IsLiveSlot}
 use Rattle.gm_match.proofs.Column.{place_within}
 use Rattle.gm_match.proofs.edges.lay_ends.Goals as goal
 

@@ -1,11 +1,11 @@
 use Rattle.std.proofs.Common.{◌<◌, ◌≤◌, get_or, length, sym, ap, subst, ◌∙◌, arith, ◌-◌, refl}
 use Rattle.gm_model.specs.declared.rule.Side.TheVariants.{Left}
 use Rattle.gm_model.specs.Rules.{rule_of, letters, label_at}
-use Rattle.gm_arena.specs.ArenaMap.{alpha, name_at}
+use Rattle.gm_arena.specs.inner.ArenaMap.{alpha, name_at}
 use Rattle.gm_theory.proofs.Candidates.{hook_left}
-use Rattle.gm_walk.specs.Walks.{names_of}
+use Rattle.gm_walk.specs.inner.Walks.{names_of}
 use Rattle.gm_walk.proofs.NameLemmas.{name_there}
-use Rattle.gm_match.specs.Layout.{AreHooksLaid}
+use Rattle.gm_match.specs.inner.Layout.{AreHooksLaid}
 use Rattle.gm_match.proofs.EdgeRows.{next_laid, first_laid}
 use Rattle.gm_match.proofs.Hooks.{hook_there, hooks_long, some_hook, hook_at, hook_among, hook_below}
 use Rattle.gm_match.proofs.edges.lay_hooks.Goals as goal

@@ -1,7 +1,7 @@
 use Rattle.std.proofs.Common.{◌≡◌, ◌+◌, length}
 use Rattle.gm_model.specs.Rules.{rule_of}
-use Rattle.gm_walk.specs.Walks.{AreLive, names_of}
-use Rattle.gm_match.specs.Layout.{AreHooksLaid}
+use Rattle.gm_walk.specs.inner.Walks.{AreLive, names_of}
+use Rattle.gm_match.specs.inner.Layout.{AreHooksLaid}
 use Rattle.gm_match.proofs.edges.lay_hooks.Given as goal
 
 abbrev pub invariant-loop-index : goal.invariant-loop-index

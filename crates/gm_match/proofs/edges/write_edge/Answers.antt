@@ -1,6 +1,6 @@
 use Rattle.std.proofs.Common.{length, sym, subst, ◌∙◌, ◌<◌}
 use Rattle.gm_model.specs.Rules.{rule_of}
-use Rattle.gm_walk.specs.Walks.{names_of}
+use Rattle.gm_walk.specs.inner.Walks.{names_of}
 use Rattle.gm_match.proofs.EdgeRows.{edge_cost, edge_rows}
 use Rattle.gm_match.proofs.edges.write_edge.Goals as goal
 

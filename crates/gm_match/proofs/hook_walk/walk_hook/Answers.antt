@@ -1,10 +1,10 @@
 use Rattle.std.proofs.Common.{length, sym, subst, ◌∙◌, refl}
-use Rattle.gm_arena.specs.ArenaMap.{name_at}
+use Rattle.gm_arena.specs.inner.ArenaMap.{name_at}
 use Rattle.gm_model.specs.Orbits.{IsWalk}
-use Rattle.gm_walk.specs.Cells.{AreCells}
-use Rattle.gm_walk.specs.Turns.{IsTurn}
-use Rattle.gm_walk.specs.Walks.{AreLive, along, names_of}
-use Rattle.gm_match.specs.Layout.{ends}
+use Rattle.gm_walk.specs.inner.Cells.{AreCells}
+use Rattle.gm_walk.specs.inner.Turns.{IsTurn}
+use Rattle.gm_walk.specs.inner.Walks.{AreLive, along, names_of}
+use Rattle.gm_match.specs.inner.Layout.{ends}
 use Rattle.gm_match.proofs.EdgeWalks.{edge_steps, ends_live, ends_long, one_walk, other_walk}
 use Rattle.gm_model.proofs.Exits.{unless_ok}
 use Rattle.gm_match.proofs.hook_walk.walk_hook.Goals as goal

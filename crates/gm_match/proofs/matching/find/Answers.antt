@@ -5,7 +5,7 @@ use Rattle.std.proofs.lemmas.Result.{err_from_is_err_and}
 use Rattle.gm_model.specs.declared.rule.RuleTable.{RuleTable}
 use Rattle.gm_model.specs.Rules.{rule_of, first_hook}
 use Rattle.gm_plan.proofs.Hooks.{few_hooks}
-use Rattle.gm_match.specs.Taken.{TakesEachOnce}
+use Rattle.gm_match.specs.inner.Taken.{TakesEachOnce}
 use Rattle.gm_match.proofs.Answering.{sound_of, is_nil, not_nil, no_items, none_within, as_many, within_taken, first_same, several_letters, slots_below, first_below, dart_cause, dart_missed, missed_cost, created, begun_with, made_with, named_cost, named_tested_cost, step_cause, step_missed, twice_cause, twice_missed, hook_once, answer}
 use Rattle.gm_match.proofs.Costs.{no_cost}
 use Rattle.gm_match.proofs.Placing.{hook_has_word, word_is}

@@ -1,5 +1,5 @@
 use Rattle.std.proofs.Common.{◌≡◌, ℕ}
-use Rattle.gm_match.specs.Taken.{AreApart}
+use Rattle.gm_match.specs.inner.Taken.{AreApart}
 use Rattle.gm_match.proofs.repeats.take_apart.Given as goal
 
 abbrev pub invariant-loop-position : goal.invariant-loop-position

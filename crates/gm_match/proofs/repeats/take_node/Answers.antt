@@ -1,6 +1,6 @@
 use Rattle.std.proofs.Common.{◌≡◌, Some, refl, sym, subst, ◌∙◌, arith}
 use Rattle.std.specs.List.{slice_get, Contains}
-use Rattle.gm_walk.specs.Room.{Room}
+use Rattle.gm_walk.specs.inner.Room.{Room}
 use Rattle.gm_match.proofs.Taking.{node_taken, placed, known_place, earlier_node, slot_taken, slot_below, taken_twice, bound_kept}
 use Rattle.gm_walk.proofs.NameLemmas.{is_new, not_new}
 use Rattle.gm_match.proofs.repeats.take_node.Goals as goal

@@ -1,5 +1,5 @@
 use Rattle.std.proofs.Common.{◌≡◌}
-use Rattle.gm_match.specs.Taken.{IsTaken}
+use Rattle.gm_match.specs.inner.Taken.{IsTaken}
 use Rattle.gm_match.proofs.repeats.take_node.Given as goal
 
 abbrev pub invariant-loop-position : goal.invariant-loop-position

@@ -1,5 +1,5 @@
 use Rattle.std.proofs.Common.{◌≡◌}
-use Rattle.gm_match.specs.Taken.{IsTaken}
+use Rattle.gm_match.specs.inner.Taken.{IsTaken}
 use Rattle.gm_match.proofs.repeats.take_once.Given as goal
 
 abbrev pub invariant-loop-node : goal.invariant-loop-node

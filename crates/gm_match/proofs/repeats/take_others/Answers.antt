@@ -1,7 +1,7 @@
 use Rattle.std.proofs.Common.{◌≡◌, ◌<◌, All, refl, sym, subst, ◌∙◌, arith}
 use Rattle.std.proofs.lemmas.Bool.{false≢true}
 use Rattle.gm_arena.specs.declared.slot.Slot.{Slot}
-use Rattle.gm_match.specs.Taken.{AreApart}
+use Rattle.gm_match.specs.inner.Taken.{AreApart}
 use Rattle.gm_match.proofs.Apart.{one_apart, hook_passed, all_apart}
 use Rattle.gm_match.proofs.repeats.take_others.Goals as goal
 

@@ -1,5 +1,5 @@
 use Rattle.std.proofs.Common.{◌≡◌}
-use Rattle.gm_match.specs.Taken.{AreApart}
+use Rattle.gm_match.specs.inner.Taken.{AreApart}
 use Rattle.gm_match.proofs.repeats.take_others.Given as goal
 
 abbrev pub invariant-loop-node : goal.invariant-loop-node

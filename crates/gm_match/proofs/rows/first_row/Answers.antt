@@ -2,7 +2,7 @@ use Rattle.std.proofs.Common.{◌<◌, get_or, length, ◌∙◌, arith, length-
 use Rattle.std.proofs.lemmas.List.Elements.{All-get_or, All-set}
 use Rattle.std.proofs.lemmas.Option.{slice_get_within}
 use Rattle.gm_arena.specs.declared.slot.Slot.{Slot}
-use Rattle.gm_arena.specs.ArenaMap.{IsLiveSlot}
+use Rattle.gm_arena.specs.inner.ArenaMap.{IsLiveSlot}
 use Rattle.gm_model.specs.Rules.{rule_of}
 use Rattle.gm_match.proofs.Hooks.{hook_there}
 use Rattle.gm_match.proofs.Paths.{hook_within}

@@ -2,8 +2,8 @@ use Rattle.std.proofs.Common.{◌≡◌, ℕ, ◌<◌, Some, length}
 use Rattle.std.specs.List.{slice_get}
 use Rattle.std.specs.Prelude.{slice_index}
 use Rattle.gm_model.specs.Rules.{rule_of}
-use Rattle.gm_walk.specs.Walks.{AreLive, names_of}
-use Rattle.gm_match.specs.Layout.{dart_in}
+use Rattle.gm_walk.specs.inner.Walks.{AreLive, names_of}
+use Rattle.gm_match.specs.inner.Layout.{dart_in}
 use Rattle.gm_match.proofs.rows.first_row.Given as goal
 
 abbrev pub invariant-loop-index : goal.invariant-loop-index

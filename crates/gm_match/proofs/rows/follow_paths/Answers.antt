@@ -2,10 +2,10 @@ use Rattle.std.proofs.Common.{get_or, set, subst, ◌∙◌, arith, length-set}
 use Rattle.std.proofs.lemmas.List.Elements.{All-get_or, All-set}
 use Rattle.std.proofs.lemmas.Option.{slice_get-get_or}
 use Rattle.gm_arena.specs.declared.slot.Slot.{Slot}
-use Rattle.gm_arena.specs.ArenaMap.{IsAt, IsLiveSlot, alpha}
+use Rattle.gm_arena.specs.inner.ArenaMap.{IsAt, IsLiveSlot, alpha}
 use Rattle.gm_model.specs.Rules.{link_from, rule_of}
 use Rattle.gm_walk.proofs.NameLemmas.{live_at}
-use Rattle.gm_match.specs.Layout.{dart_in}
+use Rattle.gm_match.specs.inner.Layout.{dart_in}
 use Rattle.gm_match.proofs.Paths.{from_within, to_within, low_label, few_links, hooks_reached, hooks_stay, all_forced, link_reached, link_set, dart_stays, row_name}
 use Rattle.gm_match.proofs.rows.follow_paths.Goals as goal
 

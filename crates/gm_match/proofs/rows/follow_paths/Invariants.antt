@@ -1,12 +1,12 @@
 use Rattle.std.proofs.Common.{◌≡◌, ℕ, ◌+◌, List, length, take}
 use Rattle.std.specs.List.{Contains}
-use Rattle.gm_arena.specs.ArenaMap.{alpha}
+use Rattle.gm_arena.specs.inner.ArenaMap.{alpha}
 use Rattle.gm_model.specs.Matches.{IsPathTo}
 use Rattle.gm_model.specs.Orbits.{follow}
 use Rattle.gm_model.specs.Rules.{rule_of}
-use Rattle.gm_plan.specs.Paths.{path_nodes}
-use Rattle.gm_walk.specs.Walks.{AreLive}
-use Rattle.gm_match.specs.Layout.{dart_in}
+use Rattle.gm_plan.specs.inner.Paths.{path_nodes}
+use Rattle.gm_walk.specs.inner.Walks.{AreLive}
+use Rattle.gm_match.specs.inner.Layout.{dart_in}
 use Rattle.gm_match.proofs.rows.follow_paths.Given as goal
 
 abbrev pub invariant-loop-link : goal.invariant-loop-link

@@ -4,9 +4,9 @@ use Rattle.std.proofs.lemmas.Bool.{cases_eq}
 use Rattle.std.proofs.lemmas.List.Elements.{All-set}
 use Rattle.std.proofs.lemmas.Option.{slice_get_within, get_or_from_slice_get}
 use Rattle.gm_arena.specs.declared.slot.Slot.{Slot}
-use Rattle.gm_arena.specs.ArenaMap.{IsLiveSlot}
+use Rattle.gm_arena.specs.inner.ArenaMap.{IsLiveSlot}
 use Rattle.gm_model.specs.Rules.{rule_of}
-use Rattle.gm_match.specs.Layout.{dart_in, stepped}
+use Rattle.gm_match.specs.inner.Layout.{dart_in, stepped}
 use Rattle.gm_match.proofs.Costs.{none_between, hooks_cost, hooks_least}
 use Rattle.gm_match.proofs.Growing.{one_hook, own_set, other_stays}
 use Rattle.gm_match.proofs.Hooks.{hook_there, hooks_long}

@@ -1,10 +1,10 @@
 use Rattle.std.proofs.Common.{◌≡◌, ℕ, ◌+◌, ◌<◌, Some, length}
 use Rattle.std.specs.List.{slice_get}
-use Rattle.gm_arena.specs.ArenaMap.{name_at}
+use Rattle.gm_arena.specs.inner.ArenaMap.{name_at}
 use Rattle.gm_model.specs.Rules.{rule_of, first_hook}
-use Rattle.gm_plan.specs.Plans.{IsLeftCount}
-use Rattle.gm_walk.specs.Walks.{AreLive}
-use Rattle.gm_match.specs.Layout.{dart_in, stepped}
+use Rattle.gm_plan.specs.inner.Plans.{IsLeftCount}
+use Rattle.gm_walk.specs.inner.Walks.{AreLive}
+use Rattle.gm_match.specs.inner.Layout.{dart_in, stepped}
 use Rattle.gm_match.proofs.rows.later_row.Given as goal
 
 abbrev pub invariant-loop-index : goal.invariant-loop-index

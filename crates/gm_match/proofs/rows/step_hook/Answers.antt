@@ -3,9 +3,9 @@ use Rattle.std.proofs.lemmas.List.Elements.{All-get_or}
 use Rattle.gm_model.specs.declared.rule.Side.TheVariants.{Left}
 use Rattle.gm_model.specs.Rules.{rule_of, letters, label_at, width}
 use Rattle.gm_arena.specs.declared.slot.Slot.{Slot}
-use Rattle.gm_arena.specs.ArenaMap.{IsLiveSlot, name_at, alpha}
+use Rattle.gm_arena.specs.inner.ArenaMap.{IsLiveSlot, name_at, alpha}
 use Rattle.gm_walk.proofs.NameLemmas.{at_name, live_at}
-use Rattle.gm_match.specs.Layout.{dart_in}
+use Rattle.gm_match.specs.inner.Layout.{dart_in}
 use Rattle.gm_theory.proofs.Lists.{some_same}
 use Rattle.gm_match.proofs.EdgeWalks.{same_label}
 use Rattle.gm_match.proofs.Hooks.{turning_by, own_word}

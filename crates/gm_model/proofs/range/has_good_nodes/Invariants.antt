@@ -1,5 +1,5 @@
 use Rattle.std.proofs.Common.{◌<◌, ℕ}
-use Rattle.gm_model.specs.Ranges.{HasGoodNode}
+use Rattle.gm_model.specs.inner.Ranges.{HasGoodNode}
 use Rattle.gm_model.specs.Rules.{rule_of}
 use Rattle.gm_model.proofs.range.has_good_nodes.Given as goal
 

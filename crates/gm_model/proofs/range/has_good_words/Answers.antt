@@ -1,7 +1,7 @@
 use Rattle.std.proofs.Common.{inl, inr, [], sym, subst, ◌∙◌, ap}
 use Rattle.std.specs.Option.{is_some, unwrap_or}
 use Rattle.std.proofs.lemmas.Bool.{false≢true}
-use Rattle.gm_model.specs.Ranges.{HasLowLabels}
+use Rattle.gm_model.specs.inner.Ranges.{HasLowLabels}
 use Rattle.gm_model.proofs.range.has_good_words.Goals as goal
 use Rattle.gm_model.proofs.range.has_good_words.Goals.{else-is_none-via-then-is_none+else-is_none-2, else-is_none-via-else-is_none}
 

@@ -1,6 +1,6 @@
 use Rattle.std.proofs.Common.{◌≡◌, ℕ, ◌<◌, length, get_or, take}
 use Rattle.gm_model.specs.declared.step.Step.TheVariants.{Absent}
-use Rattle.gm_model.specs.NodeSteps.{step_or, letter_step}
+use Rattle.gm_model.specs.inner.NodeSteps.{step_or, letter_step}
 use Rattle.gm_model.proofs.sides.add_letters.Given as goal
 
 abbrev pub invariant-loop-place : goal.invariant-loop-place

@@ -1,6 +1,6 @@
 use Rattle.std.proofs.Common.{sym, subst, ◌∙◌}
-use Rattle.gm_text.specs.Cursor.{Cursor}
-use Rattle.gm_text.specs.SchemaAnswers.{IsNext, IsNoneNext}
+use Rattle.gm_text.specs.inner.Cursor.{Cursor}
+use Rattle.gm_text.specs.inner.SchemaAnswers.{IsNext, IsNoneNext}
 use Rattle.gm_parse.proofs.Steps.{none_ok, none_err, none_stays, token_ok, token_err, token_stays, token_left, token_passes, token_on}
 use Rattle.gm_parse.proofs.skipping.advance.Goals as goal
 

@@ -1,8 +1,8 @@
 use Rattle.std.proofs.Common.{◌+◌, Option, subst, arith}
 use Rattle.gm_model.specs.declared.token.Token.{Token}
 use Rattle.std.proofs.lemmas.Result.{err_from_is_err_and}
-use Rattle.gm_parse.specs.Answers.{Advances}
-use Rattle.gm_parse.specs.Reading.{first_spot, spot_at}
+use Rattle.gm_parse.specs.inner.Answers.{Advances}
+use Rattle.gm_parse.specs.inner.Reading.{first_spot, spot_at}
 use Rattle.gm_parse.proofs.Steps.{reads_then, stops_then}
 use Rattle.gm_parse.proofs.skipping.skip_ahead.Goals as goal
 

@@ -1,6 +1,6 @@
 use Rattle.std.proofs.Common.{◌≤◌, ◌-◌, length}
-use Rattle.gm_parse.specs.Answers.{Reads}
-use Rattle.gm_parse.specs.Reading.{first_spot, spot_at}
+use Rattle.gm_parse.specs.inner.Answers.{Reads}
+use Rattle.gm_parse.specs.inner.Reading.{first_spot, spot_at}
 use Rattle.gm_parse.proofs.skipping.skip_ahead.Given as goal
 
 abbrev pub invariant-loop-count : goal.invariant-loop-count

@@ -1,8 +1,8 @@
 use Rattle.std.proofs.Common.{subst}
 use Rattle.std.proofs.lemmas.Result.{err_from_is_err_and}
-use Rattle.gm_text.specs.Cursor.{Cursor}
-use Rattle.gm_parse.specs.Reading.{first_spot}
-use Rattle.gm_parse.specs.Answers.{SkipsExpr, Stops}
+use Rattle.gm_text.specs.inner.Cursor.{Cursor}
+use Rattle.gm_parse.specs.inner.Reading.{first_spot}
+use Rattle.gm_parse.specs.inner.Answers.{SkipsExpr, Stops}
 use Rattle.gm_parse.proofs.Steps.{skip_stands, skip_fault, whole_behind}
 use Rattle.gm_parse.proofs.skipping.skip_expr.Goals as goal
 

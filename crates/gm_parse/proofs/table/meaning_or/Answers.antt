@@ -1,6 +1,6 @@
 use Rattle.std.proofs.Common.{◌≡◌, ℕ, ◌+◌, ◌<◌, Bool, true, false, cond, List, length, drop, get_or, bytes_eq, sym, ap, ◌∙◌}
 use Rattle.std.proofs.lemmas.List.{at_drop_all, drop_more}
-use Rattle.gm_parse.specs.Tables.{meaning_of_first}
+use Rattle.gm_parse.specs.inner.Tables.{meaning_of_first}
 use Rattle.gm_parse.proofs.table.meaning_or.Goals as goal
 
 module _ {Entry Meaning : Type 0} (is : Entry → Bool) (of : Entry → Meaning) (other : Meaning) (table : List Entry) (at : ℕ) (entry : Entry) (inside : at < length table) (same : entry ≡ get_or table at entry) where

@@ -1,5 +1,5 @@
 use Rattle.std.proofs.Common.{◌≡◌, bytes_eq, drop}
-use Rattle.gm_parse.specs.Tables.{meaning_of_first}
+use Rattle.gm_parse.specs.inner.Tables.{meaning_of_first}
 use Rattle.gm_parse.proofs.table.meaning_or.Given as goal
 
 abbrev pub invariant-loop-name : goal.invariant-loop-name

@@ -5,7 +5,7 @@ use Rattle.std.proofs.lemmas.List.{length_push}
 use Rattle.gm_model.specs.declared.schema.Schema.{Schema}
 use Rattle.gm_model.specs.declared.value.Value.{Value}
 use Rattle.gm_arena.specs.declared.slot.Slot.{Slot}
-use Rattle.gm_arena.specs.Parts.{part_of}
+use Rattle.gm_arena.specs.inner.Parts.{part_of}
 use Rattle.gm_arena.proofs.ValueLemmas.{stretch}
 use Rattle.gm_pending.proofs.Extended.{none_extended, next_is_new, extended_more}
 use Rattle.gm_pending.proofs.commit.add_darts.Goals as goal

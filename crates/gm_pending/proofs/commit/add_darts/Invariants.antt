@@ -1,7 +1,7 @@
 use Rattle.std.proofs.Common.{◌≡◌, ◌+◌, ◌≤◌, ◌++◌, List, length}
 use Rattle.std.specs.Vec.{vec_capacity}
 use Rattle.gm_arena.specs.declared.slot.Slot.{Slot}
-use Rattle.gm_pending.specs.Written.{IsExtended}
+use Rattle.gm_pending.specs.inner.Written.{IsExtended}
 use Rattle.gm_pending.proofs.commit.add_darts.Given as goal
 
 abbrev pub invariant-loop-number : goal.invariant-loop-number

@@ -1,9 +1,9 @@
 use Rattle.std.proofs.Common.{◌≡◌, ◌+◌, List, [], drop, get_or, length, refl, sym, ap, ap₂, ◌∙◌, subst, arith, Contains}
 use Rattle.std.proofs.lemmas.List.{at_drop_all, length-append}
-use Rattle.gm_arena.specs.ArenaMap.{ArenaMap}
+use Rattle.gm_arena.specs.inner.ArenaMap.{ArenaMap}
 use Rattle.gm_pending.specs.declared.changes.ValueAt.{ValueAt}
-use Rattle.gm_pending.specs.ToldEdits.{told_from, told_in, told_of, values_told}
-use Rattle.gm_pending.specs.Written.{with_values}
+use Rattle.gm_pending.specs.inner.ToldEdits.{told_from, told_in, told_of, values_told}
+use Rattle.gm_pending.specs.inner.Written.{with_values}
 use Rattle.gm_pending.proofs.ToldValues.{told_next, told_within, with_values_append}
 use Rattle.gm_pending.proofs.WithValues.{values_frame}
 use Rattle.gm_pending.proofs.commit.set_values.Goals as goal

@@ -1,6 +1,6 @@
 use Rattle.std.proofs.Common.{◌≡◌, ◌+◌, drop, length}
-use Rattle.gm_pending.specs.ToldEdits.{told_from, values_told}
-use Rattle.gm_pending.specs.Written.{with_values}
+use Rattle.gm_pending.specs.inner.ToldEdits.{told_from, values_told}
+use Rattle.gm_pending.specs.inner.Written.{with_values}
 use Rattle.gm_pending.proofs.commit.set_values.Given as goal
 
 abbrev pub invariant-loop-embed : goal.invariant-loop-embed

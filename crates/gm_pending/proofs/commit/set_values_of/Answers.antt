@@ -1,10 +1,10 @@
 use Rattle.std.proofs.Common.{◌+◌, List, drop, length, refl, sym, ap, ◌∙◌, arith}
 use Rattle.std.proofs.lemmas.List.{at_drop_all}
-use Rattle.gm_arena.specs.ArenaMap.{ArenaMap}
+use Rattle.gm_arena.specs.inner.ArenaMap.{ArenaMap}
 use Rattle.gm_pending.specs.declared.changes.ValueAt.{ValueAt}
-use Rattle.gm_pending.specs.Sources.{given_of}
-use Rattle.gm_pending.specs.ToldEdits.{told_of}
-use Rattle.gm_pending.specs.Written.{with_values}
+use Rattle.gm_pending.specs.inner.Sources.{given_of}
+use Rattle.gm_pending.specs.inner.ToldEdits.{told_of}
+use Rattle.gm_pending.specs.inner.Written.{with_values}
 use Rattle.gm_pending.proofs.ToldValues.{told_elsewhere, told_ungiven, told_value, value_there}
 use Rattle.gm_pending.proofs.commit.set_values_of.Goals as goal
 use Rattle.gm_pending.proofs.commit.set_values_of.Goals.{in-Old+in-Some, in-Old+in_default-value, in_default}

@@ -1,7 +1,7 @@
 use Rattle.std.proofs.Common.{◌≡◌, ◌+◌, drop, length}
-use Rattle.gm_pending.specs.Sources.{given_of}
-use Rattle.gm_pending.specs.ToldEdits.{told_of}
-use Rattle.gm_pending.specs.Written.{with_values}
+use Rattle.gm_pending.specs.inner.Sources.{given_of}
+use Rattle.gm_pending.specs.inner.ToldEdits.{told_of}
+use Rattle.gm_pending.specs.inner.Written.{with_values}
 use Rattle.gm_pending.proofs.commit.set_values_of.Given as goal
 
 abbrev pub invariant-loop-mark : goal.invariant-loop-mark

@@ -2,7 +2,7 @@ use Rattle.std.proofs.Common.{List, subst, sym, take, ◌∙◌}
 use borrow.Author.Count.{falls}
 use Rattle.std.proofs.lemmas.List.{take_more}
 use Rattle.gm_pending.specs.declared.changes.ValueAt.{ValueAt}
-use Rattle.gm_pending.specs.Touched.{AreTaken}
+use Rattle.gm_pending.specs.inner.Touched.{AreTaken}
 use Rattle.gm_pending.proofs.Taken.{same_bound, take_value}
 use Rattle.gm_pending.proofs.Whole.{contains_at}
 use Rattle.gm_pending.proofs.edits.take_values.Goals as goal

@@ -1,6 +1,6 @@
 use Rattle.std.proofs.Common.{◌≡◌, List, [], take}
 use Rattle.gm_arena.specs.declared.slot.Slot.{Slot}
-use Rattle.gm_pending.specs.Touched.{AreTaken}
+use Rattle.gm_pending.specs.inner.Touched.{AreTaken}
 use Rattle.gm_pending.proofs.edits.take_values.Given as goal
 
 abbrev pub invariant-loop-entry : goal.invariant-loop-entry

@@ -2,8 +2,8 @@ use Rattle.std.proofs.Common.{◌≡◌, List, [], length, ap, subst, sym, take,
 use Rattle.std.proofs.lemmas.Bool.{eqb-true}
 use Rattle.std.proofs.lemmas.List.{take_more, take_all}
 use Rattle.gm_arena.specs.declared.slot.Slot.{Slot}
-use Rattle.gm_walk.specs.Room.{Room}
-use Rattle.gm_pending.specs.Touched.{AreTaken}
+use Rattle.gm_walk.specs.inner.Room.{Room}
+use Rattle.gm_pending.specs.inner.Touched.{AreTaken}
 use Rattle.gm_pending.proofs.Taken.{none_taken, none_valued, same_bound, take_slot, within}
 use Rattle.gm_pending.proofs.Whole.{contains_at}
 use Rattle.gm_pending.proofs.edits.touched_slots.Goals as goal

@@ -1,5 +1,5 @@
 use Rattle.std.proofs.Common.{◌≤◌, [], take}
-use Rattle.gm_pending.specs.Touched.{AreTaken}
+use Rattle.gm_pending.specs.inner.Touched.{AreTaken}
 use Rattle.gm_pending.proofs.edits.touched_slots.Given as goal
 
 abbrev pub invariant-loop-slot : goal.invariant-loop-slot

@@ -1,6 +1,6 @@
 use Rattle.std.proofs.Common.{◌≡◌, ◌+◌, ◌++◌, [], drop, get_or, sym, ap, ap₂, ◌∙◌, append_assoc}
 use Rattle.std.proofs.lemmas.List.{append-nil, at_drop_all}
-use Rattle.gm_pending.specs.ToldEdits.{told_from, told_in, told_of}
+use Rattle.gm_pending.specs.inner.ToldEdits.{told_from, told_in, told_of}
 use Rattle.gm_pending.proofs.ToldValues.{told_next}
 use Rattle.gm_pending.proofs.gathering.new_values.Goals as goal
 use Rattle.gm_pending.proofs.gathering.new_values.Goals.{in-Some+in_ok-put_new_values, in_default}

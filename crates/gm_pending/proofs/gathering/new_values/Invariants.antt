@@ -1,5 +1,5 @@
 use Rattle.std.proofs.Common.{◌≡◌, ◌++◌, drop}
-use Rattle.gm_pending.specs.ToldEdits.{told_from, values_told}
+use Rattle.gm_pending.specs.inner.ToldEdits.{told_from, values_told}
 use Rattle.gm_pending.proofs.gathering.new_values.Given as goal
 
 abbrev pub invariant-loop-embed : goal.invariant-loop-embed

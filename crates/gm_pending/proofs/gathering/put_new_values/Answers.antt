@@ -1,6 +1,6 @@
 use Rattle.std.proofs.Common.{◌+◌, ◌++◌, ◌∷◌, [], drop, refl, sym, ap, ◌∙◌, append_assoc}
 use Rattle.std.proofs.lemmas.List.{append-nil, at_drop_all}
-use Rattle.gm_pending.specs.ToldEdits.{told_of}
+use Rattle.gm_pending.specs.inner.ToldEdits.{told_of}
 use Rattle.gm_pending.proofs.Gathered.{value_at}
 use Rattle.gm_pending.proofs.ToldValues.{told_elsewhere, told_ungiven, told_value}
 use Rattle.gm_pending.proofs.gathering.put_new_values.Goals as goal

@@ -1,5 +1,5 @@
 use Rattle.std.proofs.Common.{◌≡◌, ◌++◌, drop}
-use Rattle.gm_pending.specs.ToldEdits.{told_of}
+use Rattle.gm_pending.specs.inner.ToldEdits.{told_of}
 use Rattle.gm_pending.proofs.gathering.put_new_values.Given as goal
 
 abbrev pub invariant-loop-mark : goal.invariant-loop-mark

@@ -2,7 +2,7 @@ use Rattle.std.proofs.Common.{◌≡◌, ℕ, ◌*◌, ◌⊎◌, inl, inr, slic
 use Rattle.std.specs.Int.{bit_at}
 use Rattle.std.proofs.lemmas.Bool.{cases_eq}
 use Rattle.gm_arena.specs.declared.slot.Slot.{Slot}
-use Rattle.gm_pending.specs.Marks.{bit_of}
+use Rattle.gm_pending.specs.inner.Marks.{bit_of}
 use Rattle.gm_pending.proofs.Reached.{bit_kept, own_bit, with_bit}
 use Rattle.gm_pending.proofs.marks.bits_of.Goals as goal
 

@@ -1,6 +1,6 @@
 use Rattle.std.proofs.Common.{◌≡◌, ℕ, ◌*◌, ◌<◌, slice_index_or}
 use Rattle.std.specs.Int.{bit_at}
-use Rattle.gm_pending.specs.Marks.{bit_of}
+use Rattle.gm_pending.specs.inner.Marks.{bit_of}
 use Rattle.gm_pending.proofs.marks.bits_of.Given as goal
 
 abbrev pub invariant-loop-slot : goal.invariant-loop-slot

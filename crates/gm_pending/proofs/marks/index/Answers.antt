@@ -4,9 +4,9 @@ use Rattle.std.proofs.lemmas.List.{take_all, take_more}
 use Rattle.gm_theory.proofs.Lists.{contained_at, none_some}
 use Rattle.gm_walk.specs.declared.mark.Mark.{Mark}
 use Rattle.gm_plan.specs.declared.index.Index.{Index}
-use Rattle.gm_plan.specs.Indices.{index_at}
-use Rattle.gm_walk.specs.Keys.{key_of}
-use Rattle.gm_pending.specs.Marks.{ByKey, HasKey, IsIndex}
+use Rattle.gm_plan.specs.inner.Indices.{index_at}
+use Rattle.gm_walk.specs.inner.Keys.{key_of}
+use Rattle.gm_pending.specs.inner.Marks.{ByKey, HasKey, IsIndex}
 use Rattle.gm_pending.proofs.Reached.{put_fresh, fresh_key}
 use Rattle.gm_model.proofs.Exits.{unless_ok}
 use Rattle.gm_pending.proofs.marks.index.Goals as goal

@@ -1,6 +1,6 @@
 use Rattle.std.proofs.Common.{take}
-use Rattle.gm_plan.specs.Indices.{index_at}
-use Rattle.gm_pending.specs.Marks.{IsIndex}
+use Rattle.gm_plan.specs.inner.Indices.{index_at}
+use Rattle.gm_pending.specs.inner.Marks.{IsIndex}
 use Rattle.gm_pending.proofs.marks.index.Given as goal
 
 abbrev pub invariant-loop-entry : goal.invariant-loop-entry

@@ -5,8 +5,8 @@ use Rattle.std.proofs.lemmas.List.{get_or_default}
 use Rattle.std.proofs.lemmas.Option.{get_or_from_slice_get, slice_get_within}
 use Rattle.gm_theory.proofs.Lists.{contained_at}
 use Rattle.gm_walk.specs.declared.mark.Mark.{Mark}
-use Rattle.gm_walk.specs.Keys.{key_of}
-use Rattle.gm_pending.specs.Marks.{HasKey, IsMarkedBy}
+use Rattle.gm_walk.specs.inner.Keys.{key_of}
+use Rattle.gm_pending.specs.inner.Marks.{HasKey, IsMarkedBy}
 use Rattle.gm_pending.proofs.marks.instance_among.Goals as goal
 
 module _ (reached : List Mark) (wanted place : ℕ) (within : place ≤ length reached) (behind : (k : ℕ) (entry : Mark) → place ≤ k → slice_get reached k ≡ Some entry → key_of entry.at ≢ wanted) where

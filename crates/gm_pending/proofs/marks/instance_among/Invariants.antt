@@ -1,6 +1,6 @@
 use Rattle.std.proofs.Common.{◌≡◌, ◌≢◌, ℕ, ◌≤◌, Some, length, slice_get}
 use Rattle.gm_walk.specs.declared.mark.Mark.{Mark}
-use Rattle.gm_walk.specs.Keys.{key_of}
+use Rattle.gm_walk.specs.inner.Keys.{key_of}
 use Rattle.gm_pending.proofs.marks.instance_among.Given as goal
 
 abbrev pub invariant-loop-place : goal.invariant-loop-place

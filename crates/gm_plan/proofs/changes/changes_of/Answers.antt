@@ -2,7 +2,7 @@ use Rattle.std.proofs.Common.{◌<◌, length, sym, subst, arith}
 use Rattle.std.proofs.lemmas.Result.{IfOk-from_err}
 use Rattle.gm_model.specs.declared.rule.Side.TheVariants.{Left, Right}
 use Rattle.gm_model.specs.Rules.{rule_of}
-use Rattle.gm_plan.specs.Plans.{AreSteps}
+use Rattle.gm_plan.specs.inner.Plans.{AreSteps}
 use Rattle.gm_plan.proofs.changes.changes_of.Goals as goal
 
 pub node_count-nodes-requires : goal.node_count-nodes-requires

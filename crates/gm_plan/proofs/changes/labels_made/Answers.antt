@@ -1,7 +1,7 @@
 use Rattle.std.proofs.Common.{◌<◌, sym, ◌∙◌, w8, arith}
 use Rattle.std.proofs.lemmas.Bool.{false≢true}
 use Rattle.gm_model.specs.Rules.{rule_of}
-use Rattle.gm_plan.specs.Changes.{MakesNone}
+use Rattle.gm_plan.specs.inner.Changes.{MakesNone}
 use Rattle.gm_plan.proofs.Bits.{one_in, one_out}
 use Rattle.gm_plan.proofs.changes.labels_made.Goals as goal
 use Rattle.gm_plan.proofs.changes.labels_made.Goals.{then-not-makes_none, else-not-makes_none}

@@ -1,5 +1,5 @@
 use Rattle.gm_model.specs.Rules.{rule_of}
-use Rattle.gm_plan.specs.Changes.{MakesNone}
+use Rattle.gm_plan.specs.inner.Changes.{MakesNone}
 use Rattle.gm_plan.proofs.Bits.{AreTold}
 use Rattle.gm_plan.proofs.changes.labels_made.Given as goal
 

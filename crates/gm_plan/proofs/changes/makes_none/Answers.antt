@@ -2,7 +2,7 @@ use Rattle.std.proofs.Common.{◌≡◌, ◌<◌, ◌∙◌, [], length, sym, in
 use Rattle.std.proofs.lemmas.Bool.{cases_eq, false≢true}
 use Rattle.gm_model.specs.declared.step.Step.TheVariants.{Absent}
 use Rattle.gm_model.specs.Rules.{rule_of}
-use Rattle.gm_plan.specs.Changes.{made_step}
+use Rattle.gm_plan.specs.inner.Changes.{made_step}
 use Rattle.gm_plan.proofs.Rows.{row_at}
 use Rattle.gm_plan.proofs.changes.makes_none.Goals as goal
 

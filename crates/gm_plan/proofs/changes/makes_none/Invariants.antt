@@ -1,7 +1,7 @@
 use Rattle.std.proofs.Common.{◌≡◌, ℕ, ◌<◌}
 use Rattle.gm_model.specs.declared.step.Step.TheVariants.{Absent}
 use Rattle.gm_model.specs.Rules.{rule_of}
-use Rattle.gm_plan.specs.Changes.{made_step}
+use Rattle.gm_plan.specs.inner.Changes.{made_step}
 use Rattle.gm_plan.proofs.changes.makes_none.Given as goal
 
 abbrev pub invariant-loop-node : goal.invariant-loop-node

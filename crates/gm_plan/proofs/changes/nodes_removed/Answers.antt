@@ -1,7 +1,7 @@
 use Rattle.std.proofs.Common.{◌≡◌, ◌<◌, false, sym, ◌∙◌, w32, arith}
 use Rattle.std.proofs.lemmas.Bool.{false≢true}
 use Rattle.gm_model.specs.Rules.{rule_of, is_removed}
-use Rattle.gm_plan.specs.Changes.{has_bit}
+use Rattle.gm_plan.specs.inner.Changes.{has_bit}
 use Rattle.gm_plan.proofs.Bits.{one_in, one_out, same_tests}
 use Rattle.gm_plan.proofs.changes.nodes_removed.Goals as goal
 use Rattle.gm_plan.proofs.changes.nodes_removed.Goals.{then-is_removed, else-is_removed}

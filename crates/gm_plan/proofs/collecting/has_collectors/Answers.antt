@@ -3,7 +3,7 @@ use Rattle.std.proofs.lemmas.Bool.{false≢true}
 use Rattle.std.proofs.lemmas.Option.{slice_get_within}
 use Rattle.gm_model.specs.declared.rule.Node.{Node}
 use Rattle.gm_model.specs.declared.rule.Set.{Set}
-use Rattle.gm_plan.specs.Collecting.{SetsCollect}
+use Rattle.gm_plan.specs.inner.Collecting.{SetsCollect}
 use Rattle.gm_plan.proofs.Collectors.{node_read, none_collects, none_more, some_collects}
 use Rattle.gm_plan.proofs.collecting.has_collectors.Goals as goal
 

@@ -2,7 +2,7 @@ use Rattle.std.proofs.Common.{◌≡◌, ◌<◌, ℕ, false, Some}
 use Rattle.std.specs.List.{slice_get}
 use Rattle.gm_model.specs.declared.rule.Set.{Set}
 use Rattle.gm_model.specs.Trees.{tree_of}
-use Rattle.gm_plan.specs.Collecting.{collects}
+use Rattle.gm_plan.specs.inner.Collecting.{collects}
 use Rattle.gm_plan.proofs.collecting.sets_collect.Given as goal
 
 -- no earlier assignment to the embedding collects

@@ -1,6 +1,6 @@
 use Rattle.std.proofs.lemmas.Result.{err_from_is_err_and}
 use Rattle.gm_model.specs.Acceptance.{Incidence, Cycle, Embedding}
-use Rattle.gm_plan.specs.Refusals.{Faulty, NoMemory}
+use Rattle.gm_plan.specs.inner.Refusals.{Faulty, NoMemory}
 use Rattle.gm_plan.proofs.compiler.compile.Goals as goal
 
 pub returns-in_err-check : goal.returns-in_err-check

@@ -1,5 +1,5 @@
 use Rattle.std.proofs.Common.{◌≡◌, length, take}
-use Rattle.gm_plan.specs.Searches.{AreHookRanks}
+use Rattle.gm_plan.specs.inner.Searches.{AreHookRanks}
 use Rattle.gm_plan.proofs.paths.hook_ranks.Given as goal
 
 abbrev pub invariant-loop-hook : goal.invariant-loop-hook

@@ -1,6 +1,6 @@
 use Rattle.std.proofs.Common.{◌-◌}
 use Rattle.gm_model.specs.Rules.{rule_of}
-use Rattle.gm_plan.specs.Searches.{IsSearched}
+use Rattle.gm_plan.specs.inner.Searches.{IsSearched}
 use Rattle.gm_plan.proofs.paths.least_paths.Given as goal
 
 abbrev pub invariant-loop-done : goal.invariant-loop-done

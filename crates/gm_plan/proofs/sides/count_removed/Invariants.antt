@@ -1,6 +1,6 @@
 use Rattle.std.proofs.Common.{◌≡◌, ◌≤◌}
 use Rattle.gm_model.specs.Rules.{rule_of}
-use Rattle.gm_plan.specs.Counts.{removed_before}
+use Rattle.gm_plan.specs.inner.Counts.{removed_before}
 use Rattle.gm_plan.proofs.sides.count_removed.Given as goal
 
 abbrev pub invariant-loop-node : goal.invariant-loop-node

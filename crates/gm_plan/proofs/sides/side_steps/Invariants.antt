@@ -1,5 +1,5 @@
 use Rattle.gm_model.specs.Rules.{rule_of}
-use Rattle.gm_plan.specs.Plans.{AreSteps}
+use Rattle.gm_plan.specs.inner.Plans.{AreSteps}
 use Rattle.gm_plan.proofs.sides.side_steps.Given as goal
 
 abbrev pub invariant-loop-node : goal.invariant-loop-node

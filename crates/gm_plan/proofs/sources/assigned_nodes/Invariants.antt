@@ -1,7 +1,7 @@
 use Rattle.std.proofs.Common.{◌≡◌, ℕ, ◌<◌, ◌↔◌, length}
 use Rattle.gm_model.specs.Components.{IsAssigned}
 use Rattle.gm_model.specs.Rules.{rule_of}
-use Rattle.gm_embcheck.specs.NodeSets.{IsIn}
+use Rattle.gm_embcheck.specs.inner.NodeSets.{IsIn}
 use Rattle.gm_plan.proofs.sources.assigned_nodes.Given as goal
 
 abbrev pub invariant-loop-node : goal.invariant-loop-node

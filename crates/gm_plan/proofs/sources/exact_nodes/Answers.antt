@@ -4,7 +4,7 @@ use Rattle.std.proofs.lemmas.List.{length-set}
 use Rattle.gm_model.specs.declared.rule.Side.TheVariants.{Right}
 use Rattle.gm_model.specs.Labels.{has}
 use Rattle.gm_model.specs.Rules.{rule_of, step}
-use Rattle.gm_plan.specs.Sources.{HasExactLetters}
+use Rattle.gm_plan.specs.inner.Sources.{HasExactLetters}
 use Rattle.gm_plan.proofs.EmbedTables.{marked_more}
 use Rattle.gm_plan.proofs.Rows.{row_at}
 use Rattle.gm_plan.proofs.sources.exact_nodes.Goals as goal

@@ -1,8 +1,8 @@
 use Rattle.std.proofs.Common.{◌≡◌, ℕ, ◌<◌, length}
 use Rattle.gm_model.specs.Labels.{has}
 use Rattle.gm_model.specs.Rules.{rule_of}
-use Rattle.gm_embcheck.specs.NodeSets.{IsIn}
-use Rattle.gm_plan.specs.Sources.{HasExactLetters}
+use Rattle.gm_embcheck.specs.inner.NodeSets.{IsIn}
+use Rattle.gm_plan.specs.inner.Sources.{HasExactLetters}
 use Rattle.gm_plan.proofs.sources.exact_nodes.Given as goal
 
 abbrev pub invariant-loop-node : goal.invariant-loop-node

@@ -8,7 +8,7 @@ use Rattle.gm_model.specs.Labels.{has}
 use Rattle.gm_model.specs.Maps.{IsEmbedAt}
 use Rattle.gm_model.specs.Rules.{rule_of}
 use Rattle.gm_embcheck.proofs.InRange.{has_bounds}
-use Rattle.gm_plan.specs.Sources.{IsSources}
+use Rattle.gm_plan.specs.inner.Sources.{IsSources}
 use Rattle.gm_plan.proofs.EmbedTables.{first_more}
 use Rattle.gm_plan.proofs.sources.sources_of.Goals as goal
 

@@ -1,4 +1,4 @@
-use Rattle.gm_plan.specs.Plans.{AreRows}
+use Rattle.gm_plan.specs.inner.Plans.{AreRows}
 use Rattle.gm_plan.proofs.table.rows_of.Given as goal
 
 abbrev pub invariant-loop-node : goal.invariant-loop-node

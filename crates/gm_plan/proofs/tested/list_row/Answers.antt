@@ -1,5 +1,5 @@
 use Rattle.std.proofs.Common.{refl}
-use Rattle.gm_plan.specs.Searches.{row_step}
+use Rattle.gm_plan.specs.inner.Searches.{row_step}
 use Rattle.gm_plan.proofs.Tests.{one_listed, one_passed, row_listed}
 use Rattle.gm_plan.proofs.tested.list_row.Goals as goal
 use Rattle.gm_plan.proofs.tested.list_row.Goals.{in-Absent, in_default+in_ok-push-in_default}

@@ -1,5 +1,5 @@
-use Rattle.gm_plan.specs.Searches.{row_step}
-use Rattle.gm_plan.specs.Tested.{AreListed}
+use Rattle.gm_plan.specs.inner.Searches.{row_step}
+use Rattle.gm_plan.specs.inner.Tested.{AreListed}
 use Rattle.gm_plan.proofs.tested.list_row.Given as goal
 
 abbrev pub invariant-loop-label : goal.invariant-loop-label

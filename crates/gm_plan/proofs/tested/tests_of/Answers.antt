@@ -1,7 +1,7 @@
 use Rattle.std.proofs.Common.{subst, arith}
 use Rattle.std.proofs.lemmas.Result.{IfOk-from_err}
-use Rattle.gm_plan.specs.Searches.{row_step}
-use Rattle.gm_plan.specs.Tested.{AreListed}
+use Rattle.gm_plan.specs.inner.Searches.{row_step}
+use Rattle.gm_plan.specs.inner.Tested.{AreListed}
 use Rattle.gm_plan.proofs.Tests.{none_listed}
 use Rattle.gm_plan.proofs.tested.tests_of.Goals as goal
 

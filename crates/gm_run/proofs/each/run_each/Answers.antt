@@ -1,11 +1,11 @@
 use Rattle.std.proofs.Common.{refl, sym, subst, ◌∙◌}
 use Rattle.std.proofs.lemmas.Result.{err_from_is_err_and}
-use Rattle.gm_arena.specs.ArenaAsMap.{as_map}
+use Rattle.gm_arena.specs.inner.ArenaAsMap.{as_map}
 use Rattle.gm_arena.proofs.Keys.{darts_counted}
 use Rattle.std.specs.List.{count_by}
 use Rattle.gm_model.specs.Runs.{AreLeads, is_done_turn}
-use Rattle.gm_run.specs.Progress.{rules_of}
-use Rattle.gm_run.specs.Turns.{within_turns}
+use Rattle.gm_run.specs.inner.Progress.{rules_of}
+use Rattle.gm_run.specs.inner.Turns.{within_turns}
 use Rattle.gm_run.proofs.EachSteps.{each_step, each_stopped, few_leads, few_turns, group_is, group_within, leads_stopped}
 use Rattle.gm_run.proofs.Stepping.{outside_of}
 use Rattle.std.proofs.Math.Nat.{le_refl}

@@ -1,8 +1,8 @@
 use Rattle.std.proofs.Common.{not, refl, ap, subst, ◌∙◌}
 use Rattle.std.proofs.lemmas.Result.{err_from_is_err_and}
-use Rattle.gm_arena.specs.ArenaAsMap.{as_map}
-use Rattle.gm_run.specs.Progress.{rules_of}
-use Rattle.gm_run.specs.Standing.{HasLine, IsUnapplied}
+use Rattle.gm_arena.specs.inner.ArenaAsMap.{as_map}
+use Rattle.gm_run.specs.inner.Progress.{rules_of}
+use Rattle.gm_run.specs.inner.Standing.{HasLine, IsUnapplied}
 use Rattle.gm_model.specs.Runs.{line_at}
 use Rattle.gm_run.proofs.Advancing.{dead_at, live_at, never_more}
 use Rattle.std.proofs.Math.Nat.{le_refl}

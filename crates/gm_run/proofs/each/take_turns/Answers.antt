@@ -1,9 +1,9 @@
 use Rattle.std.proofs.Common.{◌+◌, take, refl, sym, subst, ◌∙◌}
 use Rattle.std.proofs.lemmas.Result.{err_from_is_err_and}
 use Rattle.gm_model.specs.Histories.{begun_at}
-use Rattle.gm_arena.specs.ArenaAsMap.{as_map}
-use Rattle.gm_run.specs.Progress.{rules_of, ArePlansFor}
-use Rattle.gm_run.specs.Turns.{HaveTurns, told_by}
+use Rattle.gm_arena.specs.inner.ArenaAsMap.{as_map}
+use Rattle.gm_run.specs.inner.Progress.{rules_of, ArePlansFor}
+use Rattle.gm_run.specs.inner.Turns.{HaveTurns, told_by}
 use Rattle.gm_run.proofs.EachSteps.{counted_sum, no_turns, stops_at, turns_all, turns_more}
 use Rattle.std.proofs.Math.Nat.{le_refl, le_trans}
 use Rattle.gm_run.proofs.each.take_turns.Goals as goal

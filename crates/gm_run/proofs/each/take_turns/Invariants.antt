@@ -3,10 +3,10 @@ use Rattle.gm_model.specs.Budgets.{Entries}
 use Rattle.gm_model.specs.Histories as definition
 use Rattle.gm_model.specs.Histories.{begun_at}
 use Rattle.gm_model.specs.Maps.{IsSound}
-use Rattle.gm_arena.specs.ArenaAsMap.{as_map}
-use Rattle.gm_run.specs.Progress.{rules_of}
-use Rattle.gm_run.specs.Standing.{MayGoBack, Remembers}
-use Rattle.gm_run.specs.Turns.{HaveTurns, entered_turns}
+use Rattle.gm_arena.specs.inner.ArenaAsMap.{as_map}
+use Rattle.gm_run.specs.inner.Progress.{rules_of}
+use Rattle.gm_run.specs.inner.Standing.{MayGoBack, Remembers}
+use Rattle.gm_run.specs.inner.Turns.{HaveTurns, entered_turns}
 use Rattle.gm_run.proofs.each.take_turns.Given as goal
 
 abbrev pub invariant-loop-lead : goal.invariant-loop-lead

@@ -9,8 +9,8 @@ use Rattle.gm_model.specs.Budgets.{no_entries}
 use Rattle.gm_model.specs.Maps.{Map, IsSchema, IsSound}
 use Rattle.gm_model.specs.Rules.{Rule}
 use Rattle.gm_model.specs.Runs.{start_of}
-use Rattle.gm_theory.specs.Outcomes.{IsGoodStat}
-use Rattle.gm_theory.specs.Suited.{IsSuited}
+use Rattle.gm_theory.specs.inner.Outcomes.{IsGoodStat}
+use Rattle.gm_theory.specs.inner.Suited.{IsSuited}
 use Rattle.gm_theory.proofs.RunsFound.{Stands, all_suited, stands_first}
 use Rattle.gm_run.proofs.AlikeStates.{states_alike_self}
 use Rattle.gm_run.proofs.OneRun.{one_run, one_within, run_has_bounds}

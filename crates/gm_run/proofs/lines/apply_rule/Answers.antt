@@ -1,7 +1,7 @@
 use Rattle.std.proofs.Common.{refl}
 use Rattle.gm_model.specs.Statements.{line_of}
-use Rattle.gm_run.specs.Standing.{MayGoBack, Remembers}
-use Rattle.gm_arena.specs.ArenaAsMap.{as_map}
+use Rattle.gm_run.specs.inner.Standing.{MayGoBack, Remembers}
+use Rattle.gm_arena.specs.inner.ArenaAsMap.{as_map}
 use Rattle.gm_run.proofs.Advancing.{hooks_fit, params_fit, plan_for, line_done, line_refused, line_budget_of}
 use Rattle.gm_run.proofs.Stepping.{entries_refused, history_refused}
 use Rattle.gm_run.proofs.lines.apply_rule.Goals as goal

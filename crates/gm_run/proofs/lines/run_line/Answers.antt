@@ -1,11 +1,11 @@
 use Rattle.std.proofs.Common.{refl, ap, ◌∙◌}
 use Rattle.std.proofs.lemmas.Result.{err_from_is_err_and}
-use Rattle.gm_arena.specs.ArenaAsMap.{as_map}
-use Rattle.gm_theory.specs.Outcomes.{IsSoundOf}
+use Rattle.gm_arena.specs.inner.ArenaAsMap.{as_map}
+use Rattle.gm_theory.specs.inner.Outcomes.{IsSoundOf}
 use Rattle.gm_run.specs.declared.standing.Standing.{Standing}
-use Rattle.gm_run.specs.Progress.{rules_of}
+use Rattle.gm_run.specs.inner.Progress.{rules_of}
 use Rattle.gm_model.specs.Statements.{line_of}
-use Rattle.gm_run.specs.Standing.{group_behind}
+use Rattle.gm_run.specs.inner.Standing.{group_behind}
 use Rattle.gm_run.proofs.Advancing.{named}
 use Rattle.gm_run.proofs.Stepping.{applies, budget_of, skipped, unapplied}
 use Rattle.std.proofs.Math.Nat.{le_refl}

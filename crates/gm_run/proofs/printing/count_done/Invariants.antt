@@ -1,7 +1,7 @@
 use Rattle.std.proofs.Common.{◌≡◌, ◌≤◌, List, take}
 use Rattle.std.specs.List.{count_by}
 use Rattle.gm_model.specs.Runs.{Outcome, is_done}
-use Rattle.gm_run.specs.Lines.{Tells}
+use Rattle.gm_run.specs.inner.Lines.{Tells}
 use Rattle.gm_run.proofs.printing.count_done.Given as goal
 
 abbrev pub invariant-loop-outcome : goal.invariant-loop-outcome

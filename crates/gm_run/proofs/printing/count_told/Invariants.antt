@@ -1,7 +1,7 @@
 use Rattle.std.proofs.Common.{◌≡◌, ◌*◌, ◌^◌, ◌≤◌, List, map, sum, take}
 use Rattle.gm_model.specs.Reports.{done_in, refused_in}
 use Rattle.gm_model.specs.Runs.{Outcome}
-use Rattle.gm_run.specs.Lines.{Tells}
+use Rattle.gm_run.specs.inner.Lines.{Tells}
 use Rattle.gm_run.proofs.printing.count_told.Given as goal
 
 abbrev pub invariant-loop-outcome : goal.invariant-loop-outcome

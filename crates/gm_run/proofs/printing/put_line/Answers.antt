@@ -6,8 +6,8 @@ use Rattle.gm_model.specs.Reports.{nodes_of, rule_name, stat_words}
 use Rattle.gm_model.specs.Rules.{RuleNode, node_of, rule_of}
 use Rattle.gm_model.specs.Statements.{stat_of}
 use Rattle.gm_model.proofs.Exits.{never_ok}
-use Rattle.gm_run.specs.Lines.{outcome_of}
-use Rattle.gm_run.specs.Printing.{IsNamed, SpeaksOf, told_words}
+use Rattle.gm_run.specs.inner.Lines.{outcome_of}
+use Rattle.gm_run.specs.inner.Printing.{IsNamed, SpeaksOf, told_words}
 use Rattle.gm_run.proofs.Told.{line_put, named_at}
 use Rattle.gm_run.proofs.printing.put_line.Goals as goal
 

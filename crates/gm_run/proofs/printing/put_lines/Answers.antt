@@ -2,7 +2,7 @@ use Rattle.std.proofs.Common.{map, refl, subst}
 use Rattle.std.proofs.lemmas.List.{length-map}
 use Rattle.gm_model.specs.Rules.{rule_of}
 use Rattle.gm_model.specs.Statements.{stat_of}
-use Rattle.gm_run.specs.Printing.{IsNamed}
+use Rattle.gm_run.specs.inner.Printing.{IsNamed}
 use Rattle.gm_run.specs.declared.outcome.Outcome.TheVariants as outcomes
 use Rattle.gm_run.proofs.Told.{said_at, said_of, lines_more}
 use Rattle.gm_run.proofs.printing.put_lines.Goals as goal

@@ -2,7 +2,7 @@ use Rattle.std.proofs.Common.{◌≡◌, ◌++◌, List, drop, map}
 use Rattle.gm_model.specs.Reports.{outcome_lines}
 use Rattle.gm_model.specs.Rules.{rule_of}
 use Rattle.gm_model.specs.Runs.{Outcome}
-use Rattle.gm_run.specs.Lines.{Tells}
+use Rattle.gm_run.specs.inner.Lines.{Tells}
 use Rattle.gm_run.proofs.printing.put_lines.Given as goal
 
 abbrev pub invariant-loop-index : goal.invariant-loop-index

@@ -4,7 +4,7 @@ use Rattle.gm_model.specs.declared.rule.RuleTable.{RuleTable}
 use Rattle.gm_model.specs.Reports.{rule_name, stat_words}
 use Rattle.gm_model.specs.Rules.{rule_of}
 use Rattle.gm_model.specs.Statements.{stat_of}
-use Rattle.gm_run.specs.Printing.{IsNamed}
+use Rattle.gm_run.specs.inner.Printing.{IsNamed}
 use Rattle.gm_run.proofs.Told.{named_at, onward}
 use Rattle.gm_run.proofs.printing.put_stat.Goals as goal
 

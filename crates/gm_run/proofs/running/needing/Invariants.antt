@@ -1,7 +1,7 @@
 use Rattle.std.proofs.Common.{◌≡◌, ℕ, ◌≤◌, Some}
 use Rattle.std.specs.Prelude.{slice_get}
 use Rattle.gm_model.specs.Statements.{Stat}
-use Rattle.gm_run.specs.Standing.{NeedsHistory}
+use Rattle.gm_run.specs.inner.Standing.{NeedsHistory}
 use Rattle.gm_run.proofs.running.needing.Given as goal
 
 abbrev pub invariant-loop-index : goal.invariant-loop-index

@@ -9,13 +9,13 @@ use Rattle.gm_model.specs.Maps.{IsDart}
 use Rattle.gm_model.specs.Orbits.{HasCount}
 use Rattle.gm_model.specs.Statements.{stat_of}
 use Rattle.gm_model.specs.Runs.{start_of, AreInOrder}
-use Rattle.gm_arena.specs.ArenaAsMap.{as_map}
+use Rattle.gm_arena.specs.inner.ArenaAsMap.{as_map}
 use Rattle.gm_arena.proofs.Keys.{darts_counted}
-use Rattle.gm_theory.specs.Outcomes.{IsGoodStat}
-use Rattle.gm_theory.specs.Suited.{IsSuited}
+use Rattle.gm_theory.specs.inner.Outcomes.{IsGoodStat}
+use Rattle.gm_theory.specs.inner.Suited.{IsSuited}
 use Rattle.gm_theory.proofs.RunsFound.{stands_first}
 use Rattle.gm_run.specs.declared.standing.Open.TheVariants as opens
-use Rattle.gm_run.specs.Progress.{rules_of, ArePlansFor}
+use Rattle.gm_run.specs.inner.Progress.{rules_of, ArePlansFor}
 use Rattle.gm_run.proofs.Telling.{behind}
 use Rattle.gm_run.proofs.Sayable.{run_can_be_printed}
 use Rattle.gm_run.proofs.Advancing.{never_more}

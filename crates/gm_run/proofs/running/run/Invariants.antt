@@ -1,8 +1,8 @@
 use Rattle.std.proofs.Common.{◌≡◌, ◌+◌, ◌≤◌, false, drop, length, take, vec_capacity}
 use Rattle.gm_model.specs.Maps.{IsSound}
 use Rattle.gm_model.specs.Runs.{AreInOrder}
-use Rattle.gm_arena.specs.ArenaAsMap.{as_map}
-use Rattle.gm_run.specs.Progress.{rules_of}
+use Rattle.gm_arena.specs.inner.ArenaAsMap.{as_map}
+use Rattle.gm_run.specs.inner.Progress.{rules_of}
 use Rattle.gm_run.proofs.Through.{IsThrough, is_open}
 use Rattle.gm_run.proofs.running.run.Given as goal
 

@@ -2,7 +2,7 @@ use Rattle.std.proofs.Common.{◌≡◌, ◌++◌, sym, subst, append_assoc, cod
 use Rattle.std.specs.Prelude.{decimal, OnOk}
 use Rattle.gm_model.specs.Reports.{instance_words}
 use Rattle.gm_model.specs.Rules.{node_of}
-use Rattle.gm_run.specs.Printing.{refusal_words}
+use Rattle.gm_run.specs.inner.Printing.{refusal_words}
 use Rattle.gm_model.proofs.Exits.{never_ok}
 use Rattle.gm_run.proofs.Told.{onward}
 use Rattle.gm_run.proofs.words.put_cause.Goals as goal

@@ -1,7 +1,7 @@
 use Rattle.std.proofs.Common.{◌≡◌, ◌++◌, sym, subst, map}
 use Rattle.std.specs.Prelude.{OnOk}
 use Rattle.gm_model.specs.Rules.{node_of}
-use Rattle.gm_run.specs.Printing.{told_words}
+use Rattle.gm_run.specs.inner.Printing.{told_words}
 use Rattle.gm_run.proofs.words.put_outcome.Goals as goal
 
 pub returns-in-Done : goal.returns-in-Done

@@ -1,6 +1,6 @@
 use Rattle.std.proofs.Common.{◌-◌, map, take, drop, Some, sym}
 use Rattle.gm_model.specs.Rules.{rule_of}
-use Rattle.gm_script.specs.SoFar.{IsKnown}
+use Rattle.gm_script.specs.inner.SoFar.{IsKnown}
 use Rattle.gm_script.proofs.Indices.{within}
 use Rattle.gm_script.proofs.near.index_of_name.Goals as goal
 

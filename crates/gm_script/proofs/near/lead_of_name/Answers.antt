@@ -1,6 +1,6 @@
 use Rattle.std.proofs.Common.{◌≡◌, ◌+◌, ◌-◌, ◌<◌, ◌≤◌, ℕ, List, length, drop, get_or, sym, subst, arith}
 use Rattle.std.proofs.lemmas.List.{take-take}
-use Rattle.gm_script.specs.Reading.{IsLead}
+use Rattle.gm_script.specs.inner.Reading.{IsLead}
 use Rattle.gm_script.specs.declared.sight.Sight.TheVariants as sights
 use Rattle.gm_script.proofs.NameLeads.{name_lead, name_of}
 use Rattle.gm_script.proofs.near.lead_of_name.Goals as goal

@@ -1,8 +1,8 @@
 use Rattle.std.proofs.Common.{◌≡◌, ℕ, ◌+◌, ◌-◌, ◌≤◌, length, take, drop, refl, sym, ap, ap₂, subst, arith}
 use Rattle.std.proofs.lemmas.List.{length-take}
 use Rattle.gm_model.specs.declared.token.TokenKind.TheVariants as tokens
-use Rattle.gm_text.specs.Cursor.{Cursor}
-use Rattle.gm_script.specs.Reading.{IsSeenNext}
+use Rattle.gm_text.specs.inner.Cursor.{Cursor}
+use Rattle.gm_script.specs.inner.Reading.{IsSeenNext}
 use Rattle.gm_script.proofs.SmallParts.{word_next}
 use Rattle.gm_script.proofs.near.word_of_lead.Goals as goal
 

@@ -1,9 +1,9 @@
 use Rattle.std.proofs.Common.{◌≡◌, map, Ok, refl, sym, subst, ◌∙◌, arith}
 use Rattle.std.proofs.lemmas.Result.{err_from_is_err_and}
 use Rattle.gm_model.specs.Rules.{rule_of}
-use Rattle.gm_text.specs.Lexing.{rest_of}
-use Rattle.gm_script.specs.Reading.{IsSeenNext, sight_of, symbol_at, taken_at, ended_by, Fails}
-use Rattle.gm_script.specs.SoFar.{Adds}
+use Rattle.gm_text.specs.inner.Lexing.{rest_of}
+use Rattle.gm_script.specs.inner.Reading.{IsSeenNext, sight_of, symbol_at, taken_at, ended_by, Fails}
+use Rattle.gm_script.specs.inner.SoFar.{Adds}
 use Rattle.gm_script.specs.declared.sight.Head.TheVariants as heads
 use Rattle.gm_script.specs.declared.sight.Sight.{Sight}
 use Rattle.gm_script.specs.declared.sight.Sight.TheVariants as sights

@@ -1,6 +1,6 @@
 use Rattle.std.proofs.Common.{◌≡◌, ℕ, ◌^◌, ◌<◌, Ok, length, ap, arith, rules}
-use Rattle.gm_text.specs.Lexing.{IsNumberRead}
-use Rattle.gm_script.specs.Reading.{taken_at}
+use Rattle.gm_text.specs.inner.Lexing.{IsNumberRead}
+use Rattle.gm_script.specs.inner.Reading.{taken_at}
 use Rattle.gm_script.specs.declared.sight.Sight.TheVariants as sights
 use Rattle.gm_script.proofs.Hooks.{reads_none, number_goes_on, hook_read}
 use Rattle.gm_script.proofs.SmallParts.{number_at}

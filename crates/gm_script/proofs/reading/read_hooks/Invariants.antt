@@ -1,5 +1,5 @@
 use Rattle.std.proofs.Common.{◌≡◌, ◌-◌, length}
-use Rattle.gm_script.specs.Reading.{ReadsOn}
+use Rattle.gm_script.specs.inner.Reading.{ReadsOn}
 use Rattle.gm_script.specs.declared.spot.Spot.TheVariants as spots
 use Rattle.gm_script.proofs.reading.read_hooks.Given as goal
 

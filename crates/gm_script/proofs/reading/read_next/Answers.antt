@@ -1,8 +1,8 @@
 use Rattle.std.proofs.Common.{◌∙◌, map, ap, subst}
 use Rattle.std.proofs.lemmas.Result.{err_from_is_err_and}
 use Rattle.gm_model.specs.Rules.{rule_of}
-use Rattle.gm_text.specs.Cursor.{Cursor}
-use Rattle.gm_script.specs.SoFar.{ReadsNext}
+use Rattle.gm_text.specs.inner.Cursor.{Cursor}
+use Rattle.gm_script.specs.inner.SoFar.{ReadsNext}
 use Rattle.gm_script.proofs.reading.read_next.Goals as goal
 
 pub begin_line-requires-clause-text : goal.begin_line-requires-clause-text

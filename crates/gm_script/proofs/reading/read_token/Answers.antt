@@ -1,8 +1,8 @@
 use Rattle.std.proofs.Common.{◌≡◌, map, Ok, sym, ◌∙◌, arith}
 use Rattle.std.proofs.lemmas.Result.{err_from_is_err_and}
 use Rattle.gm_model.specs.Rules.{rule_of}
-use Rattle.gm_text.specs.Lexing.{rest_of}
-use Rattle.gm_script.specs.Reading.{IsSeenNext, sight_of, symbol_at, taken_at}
+use Rattle.gm_text.specs.inner.Lexing.{rest_of}
+use Rattle.gm_script.specs.inner.Reading.{IsSeenNext, sight_of, symbol_at, taken_at}
 use Rattle.gm_script.proofs.Loop.{stray_fails, token_fails, goes_on}
 use Rattle.gm_script.proofs.Tokens.{token_stands}
 use Rattle.gm_script.proofs.reading.read_token.Goals as goal

@@ -2,8 +2,8 @@ use Rattle.std.proofs.Common.{◌≡◌, length, map, ap, ◌∙◌, arith}
 use Rattle.std.proofs.lemmas.Result.{err_from_is_err_and}
 use Rattle.gm_model.proofs.Exits.{never_ok}
 use Rattle.gm_model.specs.Rules.{rule_of}
-use Rattle.gm_text.specs.Lexing.{rest_of}
-use Rattle.gm_script.specs.SoFar.{IsSoFar, IsOneOn}
+use Rattle.gm_text.specs.inner.Lexing.{rest_of}
+use Rattle.gm_script.specs.inner.SoFar.{IsSoFar, IsOneOn}
 use Rattle.gm_script.proofs.Hooks.{hooks_fail, reads_on}
 use Rattle.gm_script.proofs.reading.read_tokens.Goals as goal
 

@@ -1,7 +1,7 @@
 use Rattle.std.proofs.Common.{◌≡◌, ◌-◌, length, map, IfSome}
 use Rattle.gm_model.specs.Rules.{rule_of}
-use Rattle.gm_text.specs.Lexing.{rest_of}
-use Rattle.gm_script.specs.SoFar.{IsKnown, IsSoFar}
+use Rattle.gm_text.specs.inner.Lexing.{rest_of}
+use Rattle.gm_script.specs.inner.SoFar.{IsKnown, IsSoFar}
 use Rattle.gm_script.proofs.reading.read_tokens.Given as goal
 
 abbrev pub invariant-loop-lexer : goal.invariant-loop-lexer

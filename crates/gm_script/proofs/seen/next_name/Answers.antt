@@ -1,6 +1,6 @@
 use Rattle.std.proofs.Common.{map}
 use Rattle.gm_model.specs.Rules.{rule_of}
-use Rattle.gm_script.specs.SoFar.{IsKnown}
+use Rattle.gm_script.specs.inner.SoFar.{IsKnown}
 use Rattle.gm_script.specs.declared.sight.Sight.TheVariants as sights
 use Rattle.gm_script.proofs.seen.next_name.Goals as goal
 

@@ -1,6 +1,6 @@
 use Rattle.std.proofs.Common.{◌≡◌, ◌++◌, length, take, drop}
 use Rattle.std.specs.Option.{option_map}
-use Rattle.gm_script.specs.Comparing.{params_for}
+use Rattle.gm_script.specs.inner.Comparing.{params_for}
 use Rattle.gm_script.proofs.values.fit.Given as goal
 
 abbrev pub invariant-loop-index : goal.invariant-loop-index

@@ -1,5 +1,5 @@
 use Rattle.std.proofs.Common.{ℕ, ◌<◌, refl, ◌∙◌, arith}
-use Rattle.gm_arena.specs.ArenaMap.{IsLiveName, name_at}
+use Rattle.gm_arena.specs.inner.ArenaMap.{IsLiveName, name_at}
 use Rattle.gm_arena.proofs.MapLemmas.{name_below, IsLiveName-without_dart, alpha-without_dart_other}
 use Rattle.gm_tests.proofs.arena.remove_eight.Goals as goal
 

@@ -1,5 +1,5 @@
 use Rattle.std.proofs.Common.{◌≡◌, ℕ, ◌+◌, ◌<◌}
-use Rattle.gm_arena.specs.ArenaMap.{IsLiveName, alpha}
+use Rattle.gm_arena.specs.inner.ArenaMap.{IsLiveName, alpha}
 use Rattle.gm_tests.proofs.arena.remove_eight.Given as goal
 
 abbrev pub invariant-loop-name : goal.invariant-loop-name

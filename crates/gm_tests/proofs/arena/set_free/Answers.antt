@@ -1,6 +1,6 @@
 use Rattle.std.proofs.Common.{◌≡◌, ◌≢◌, inl, inr, ap, ◌∙◌, arith}
 use Rattle.std.proofs.lemmas.Bool.{cases_eq}
-use Rattle.gm_arena.specs.ArenaMap.{name_at}
+use Rattle.gm_arena.specs.inner.ArenaMap.{name_at}
 use Rattle.gm_arena.proofs.MapLemmas.{name_at-is, alpha-with_alpha_same, alpha-with_alpha_other, alpha-with_alpha_label}
 use Rattle.gm_tests.proofs.arena.set_free.Goals as goal
 

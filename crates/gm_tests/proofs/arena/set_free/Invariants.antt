@@ -1,5 +1,5 @@
 use Rattle.std.proofs.Common.{◌≡◌, ℕ, ◌<◌}
-use Rattle.gm_arena.specs.ArenaMap.{IsAt, alpha}
+use Rattle.gm_arena.specs.inner.ArenaMap.{IsAt, alpha}
 use Rattle.gm_tests.proofs.arena.set_free.Given as goal
 
 abbrev pub invariant-loop-name : goal.invariant-loop-name

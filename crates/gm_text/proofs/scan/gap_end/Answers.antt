@@ -1,5 +1,5 @@
 use Rattle.std.proofs.Common.{sym, ◌∙◌, arith, eq-eqb}
-use Rattle.gm_text.specs.Lexing.{nothing}
+use Rattle.gm_text.specs.inner.Lexing.{nothing}
 use Rattle.gm_text.proofs.Gaps.{IsPassed-then, IsPassed-blank, IsPassed-comment}
 use Rattle.gm_text.proofs.scan.gap_end.Goals as goal
 

@@ -1,5 +1,5 @@
 use Rattle.std.proofs.Common.{sym, ◌∙◌}
-use Rattle.gm_text.specs.Lexing.{nothing}
+use Rattle.gm_text.specs.inner.Lexing.{nothing}
 use Rattle.gm_text.proofs.Gaps.{IsPassed-blank}
 use Rattle.gm_text.proofs.scan.past_blank.Goals as goal
 

@@ -1,6 +1,6 @@
 use Rattle.std.proofs.Common.{◌∙◌, arith}
 use Rattle.std.proofs.lemmas.List.Sums.{prefix_len-le-length}
-use Rattle.gm_text.specs.Digits.{is_small}
+use Rattle.gm_text.specs.inner.Digits.{is_small}
 use Rattle.gm_text.proofs.DigitRuns.{digit_at_start, run_end, run_value}
 use Rattle.gm_text.proofs.scan.small_at.Goals as goal
 

@@ -2,7 +2,7 @@ use Rattle.std.proofs.Common.{◌≡◌, ℕ, List, ◌++◌, ap, subst, ◌∙�
 use Rattle.std.proofs.lemmas.Result.{on_err_weaker, on_ok_weaker}
 use Rattle.gm_model.proofs.Exits.{never_ok, on_err}
 use Rattle.gm_text.specs.SchemaText.{kind_word, labels_in, labels_text}
-use Rattle.gm_text.specs.SchemaPrinting.{IsCut}
+use Rattle.gm_text.specs.inner.SchemaPrinting.{IsCut}
 use Rattle.gm_text.proofs.Cuts.{cut_before, cut_behind, written_behind}
 use Rattle.gm_text.proofs.SchemaPrinted.{all_behind}
 use Rattle.gm_text.proofs.schema_printing.print_embed.Goals as goal

@@ -2,7 +2,7 @@ use Rattle.std.proofs.Common.{◌≡◌, ℕ, true, List, ◌++◌, sym, ap, ◌
 use Rattle.std.proofs.lemmas.Result.{err_from_is_err_and}
 use Rattle.gm_model.specs.Labels.{has}
 use Rattle.gm_model.proofs.Exits.{never_ok}
-use Rattle.gm_text.specs.SchemaPrinting.{gap_behind}
+use Rattle.gm_text.specs.inner.SchemaPrinting.{gap_behind}
 use Rattle.gm_text.specs.SchemaText.{labels_below, labels_text}
 use Rattle.gm_text.proofs.SchemaPrinted.{cut_labels, gap_more, labels_all, labels_more, none_more}
 use Rattle.gm_text.proofs.schema_printing.print_labels.Goals.{then-has+in_ok-print_label, else-has}

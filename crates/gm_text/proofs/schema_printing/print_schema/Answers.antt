@@ -4,7 +4,7 @@ use Rattle.std.specs.List.{flat_map}
 use Rattle.std.proofs.lemmas.Result.{on_err_weaker, on_ok_weaker}
 use Rattle.gm_model.proofs.Exits.{never_ok, on_err}
 use Rattle.gm_text.specs.SchemaText.{canonical, embed_line}
-use Rattle.gm_text.specs.SchemaPrinting.{IsCut}
+use Rattle.gm_text.specs.inner.SchemaPrinting.{IsCut}
 use Rattle.gm_text.proofs.Cuts.{cut_at_once, cut_behind, written_behind}
 use Rattle.gm_text.proofs.schema_printing.print_schema.Goals as goal
 

@@ -1,7 +1,7 @@
 use Rattle.std.proofs.Common.{◌≡◌, ◌≢◌, true, false, refl, sym, ap, subst, ◌∙◌, codes}
 use Rattle.gm_model.specs.Symbols.{Word}
-use Rattle.gm_text.specs.Cursor.{Cursor}
-use Rattle.gm_text.specs.SchemaAnswers.{marks_left, symbol_at, mark_at, IsNext}
+use Rattle.gm_text.specs.inner.Cursor.{Cursor}
+use Rattle.gm_text.specs.inner.SchemaAnswers.{marks_left, symbol_at, mark_at, IsNext}
 use Rattle.gm_text.proofs.SchemaSteps.{embed_next}
 use Rattle.gm_text.proofs.schema_reading.embed_word.Goals as goal
 

@@ -1,8 +1,8 @@
 use Rattle.std.proofs.Common.{◌<◌, ◌≤◌, ◌++◌, [], ◌∷◌, refl, ap, ◌∙◌, codes, arith}
 use Rattle.std.proofs.lemmas.Result.{err_from_is_err_and}
 use Rattle.gm_model.specs.Symbols.{Word, Mark}
-use Rattle.gm_text.specs.Cursor.{Cursor}
-use Rattle.gm_text.specs.SchemaReading.{AtEmbeds, AtName}
+use Rattle.gm_text.specs.inner.Cursor.{Cursor}
+use Rattle.gm_text.specs.inner.SchemaReading.{AtEmbeds, AtName}
 use Rattle.gm_model.proofs.Exits.{unless_ok}
 use Rattle.gm_text.proofs.SchemaReaders.{embed_free, embed_past}
 use Rattle.gm_text.proofs.SchemaSteps.{reads_behind, stops_behind, known_self}

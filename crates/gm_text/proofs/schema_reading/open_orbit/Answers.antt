@@ -2,8 +2,8 @@ use Rattle.std.proofs.Common.{◌≡◌, ◌≢◌, true, false, refl, sym, ap, 
 use Rattle.std.proofs.lemmas.Result.{err_from_is_err_and}
 use Rattle.gm_model.specs.Symbols.{Sign}
 use Rattle.gm_text.specs.SchemaText.{no_labels}
-use Rattle.gm_text.specs.SchemaReading.{AtOrbit, AtLabel, move}
-use Rattle.gm_text.specs.SchemaAnswers.{symbol_at}
+use Rattle.gm_text.specs.inner.SchemaReading.{AtOrbit, AtLabel, move}
+use Rattle.gm_text.specs.inner.SchemaAnswers.{symbol_at}
 use Rattle.gm_text.proofs.SchemaMoves.{no_open, fixed_free}
 use Rattle.gm_text.proofs.SchemaSteps.{reads_token, stops_none, stops_token}
 use Rattle.gm_text.proofs.schema_reading.open_orbit.Goals as goal

@@ -1,5 +1,5 @@
 use Rattle.std.proofs.Common.{[]}
-use Rattle.gm_text.specs.SchemaReading.{AtDim, AtTop, AtEmbeds}
+use Rattle.gm_text.specs.inner.SchemaReading.{AtDim, AtTop, AtEmbeds}
 use Rattle.gm_text.proofs.SchemaSteps.{reads_then, stops_then, if_ok, if_err}
 use Rattle.gm_text.proofs.schema_reading.read_dim.Goals as goal
 

@@ -1,8 +1,8 @@
 use Rattle.std.proofs.Common.{◌≡◌, ◌≢◌, true, false, refl, sym, ap, ◌∙◌, codes}
 use Rattle.std.proofs.lemmas.Result.{err_from_is_err_and}
 use Rattle.gm_model.specs.Symbols.{Word}
-use Rattle.gm_text.specs.SchemaReading.{AtDim, AtTop, move}
-use Rattle.gm_text.specs.SchemaAnswers.{symbol_at}
+use Rattle.gm_text.specs.inner.SchemaReading.{AtDim, AtTop, move}
+use Rattle.gm_text.specs.inner.SchemaAnswers.{symbol_at}
 use Rattle.gm_text.proofs.SchemaMoves.{no_dim, fixed_free}
 use Rattle.gm_text.proofs.SchemaSteps.{reads_token, stops_none, stops_token}
 use Rattle.gm_text.proofs.schema_reading.read_dim_word.Goals as goal

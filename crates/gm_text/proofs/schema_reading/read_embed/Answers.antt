@@ -1,5 +1,5 @@
 use Rattle.std.proofs.lemmas.Result.{err_from_is_err_and}
-use Rattle.gm_text.specs.SchemaReading.{AtName, AtOrbit, AtKind, with_kind}
+use Rattle.gm_text.specs.inner.SchemaReading.{AtName, AtOrbit, AtKind, with_kind}
 use Rattle.gm_text.proofs.SchemaSteps.{reads_then, stops_then}
 use Rattle.gm_text.proofs.schema_reading.read_embed.Goals as goal
 

@@ -1,6 +1,6 @@
 use Rattle.std.proofs.Common.{◌-◌, true, [], length}
-use Rattle.gm_text.specs.SchemaReading.{AtEmbeds}
-use Rattle.gm_text.specs.SchemaAnswers.{Reads}
+use Rattle.gm_text.specs.inner.SchemaReading.{AtEmbeds}
+use Rattle.gm_text.specs.inner.SchemaAnswers.{Reads}
 use Rattle.gm_text.proofs.schema_reading.read_embeds.Given as goal
 
 abbrev pub invariant-loop-embeds : goal.invariant-loop-embeds

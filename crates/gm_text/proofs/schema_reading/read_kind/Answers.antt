@@ -2,8 +2,8 @@ use Rattle.std.proofs.Common.{refl, ap, ◌∙◌}
 use Rattle.std.specs.Option.{option_map}
 use Rattle.std.proofs.lemmas.Result.{err_from_is_err_and}
 use Rattle.gm_model.proofs.Exits.{unless_ok}
-use Rattle.gm_text.specs.SchemaReading.{AtKind, with_kind}
-use Rattle.gm_text.specs.SchemaAnswers.{symbol_at}
+use Rattle.gm_text.specs.inner.SchemaReading.{AtKind, with_kind}
+use Rattle.gm_text.specs.inner.SchemaAnswers.{symbol_at}
 use Rattle.gm_text.proofs.SchemaMoves.{fixed_free}
 use Rattle.gm_text.proofs.SchemaSteps.{reads_token, stops_none, stops_token}
 use Rattle.gm_text.proofs.schema_reading.read_kind.Goals as goal

@@ -3,8 +3,8 @@ use Rattle.std.proofs.lemmas.Result.{err_from_is_err_and}
 use Rattle.gm_model.specs.declared.token.TokenKind.TheVariants as tokens
 use Rattle.gm_model.specs.Labels.{has}
 use Rattle.gm_model.specs.Symbols.{Sign}
-use Rattle.gm_text.specs.SchemaReading.{AtLabel}
-use Rattle.gm_text.specs.SchemaAnswers.{symbol_at}
+use Rattle.gm_text.specs.inner.SchemaReading.{AtLabel}
+use Rattle.gm_text.specs.inner.SchemaAnswers.{symbol_at}
 use Rattle.gm_model.proofs.Exits.{unless_ok}
 use Rattle.gm_text.proofs.SchemaMoves.{kind_is, kind_other, no_label}
 use Rattle.gm_text.proofs.SchemaReaders.{label_read, label_ends, label_past, label_again}

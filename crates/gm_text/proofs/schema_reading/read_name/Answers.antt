@@ -3,8 +3,8 @@ use Rattle.std.proofs.lemmas.Result.{err_from_is_err_and}
 use Rattle.gm_model.specs.declared.token.TokenKind.TheVariants as tokens
 use Rattle.gm_model.specs.Names.{IsName, is_among, reserved}
 use Rattle.gm_model.specs.Tokens.{bytes_of}
-use Rattle.gm_text.specs.SchemaReading.{AtName, AtOrbit}
-use Rattle.gm_text.specs.SchemaAnswers.{Reads}
+use Rattle.gm_text.specs.inner.SchemaReading.{AtName, AtOrbit}
+use Rattle.gm_text.specs.inner.SchemaAnswers.{Reads}
 use Rattle.gm_model.proofs.Exits.{unless_ok}
 use Rattle.gm_text.proofs.SchemaMoves.{kind_is, kind_other, no_name}
 use Rattle.gm_text.proofs.SchemaReaders.{has_name, name_reserved, name_long, name_again, name_read}

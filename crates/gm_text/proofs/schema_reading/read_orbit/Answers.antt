@@ -1,8 +1,8 @@
 use Rattle.std.proofs.Common.{◌≤◌, ℕ, List, [], length, sym, subst, ◌∙◌, arith}
 use Rattle.std.proofs.lemmas.Result.{err_from_is_err_and}
 use Rattle.gm_model.specs.declared.word.Mask.{Mask}
-use Rattle.gm_text.specs.SchemaReading.{AtOrbit, AtLabel, AtKind}
-use Rattle.gm_text.specs.SchemaAnswers.{Reads, ReadsLabel}
+use Rattle.gm_text.specs.inner.SchemaReading.{AtOrbit, AtLabel, AtKind}
+use Rattle.gm_text.specs.inner.SchemaAnswers.{Reads, ReadsLabel}
 use Rattle.gm_text.proofs.SchemaSteps.{reads_then, stops_then}
 use Rattle.gm_text.proofs.schema_reading.read_orbit.Goals as goal
 

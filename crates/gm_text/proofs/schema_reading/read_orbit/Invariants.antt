@@ -1,7 +1,7 @@
 use Rattle.std.proofs.Common.{◌-◌, ℕ, List, length}
 use Rattle.gm_model.specs.declared.schema.Embed.{Embed}
-use Rattle.gm_text.specs.SchemaReading.{AtOrbit, AtLabel}
-use Rattle.gm_text.specs.SchemaAnswers.{Reads}
+use Rattle.gm_text.specs.inner.SchemaReading.{AtOrbit, AtLabel}
+use Rattle.gm_text.specs.inner.SchemaAnswers.{Reads}
 use Rattle.gm_text.proofs.schema_reading.read_orbit.Given as goal
 
 abbrev pub invariant-loop-label : goal.invariant-loop-label

@@ -2,9 +2,9 @@ use Rattle.std.proofs.Common.{List, true, [], refl, sym, subst}
 use Rattle.std.proofs.lemmas.Result.{err_from_is_err_and}
 use Rattle.gm_model.specs.declared.schema.Embed.{Embed}
 use Rattle.gm_model.proofs.Exits.{unless_ok, on_err}
-use Rattle.gm_text.specs.Cursor.{Cursor}
-use Rattle.gm_text.specs.SchemaReading.{AtDim, AtEmbeds}
-use Rattle.gm_text.specs.SchemaAnswers.{Reads, StopsOrLost}
+use Rattle.gm_text.specs.inner.Cursor.{Cursor}
+use Rattle.gm_text.specs.inner.SchemaReading.{AtDim, AtEmbeds}
+use Rattle.gm_text.specs.inner.SchemaAnswers.{Reads, StopsOrLost}
 use Rattle.gm_text.proofs.SchemaSteps.{reads_then, or_lost, lost_then, reads_token_behind}
 use Rattle.gm_text.proofs.SchemaWhole.{read_fault, read_stands}
 use Rattle.gm_text.proofs.SchemaSound.{read_sound}

@@ -1,8 +1,8 @@
 use Rattle.std.proofs.Common.{arith, ℕ, [], refl, sym, subst}
 use Rattle.std.proofs.lemmas.Result.{err_from_is_err_and}
 use Rattle.gm_model.specs.declared.token.TokenKind.TheVariants as tokens
-use Rattle.gm_text.specs.SchemaReading.{AtTop, AtEmbeds}
-use Rattle.gm_text.specs.SchemaAnswers.{Reads}
+use Rattle.gm_text.specs.inner.SchemaReading.{AtTop, AtEmbeds}
+use Rattle.gm_text.specs.inner.SchemaAnswers.{Reads}
 use Rattle.gm_model.proofs.Exits.{unless_ok}
 use Rattle.gm_text.proofs.SchemaMoves.{kind_is, kind_other, no_top}
 use Rattle.gm_text.proofs.SchemaReaders.{top_read, top_past, top_none}

@@ -2,9 +2,9 @@ use Rattle.std.proofs.Common.{◌≡◌, ◌+◌, ◌<◌, ◌≤◌, ◌++◌, 
 use Rattle.std.specs.Prelude.{IfSome}
 use Rattle.std.proofs.lemmas.List.{length-append}
 use Rattle.std.proofs.lemmas.Result.{err_from_is_err_and}
-use Rattle.gm_text.specs.Cursor.{Cursor}
-use Rattle.gm_text.specs.SchemaReading.{AtEmbeds}
-use Rattle.gm_text.specs.SchemaAnswers.{Reads, ReadsEmbed, EndsEmbeds}
+use Rattle.gm_text.specs.inner.Cursor.{Cursor}
+use Rattle.gm_text.specs.inner.SchemaReading.{AtEmbeds}
+use Rattle.gm_text.specs.inner.SchemaAnswers.{Reads, ReadsEmbed, EndsEmbeds}
 use Rattle.gm_model.proofs.Exits.{unless_ok}
 use Rattle.gm_text.proofs.SchemaSteps.{reads_none, reads_then, stops_then}
 use Rattle.gm_text.proofs.schema_reading.skip_embeds.Goals as goal

@@ -1,7 +1,7 @@
 use Rattle.std.proofs.Common.{◌≡◌, ◌-◌, List, false, [], length}
 use Rattle.gm_model.specs.declared.schema.Embed.{Embed}
-use Rattle.gm_text.specs.SchemaReading.{AtEmbeds}
-use Rattle.gm_text.specs.SchemaAnswers.{Reads}
+use Rattle.gm_text.specs.inner.SchemaReading.{AtEmbeds}
+use Rattle.gm_text.specs.inner.SchemaAnswers.{Reads}
 use Rattle.gm_text.proofs.schema_reading.skip_embeds.Given as goal
 
 abbrev pub invariant-loop-count : goal.invariant-loop-count

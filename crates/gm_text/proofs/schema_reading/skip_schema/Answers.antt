@@ -1,9 +1,9 @@
 use Rattle.std.proofs.Common.{false, [], refl, subst}
 use Rattle.std.proofs.lemmas.Result.{err_from_is_err_and}
 use Rattle.gm_model.proofs.Exits.{unless_ok, on_err}
-use Rattle.gm_text.specs.Cursor.{Cursor}
-use Rattle.gm_text.specs.SchemaReading.{AtDim, AtEmbeds}
-use Rattle.gm_text.specs.SchemaAnswers.{Stops, SkipsSchema}
+use Rattle.gm_text.specs.inner.Cursor.{Cursor}
+use Rattle.gm_text.specs.inner.SchemaReading.{AtDim, AtEmbeds}
+use Rattle.gm_text.specs.inner.SchemaAnswers.{Stops, SkipsSchema}
 use Rattle.gm_text.proofs.SchemaSteps.{reads_then, stops_then, reads_token_behind}
 use Rattle.gm_text.proofs.SchemaWhole.{skip_fault, skip_stands}
 use Rattle.gm_text.proofs.schema_reading.skip_schema.Goals as goal

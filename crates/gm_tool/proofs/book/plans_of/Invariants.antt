@@ -1,5 +1,5 @@
 use Rattle.std.proofs.Common.{◌≡◌, take, map}
-use Rattle.gm_plan.specs.Plans.{plan_of}
+use Rattle.gm_plan.specs.inner.Plans.{plan_of}
 use Rattle.gm_tool.proofs.BookPlans.{AreAccepted}
 use Rattle.gm_tool.proofs.book.plans_of.Given as goal
 

@@ -1,4 +1,4 @@
-use Rattle.gm_arena.specs.ArenaAsMap.{as_map}
+use Rattle.gm_arena.specs.inner.ArenaAsMap.{as_map}
 use Rattle.gm_tool.proofs.ArenaMaps.{tells_cells}
 use Rattle.gm_tool.proofs.cells.text_of.Goals as goal
 

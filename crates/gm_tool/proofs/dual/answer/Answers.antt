@@ -2,7 +2,7 @@ use Rattle.std.proofs.Common.{inr, refl}
 use Rattle.gm_host.specs.Count.{Rises}
 use Rattle.gm_tool.specs.DualAnswer.{dual_names_of}
 use Rattle.gm_tool.specs.Loads.{FailsAt}
-use Rattle.gm_tool.specs.Replies.{IsPlainStatus}
+use Rattle.gm_tool.specs.inner.Replies.{IsPlainStatus}
 use Rattle.gm_tool.proofs.Duals.{counts_put, counts_stopped, put_dual, stopped_dual, within_status, within_is_sound}
 use Rattle.gm_tool.proofs.Saving.{stop_is_sound, stop_status}
 use Rattle.gm_tool.proofs.dual.answer.Goals as goal

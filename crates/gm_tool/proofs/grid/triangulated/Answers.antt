@@ -1,5 +1,5 @@
 use Rattle.std.proofs.Common.{subst}
-use Rattle.gm_arena.specs.ArenaAsMap.{as_map}
+use Rattle.gm_arena.specs.inner.ArenaAsMap.{as_map}
 use Rattle.gm_grid.proofs.GridSound.{is_sound}
 use Rattle.gm_model.specs.Maps.{IsDart}
 use Rattle.gm_model.specs.Orbits.{HasCount}

@@ -1,5 +1,5 @@
 use Rattle.std.proofs.Common.{subst, sym, ℕ, List}
-use Rattle.gm_mapfile.specs.Rows.{listed_of}
+use Rattle.gm_mapfile.specs.inner.Rows.{listed_of}
 use Rattle.gm_mapfile.specs.MapText.{canonical}
 use Rattle.gm_tool.specs.Answer.{IsOutput, Show, Shown}
 use Rattle.gm_tool.proofs.Judging.{output_judged}

@@ -3,8 +3,8 @@ use Rattle.std.proofs.lemmas.Result.{err_from_is_err_and}
 use Rattle.gm_host.specs.Count.{counted, Rises}
 use Rattle.gm_tool.specs.Loads.{FailsAt}
 use Rattle.gm_tool.specs.Migrating.{migrate_names_of}
-use Rattle.gm_tool.specs.Replies.{IsPlainStatus}
-use Rattle.gm_tool.specs.Stops.{reply_of}
+use Rattle.gm_tool.specs.inner.Replies.{IsPlainStatus}
+use Rattle.gm_tool.specs.inner.Stops.{reply_of}
 use Rattle.gm_tool.proofs.LoadCounts.{always}
 use Rattle.gm_tool.proofs.Migrations.{unread_is_sound, stopped_migration, unmade_migration, saved_migration, unmade_is_sound, migrated_status}
 use Rattle.gm_tool.proofs.Saving.{map_saved, saving_is_sound, unsaved, stop_is_sound, stop_status, stop_is_no_run}

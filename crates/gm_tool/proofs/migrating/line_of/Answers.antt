@@ -1,5 +1,5 @@
 use Rattle.std.proofs.Common.{codes, decimal, length, sym}
-use Rattle.gm_mapfile.specs.Rows.{darts_of}
+use Rattle.gm_mapfile.specs.inner.Rows.{darts_of}
 use Rattle.gm_mapfile.proofs.Printed.{darts_counted}
 use Rattle.gm_tool.proofs.Migrations.{joined}
 use Rattle.gm_tool.proofs.migrating.line_of.Goals as goal

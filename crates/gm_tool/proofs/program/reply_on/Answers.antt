@@ -1,6 +1,6 @@
 use Rattle.std.proofs.lemmas.Result.{err_from_is_err_and}
 use Rattle.gm_tool.specs.Loads.{FailsAt}
-use Rattle.gm_tool.specs.Refusals.{command_in}
+use Rattle.gm_tool.specs.inner.Refusals.{command_in}
 use Rattle.gm_tool.proofs.Asking.{not_loaded, loaded, load_is_sound, judged_is_sound, judged_refuses, judged_status}
 use Rattle.gm_tool.proofs.StepWords.{unloaded_shown, loaded_shown}
 use Rattle.gm_tool.proofs.program.reply_on.Goals as goal

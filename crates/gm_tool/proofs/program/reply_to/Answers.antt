@@ -1,7 +1,7 @@
 use Rattle.std.proofs.Common.{inl, inr}
 use Rattle.gm_tool.specs.MadeRuns.{names_of}
 use Rattle.gm_tool.specs.Migrating.{migrate_names_of}
-use Rattle.gm_tool.specs.Refusals.{command_in}
+use Rattle.gm_tool.specs.inner.Refusals.{command_in}
 use Rattle.gm_tool.specs.Tool.{words_of}
 use Rattle.gm_tool.specs.DualAnswer.{dual_names_of}
 use Rattle.gm_tool.proofs.Asking.{file_text, run_text, migrate_text, dual_text, grid_text, usage_text, grid_status, plain_status}

@@ -2,7 +2,7 @@ use Rattle.std.proofs.Common.{inr, refl, ap, ◌∙◌}
 use Rattle.gm_host.specs.Count.{counted, Rises}
 use Rattle.gm_tool.specs.Loads.{FailsAt}
 use Rattle.gm_tool.specs.MadeRuns.{names_of}
-use Rattle.gm_tool.specs.Stops.{reply_of}
+use Rattle.gm_tool.specs.inner.Stops.{reply_of}
 use Rattle.gm_tool.specs.Tool.{IsReplyStatus}
 use Rattle.gm_tool.proofs.Saving.{text_saved, stopped_text, map_saved, status_saved, saving_is_sound, stop_is_sound, stop_status, stop_is_no_run, unsaved}
 use Rattle.gm_tool.proofs.SaveCounts.{none_saved, once_saved}

@@ -1,4 +1,4 @@
-use Rattle.gm_arena.specs.ArenaAsMap.{as_map}
+use Rattle.gm_arena.specs.inner.ArenaAsMap.{as_map}
 use Rattle.gm_model.specs.Maps.{IsSound}
 use Rattle.gm_tool.specs.MadeRuns.{IsMapBytes}
 use Rattle.gm_tool.proofs.ArenaMaps.{if_such}

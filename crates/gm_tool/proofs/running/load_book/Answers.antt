@@ -2,7 +2,7 @@ use Rattle.std.proofs.Common.{refl}
 use Rattle.std.proofs.lemmas.Result.{err_from_is_err_and}
 use Rattle.gm_lines.specs.Refusing.{TheBook}
 use Rattle.gm_tool.specs.RunAnswer.{IsBadBookText}
-use Rattle.gm_tool.specs.Stops.{IsReadBook}
+use Rattle.gm_tool.specs.inner.Stops.{IsReadBook}
 use Rattle.gm_tool.specs.declared.refusal.Role.TheVariants as roles
 use Rattle.gm_tool.proofs.Stopping.{not_loaded_from, read_from, some_bytes}
 use Rattle.gm_tool.proofs.running.load_book.Goals as goal

@@ -3,7 +3,7 @@ use Rattle.std.proofs.lemmas.Result.{err_from_is_err_and}
 use Rattle.gm_host.specs.Count.{Rises}
 use Rattle.gm_lines.specs.Refusing.{TheMap}
 use Rattle.gm_tool.specs.RunAnswer.{IsBadMap}
-use Rattle.gm_tool.specs.Stops.{IsLoadedMap}
+use Rattle.gm_tool.specs.inner.Stops.{IsLoadedMap}
 use Rattle.gm_tool.specs.declared.refusal.Role.TheVariants as roles
 use Rattle.gm_tool.proofs.StepBounds.{loaded_within, unread_within}
 use Rattle.gm_tool.proofs.Stopping.{not_loaded_from, read_from}

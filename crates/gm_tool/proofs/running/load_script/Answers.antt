@@ -3,7 +3,7 @@ use Rattle.std.proofs.lemmas.Result.{err_from_is_err_and}
 use Rattle.gm_model.specs.Rules.{rule_of}
 use Rattle.gm_lines.specs.Refusing.{TheScript}
 use Rattle.gm_tool.specs.RunAnswer.{IsBadScript}
-use Rattle.gm_tool.specs.Stops.{IsReadScript}
+use Rattle.gm_tool.specs.inner.Stops.{IsReadScript}
 use Rattle.gm_tool.specs.declared.refusal.Role.TheVariants as roles
 use Rattle.gm_tool.proofs.Stopping.{not_loaded_from, read_from, some_bytes}
 use Rattle.gm_tool.proofs.running.load_script.Goals as goal

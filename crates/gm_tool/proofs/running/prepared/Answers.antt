@@ -4,7 +4,7 @@ use Rattle.gm_host.specs.Count.{counted, Rises}
 use Rattle.gm_lines.specs.Refusing.{TheMap, TheBook}
 use Rattle.gm_tool.specs.Loads.{FailsAt}
 use Rattle.gm_tool.specs.MadeRuns.{names_of}
-use Rattle.gm_tool.specs.Stops.{IsReadBook}
+use Rattle.gm_tool.specs.inner.Stops.{IsReadBook}
 use Rattle.gm_tool.proofs.LoadCounts.{behind_map, behind_book}
 use Rattle.gm_tool.proofs.OwnFiles.{first_of, second_of, third_of}
 use Rattle.gm_tool.proofs.RunStops.{rises_later, passes_map, passes_book, unloaded, at_map, at_book, has_begun}

@@ -1,6 +1,6 @@
 use Rattle.std.proofs.Common.{subst, sym}
 use Rattle.std.proofs.lemmas.Result.{err_from_is_err_and}
-use Rattle.gm_run.specs.Lines.{Tells}
+use Rattle.gm_run.specs.inner.Lines.{Tells}
 use Rattle.gm_tool.proofs.ArenaMaps.{fitted_bytes}
 use Rattle.gm_tool.proofs.Lines.{fitted_printed}
 use Rattle.gm_tool.proofs.running.printed.Goals as goal

@@ -1,6 +1,6 @@
 use Rattle.std.proofs.Common.{List}
 use Rattle.gm_model.specs.Runs.{Outcome}
-use Rattle.gm_run.specs.Lines.{Tells}
+use Rattle.gm_run.specs.inner.Lines.{Tells}
 use Rattle.gm_tool.proofs.Statuses.{IsStatusFrom}
 use Rattle.gm_tool.proofs.running.status_of.Given as goal
 

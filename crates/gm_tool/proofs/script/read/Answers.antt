@@ -1,7 +1,7 @@
 use Rattle.std.proofs.Common.{List, map, subst}
 use Rattle.gm_model.specs.Rules.{Rule, rule_of}
-use Rattle.gm_script.specs.Faults.{IsFaultOf}
-use Rattle.gm_tool.specs.Stops.{IsReadScript}
+use Rattle.gm_script.specs.inner.Faults.{IsFaultOf}
+use Rattle.gm_tool.specs.inner.Stops.{IsReadScript}
 use Rattle.gm_tool.proofs.ReadBooks.{all_first}
 use Rattle.gm_tool.proofs.Stopping.{script_stopped}
 use Rattle.gm_tool.proofs.script.read.Goals as goal

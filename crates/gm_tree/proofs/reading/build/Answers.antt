@@ -1,14 +1,14 @@
 use Rattle.std.proofs.Common.{◌≡◌, ◌≤◌, [], List, Option, None, length, sym, ap, subst, ◌∙◌, arith}
 use Rattle.std.specs.Option.{option_map}
 use Rattle.gm_model.specs.declared.token.Token.{Token}
-use Rattle.gm_text.specs.SchemaAnswers.{mark_at}
+use Rattle.gm_text.specs.inner.SchemaAnswers.{mark_at}
 use Rattle.gm_parse.specs.declared.key.Key.{Key}
-use Rattle.gm_parse.specs.Answers.{Advances}
-use Rattle.gm_tree.specs.Building.{Frame, Nothing, Work, work, work_of, frames_of, name_fault, part_of, take_in}
-use Rattle.gm_tree.specs.Built.{IsUnderway}
+use Rattle.gm_parse.specs.inner.Answers.{Advances}
+use Rattle.gm_tree.specs.inner.Building.{Frame, Nothing, Work, work, work_of, frames_of, name_fault, part_of, take_in}
+use Rattle.gm_tree.specs.inner.Built.{IsUnderway}
 use Rattle.gm_parse.specs.Meaning.{NameFault}
-use Rattle.gm_tree.specs.FirstNames.{first_names}
-use Rattle.gm_parse.specs.Reading.{State, spot_at, start}
+use Rattle.gm_tree.specs.inner.FirstNames.{first_names}
+use Rattle.gm_parse.specs.inner.Reading.{State, spot_at, start}
 use Rattle.gm_tree.proofs.Underway.{underway_start, underway_on, underway_ends, no_stop}
 use Rattle.gm_tree.proofs.reading.build.Goals as goal
 

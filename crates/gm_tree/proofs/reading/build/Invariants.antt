@@ -1,8 +1,8 @@
 use Rattle.std.proofs.Common.{◌≤◌, ◌-◌, length}
-use Rattle.gm_tree.specs.Building.{work_of}
-use Rattle.gm_tree.specs.Built.{IsUnderway}
-use Rattle.gm_tree.specs.FirstNames.{first_names}
-use Rattle.gm_parse.specs.Reading.{spot_at}
+use Rattle.gm_tree.specs.inner.Building.{work_of}
+use Rattle.gm_tree.specs.inner.Built.{IsUnderway}
+use Rattle.gm_tree.specs.inner.FirstNames.{first_names}
+use Rattle.gm_parse.specs.inner.Reading.{spot_at}
 use Rattle.gm_tree.proofs.reading.build.Given as goal
 
 abbrev pub invariant-loop-token : goal.invariant-loop-token

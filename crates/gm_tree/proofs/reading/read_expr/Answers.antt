@@ -1,11 +1,11 @@
 use Rattle.std.proofs.Common.{refl, subst}
 use Rattle.std.proofs.lemmas.Result.{err_from_is_err_and}
 use Rattle.gm_model.specs.Trees.{tree_of}
-use Rattle.gm_text.specs.Cursor.{Cursor}
+use Rattle.gm_text.specs.inner.Cursor.{Cursor}
 use Rattle.gm_model.proofs.Exits.{on_err, unless_ok}
-use Rattle.gm_tree.specs.Building.{work_of}
-use Rattle.gm_tree.specs.Built.{IsBuiltOver}
-use Rattle.gm_tree.specs.FirstNames.{first_names}
+use Rattle.gm_tree.specs.inner.Building.{work_of}
+use Rattle.gm_tree.specs.inner.Built.{IsBuiltOver}
+use Rattle.gm_tree.specs.inner.FirstNames.{first_names}
 use Rattle.gm_tree.proofs.ReadForms.{expr_is, fault_is, read_unsigned, read_in_range}
 use Rattle.gm_tree.proofs.reading.read_expr.Goals as goal
 

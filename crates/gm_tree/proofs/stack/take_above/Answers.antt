@@ -1,6 +1,6 @@
 use Rattle.std.proofs.Common.{rules, ◌≡◌, ◌-◌, ◌<◌, length, Some, IsSome, slice_get, arith}
 use Rattle.std.proofs.lemmas.Option.{slice_get_within}
-use Rattle.gm_tree.specs.Building.{frame_of, least_in}
+use Rattle.gm_tree.specs.inner.Building.{frame_of, least_in}
 use Rattle.gm_tree.proofs.Stacks.{taken_last, takes_above}
 use Rattle.gm_tree.proofs.stack.take_above.Goals as goal
 

@@ -1,6 +1,6 @@
 use Rattle.std.proofs.Common.{rules, ◌≡◌, ◌-◌, false, length, Some, IsSome, slice_get}
 use Rattle.std.proofs.lemmas.Option.{slice_get_within}
-use Rattle.gm_tree.specs.Building.{frame_of, is_bracket}
+use Rattle.gm_tree.specs.inner.Building.{frame_of, is_bracket}
 use Rattle.gm_tree.proofs.Stacks.{taken_last, takes_shut}
 use Rattle.gm_tree.proofs.stack.take_shut.Goals as goal
 

@@ -7,10 +7,10 @@ use Rattle.gm_model.specs.Trees.{Number}
 use Rattle.gm_parse.specs.declared.key.Key.{Key}
 use Rattle.gm_parse.specs.declared.key.Key.TheVariants as keys
 use Rattle.gm_parse.specs.Meaning.{Names}
-use Rattle.gm_parse.specs.Reading.{key_of}
+use Rattle.gm_parse.specs.inner.Reading.{key_of}
 use Rattle.gm_parse.specs.Spelling.{greatest}
-use Rattle.gm_tree.specs.Building.{Name, Value, begin_part, named_at}
-use Rattle.gm_tree.specs.FirstNames.{first_names}
+use Rattle.gm_tree.specs.inner.Building.{Name, Value, begin_part, named_at}
+use Rattle.gm_tree.specs.inner.FirstNames.{first_names}
 use Rattle.gm_parse.proofs.Keys.{kind_of_number}
 use Rattle.gm_tree.proofs.LookUp.{begin_name, number_of_token}
 use Rattle.gm_tree.proofs.taking.begin_operand.Goals as goal

@@ -1,5 +1,5 @@
 use Rattle.std.proofs.Common.{◌≡◌, ℕ, ◌<◌, false}
-use Rattle.gm_undo.specs.Layout.{made_at}
+use Rattle.gm_undo.specs.inner.Layout.{made_at}
 use Rattle.gm_undo.proofs.entries.entry_behind.Given as goal
 
 abbrev pub invariant-loop-index : goal.invariant-loop-index

@@ -1,8 +1,8 @@
 use Rattle.std.proofs.Common.{◌≡◌, ℕ, ◌+◌, ◌-◌, ◌<◌, ◌≤◌, None, arith, length, ap, subst}
 use Rattle.std.proofs.Math.Nat.{le_antisymm, le_refl, le_trans}
-use Rattle.gm_undo.specs.Costs.{cost_to}
-use Rattle.gm_undo.specs.Layout.{changes_in}
-use Rattle.gm_undo.specs.Standing.{AreChained}
+use Rattle.gm_undo.specs.inner.Costs.{cost_to}
+use Rattle.gm_undo.specs.inner.Layout.{changes_in}
+use Rattle.gm_undo.specs.inner.Standing.{AreChained}
 use Rattle.gm_undo.proofs.Spans.{end_high, middle_high, rows_high, middle_within, can_back, cost_next, moved}
 use Rattle.gm_undo.proofs.Sums.{paid_back}
 use Rattle.gm_undo.proofs.Written.{room_more, same_room}

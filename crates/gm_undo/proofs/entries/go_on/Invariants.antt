@@ -1,8 +1,8 @@
 use Rattle.std.proofs.Common.{◌≤◌, ℕ, ◌+◌}
-use Rattle.gm_undo.specs.Costs.{cost_to}
-use Rattle.gm_undo.specs.Layout.{changes_in}
-use Rattle.gm_undo.specs.Standing.{AreChained, Rows}
-use Rattle.gm_undo.specs.Writing.{HasRoomOf}
+use Rattle.gm_undo.specs.inner.Costs.{cost_to}
+use Rattle.gm_undo.specs.inner.Layout.{changes_in}
+use Rattle.gm_undo.specs.inner.Standing.{AreChained, Rows}
+use Rattle.gm_undo.specs.inner.Writing.{HasRoomOf}
 use Rattle.gm_undo.proofs.entries.go_on.Given as goal
 
 abbrev pub invariant-loop-index : goal.invariant-loop-index

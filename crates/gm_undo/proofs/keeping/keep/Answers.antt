@@ -1,15 +1,15 @@
 use Rattle.std.proofs.Common.{◌≡◌, ℕ, ◌+◌, ◌<◌, ◌≤◌, List, length}
-use Rattle.gm_arena.specs.ArenaMap.{IsLiveName}
+use Rattle.gm_arena.specs.inner.ArenaMap.{IsLiveName}
 use Rattle.gm_model.specs.declared.schema.Schema.{Schema}
 use Rattle.gm_arena.specs.declared.slot.Slot.{Slot}
-use Rattle.gm_undo.specs.Keeping.{AreAddedKept, AreBehindKept, AreTouchedKept}
-use Rattle.gm_undo.specs.Standing.{rows_in}
+use Rattle.gm_undo.specs.inner.Keeping.{AreAddedKept, AreBehindKept, AreTouchedKept}
+use Rattle.gm_undo.specs.inner.Standing.{rows_in}
 use Rattle.std.specs.List.{Contains}
 use Rattle.std.proofs.Common.{◌≢◌, sym, ap, subst, ◌∙◌}
-use Rattle.gm_arena.specs.ArenaMap.{ArenaMap, name_at}
+use Rattle.gm_arena.specs.inner.ArenaMap.{ArenaMap, name_at}
 use Rattle.std.specs.FinMap.{get}
-use Rattle.gm_undo.specs.Flat.{row_in}
-use Rattle.gm_pending.specs.EditLists.{IsResultOf, cost_of}
+use Rattle.gm_undo.specs.inner.Flat.{row_in}
+use Rattle.gm_pending.specs.inner.EditLists.{IsResultOf, cost_of}
 use Rattle.gm_undo.proofs.Leads.{added_live, added_only, front_kept, sides}
 use Rattle.gm_undo.proofs.Ranges.{sides_of}
 use Rattle.std.proofs.Math.Nat.{le_refl, le_trans}

@@ -2,8 +2,8 @@ use Rattle.gm_undo.proofs.Sums.{never_more, one_fits}
 use Rattle.std.proofs.Common.{◌≡◌, ◌+◌, ◌*◌}
 use Rattle.std.proofs.Common.{ℕ, length, refl, ap, subst, ◌∙◌, arith, Some}
 use Rattle.std.proofs.Math.Nat.{le_antisymm}
-use Rattle.gm_undo.specs.Keeping.{AreAddedKept}
-use Rattle.gm_arena.specs.ArenaMap.{Dart, name_at}
+use Rattle.gm_undo.specs.inner.Keeping.{AreAddedKept}
+use Rattle.gm_arena.specs.inner.ArenaMap.{Dart, name_at}
 use Rattle.gm_arena.proofs.InsideLemmas.{some_of}
 use Rattle.gm_arena.proofs.MapLemmas.{name_at-is, name_below}
 use Rattle.std.specs.FinMap.{get}

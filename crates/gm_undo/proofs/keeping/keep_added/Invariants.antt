@@ -1,5 +1,5 @@
 use Rattle.std.proofs.Common.{◌≡◌, ◌+◌, ◌*◌}
-use Rattle.gm_undo.specs.Keeping.{AreAddedKept}
+use Rattle.gm_undo.specs.inner.Keeping.{AreAddedKept}
 use Rattle.gm_undo.proofs.keeping.keep_added.Given as goal
 
 abbrev pub invariant-loop-number : goal.invariant-loop-number

@@ -2,14 +2,14 @@ use Rattle.gm_undo.proofs.Sums.{never_more, one_stays}
 use Rattle.std.proofs.Common.{◌≡◌, ◌+◌, ◌-◌, ◌*◌, ◌<◌, ◌≤◌, ◌++◌, length, true, [], ◌∷◌}
 use Rattle.std.proofs.Math.Nat.{le_antisymm, le_refl, le-add_right, lt_of_lt_of_le}
 use Rattle.std.proofs.lemmas.List.{length-set}
-use Rattle.gm_arena.specs.ArenaMap.{IsLiveName}
+use Rattle.gm_arena.specs.inner.ArenaMap.{IsLiveName}
 use Rattle.std.proofs.Common.{sym, ap, subst, ◌∙◌, arith, Some}
-use Rattle.gm_arena.specs.ArenaMap.{Dart, name_at}
+use Rattle.gm_arena.specs.inner.ArenaMap.{Dart, name_at}
 use Rattle.gm_arena.proofs.InsideLemmas.{some_of}
 use Rattle.gm_arena.proofs.MapLemmas.{name_at-is}
 use Rattle.std.specs.FinMap.{get}
 use Rattle.gm_undo.proofs.Keep.{AreBehindTo, behind_none, behind_more, behind_gone, behind_all}
-use Rattle.gm_undo.specs.Flat.{RowsOf, row_in}
+use Rattle.gm_undo.specs.inner.Flat.{RowsOf, row_in}
 use Rattle.gm_undo.proofs.Sides.{one_more}
 use Rattle.gm_undo.proofs.keeping.keep_staying.Goals.{in-Some, in_default}
 use Rattle.gm_undo.proofs.keeping.keep_staying.Goals as goal

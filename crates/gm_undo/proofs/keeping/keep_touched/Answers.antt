@@ -3,8 +3,8 @@ use Rattle.std.proofs.Common.{◌≡◌, ◌+◌, ◌*◌, ◌++◌, [], ◌∷�
 use Rattle.std.proofs.Common.{ℕ, length, take, suc, get_or, ap, subst, ◌∙◌, arith, Some}
 use Rattle.std.proofs.Math.Nat.{le_of_lt}
 use Rattle.std.proofs.lemmas.List.{length-take-le, take_all}
-use Rattle.gm_undo.specs.Keeping.{AreTouchedKept}
-use Rattle.gm_arena.specs.ArenaMap.{Dart, name_at}
+use Rattle.gm_undo.specs.inner.Keeping.{AreTouchedKept}
+use Rattle.gm_arena.specs.inner.ArenaMap.{Dart, name_at}
 use Rattle.gm_arena.proofs.InsideLemmas.{some_of}
 use Rattle.gm_arena.proofs.MapLemmas.{IsLiveName-name_at}
 use Rattle.std.specs.FinMap.{get}

@@ -1,5 +1,5 @@
 use Rattle.std.proofs.Common.{◌≡◌, ◌+◌, ◌*◌, take}
-use Rattle.gm_undo.specs.Keeping.{AreTouchedKept}
+use Rattle.gm_undo.specs.inner.Keeping.{AreTouchedKept}
 use Rattle.gm_undo.proofs.keeping.keep_touched.Given as goal
 
 abbrev pub invariant-loop-slot : goal.invariant-loop-slot

@@ -1,6 +1,6 @@
 use Rattle.std.proofs.Common.{◌≡◌, ◌+◌, ◌++◌, map, take}
 use Rattle.std.specs.Vec.{vec_capacity}
-use Rattle.gm_arena.specs.ArenaMap.{name_at}
+use Rattle.gm_arena.specs.inner.ArenaMap.{name_at}
 use Rattle.gm_arena.specs.declared.slot.Slot.{Slot}
 use Rattle.gm_undo.proofs.rows.push_names.Given as goal
 

@@ -1,10 +1,10 @@
 use Rattle.std.proofs.Common.{◌≡◌, Some}
 use Rattle.std.specs.FinMap.{get}
-use Rattle.gm_undo.specs.Flat.{row_in}
+use Rattle.gm_undo.specs.inner.Flat.{row_in}
 use Rattle.std.proofs.Common.{ap, ap₂, ◌∙◌, cond}
 use Rattle.gm_arena.proofs.MapLemmas.{get-with_dart_same, get-with_dart_other}
-use Rattle.gm_arena.specs.Edits.{with_dart, free_dart}
-use Rattle.gm_arena.specs.ArenaMap.{ArenaMap}
+use Rattle.gm_arena.specs.inner.Edits.{with_dart, free_dart}
+use Rattle.gm_arena.specs.inner.ArenaMap.{ArenaMap}
 use Rattle.gm_undo.proofs.writing.add_row.Goals as goal
 
 pub returns-clause-own : goal.returns-clause-own

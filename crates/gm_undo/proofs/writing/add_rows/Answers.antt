@@ -2,10 +2,10 @@ use Rattle.std.proofs.Common.{◌≡◌, ℕ, ◌+◌, ◌-◌, ◌≤◌, Some,
 use Rattle.std.proofs.Math.Nat.{le_antisymm, le_refl, le_trans, le-add_right, lt_of_lt_of_le}
 use Rattle.std.specs.FinMap.{get}
 use Rattle.gm_model.specs.declared.schema.Schema.{Schema}
-use Rattle.gm_arena.specs.Edits.{free_dart}
-use Rattle.gm_arena.specs.Lawful.{AreGoodValues}
-use Rattle.gm_undo.specs.Flat.{row_in}
-use Rattle.gm_undo.specs.Writing.{IsAddedRow, IsWritten}
+use Rattle.gm_arena.specs.inner.Edits.{free_dart}
+use Rattle.gm_arena.specs.inner.Lawful.{AreGoodValues}
+use Rattle.gm_undo.specs.inner.Flat.{row_in}
+use Rattle.gm_undo.specs.inner.Writing.{IsAddedRow, IsWritten}
 use Rattle.gm_undo.proofs.Sums.{never_more}
 use Rattle.gm_undo.proofs.Written.{has_name, room_more, same_room, some_spare, unadded, written_more, written_none}
 use Rattle.gm_undo.proofs.writing.add_rows.Goals as goal

@@ -1,5 +1,5 @@
 use Rattle.std.proofs.Common.{◌+◌, ◌-◌, ◌≤◌}
-use Rattle.gm_undo.specs.Writing.{HasRoomOf, IsAddedRow, IsWritten}
+use Rattle.gm_undo.specs.inner.Writing.{HasRoomOf, IsAddedRow, IsWritten}
 use Rattle.gm_undo.proofs.writing.add_rows.Given as goal
 
 abbrev pub invariant-loop-index : goal.invariant-loop-index

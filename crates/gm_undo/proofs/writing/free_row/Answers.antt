@@ -1,11 +1,11 @@
 use Rattle.gm_undo.proofs.Sums.{never_more}
 use Rattle.std.proofs.Common.{◌≡◌}
-use Rattle.gm_arena.specs.ArenaMap.{name_at}
+use Rattle.gm_arena.specs.inner.ArenaMap.{name_at}
 use Rattle.std.proofs.Common.{ap, ◌∙◌, arith}
 use Rattle.gm_arena.proofs.MapLemmas.{name_at-is}
 use Rattle.gm_undo.proofs.OneDart.{free_none, free_more, named}
-use Rattle.gm_arena.specs.Edits.{with_alpha}
-use Rattle.gm_arena.specs.ArenaMap.{ArenaMap}
+use Rattle.gm_arena.specs.inner.Edits.{with_alpha}
+use Rattle.gm_arena.specs.inner.ArenaMap.{ArenaMap}
 use Rattle.gm_pending.proofs.Whole.{lawful_whole}
 use Rattle.gm_undo.proofs.writing.free_row.Goals as goal
 

@@ -2,14 +2,14 @@ use Rattle.gm_undo.proofs.Sums.{never_more}
 use Rattle.std.proofs.Common.{◌≡◌, ◌≢◌, ℕ, ◌+◌, ◌-◌, ◌*◌}
 use Rattle.std.proofs.Math.Nat.{le_antisymm, lt_of_lt_of_le}
 use Rattle.std.specs.FinMap.{get}
-use Rattle.gm_arena.specs.ArenaMap.{IsLiveName, alpha}
-use Rattle.gm_undo.specs.Flat.{row_in}
-use Rattle.gm_undo.specs.Writing.{IsFreeRow, IsWritten}
+use Rattle.gm_arena.specs.inner.ArenaMap.{IsLiveName, alpha}
+use Rattle.gm_undo.specs.inner.Flat.{row_in}
+use Rattle.gm_undo.specs.inner.Writing.{IsFreeRow, IsWritten}
 use Rattle.std.proofs.Common.{sym, ap, subst, ◌∙◌, inl, inr, arith}
 use Rattle.gm_undo.proofs.Written.{next_outside, written_more, written_none}
 use Rattle.gm_undo.proofs.OneDart.{frame_more, no_frame}
 use Rattle.gm_undo.proofs.Sides.{none_more, one_more}
-use Rattle.gm_arena.specs.ArenaMap.{ArenaMap}
+use Rattle.gm_arena.specs.inner.ArenaMap.{ArenaMap}
 use Rattle.std.proofs.lemmas.Bool.{cases_eq}
 use Rattle.gm_undo.proofs.writing.free_rows.Goals as goal
 

@@ -1,6 +1,6 @@
 use Rattle.std.proofs.Common.{◌≡◌, ℕ, ◌+◌, ◌-◌, ◌*◌}
-use Rattle.gm_arena.specs.ArenaMap.{IsLiveName}
-use Rattle.gm_undo.specs.Writing.{HasFrame, IsFreeRow, IsWritten}
+use Rattle.gm_arena.specs.inner.ArenaMap.{IsLiveName}
+use Rattle.gm_undo.specs.inner.Writing.{HasFrame, IsFreeRow, IsWritten}
 use Rattle.gm_undo.proofs.writing.free_rows.Given as goal
 
 abbrev pub invariant-loop-index : goal.invariant-loop-index

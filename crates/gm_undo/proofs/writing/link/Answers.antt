@@ -1,9 +1,9 @@
 use Rattle.std.proofs.Common.{◌≡◌, length}
-use Rattle.gm_arena.specs.ArenaMap.{name_at}
+use Rattle.gm_arena.specs.inner.ArenaMap.{name_at}
 use Rattle.std.proofs.Common.{ap, ◌∙◌, arith}
 use Rattle.gm_arena.proofs.MapLemmas.{name_at-is}
 use Rattle.gm_undo.proofs.OneDart.{linked_more, linked_all, named}
-use Rattle.gm_arena.specs.Edits.{with_alpha}
+use Rattle.gm_arena.specs.inner.Edits.{with_alpha}
 use Rattle.gm_undo.proofs.writing.link.Goals as goal
 
 pub loop-label-preserved : goal.loop-label-preserved

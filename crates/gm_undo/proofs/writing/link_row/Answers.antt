@@ -1,7 +1,7 @@
 use Rattle.gm_undo.proofs.Sums.{never_more}
 use Rattle.std.proofs.Common.{◌≡◌, Some, length}
 use Rattle.std.specs.FinMap.{get}
-use Rattle.gm_arena.specs.ArenaMap.{Dart, name_at}
+use Rattle.gm_arena.specs.inner.ArenaMap.{Dart, name_at}
 use Rattle.std.proofs.Common.{sym, ap, ◌∙◌, arith}
 use Rattle.gm_arena.proofs.MapLemmas.{name_at-is}
 use Rattle.gm_undo.proofs.OneDart.{named}

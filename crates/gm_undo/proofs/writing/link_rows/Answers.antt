@@ -1,16 +1,16 @@
 use Rattle.std.proofs.Common.{◌≡◌, ◌≢◌, ℕ, ◌+◌, ◌-◌, ◌*◌, Some, All, length}
 use Rattle.std.proofs.Math.Nat.{le_antisymm, lt_of_lt_of_le}
 use Rattle.std.specs.FinMap.{get}
-use Rattle.gm_arena.specs.ArenaMap.{IsLiveName}
-use Rattle.gm_undo.specs.Flat.{row_in}
-use Rattle.gm_undo.specs.Writing.{IsOwnRow, IsWritten}
+use Rattle.gm_arena.specs.inner.ArenaMap.{IsLiveName}
+use Rattle.gm_undo.specs.inner.Flat.{row_in}
+use Rattle.gm_undo.specs.inner.Writing.{IsOwnRow, IsWritten}
 use Rattle.gm_model.specs.declared.schema.Schema.{Schema}
-use Rattle.gm_arena.specs.Lawful.{AreGoodValues}
+use Rattle.gm_arena.specs.inner.Lawful.{AreGoodValues}
 use Rattle.std.proofs.Common.{sym, ap, ap₂, subst, ◌∙◌, inl, inr, arith}
 use Rattle.gm_undo.proofs.Written.{written_more, written_none}
 use Rattle.gm_undo.proofs.OneDart.{frame_more, no_frame}
 use Rattle.gm_undo.proofs.Sides.{none_more, one_more}
-use Rattle.gm_arena.specs.ArenaMap.{ArenaMap}
+use Rattle.gm_arena.specs.inner.ArenaMap.{ArenaMap}
 use Rattle.std.proofs.lemmas.Bool.{cases_eq}
 use Rattle.gm_arena.proofs.InsideLemmas.{is_some_at}
 use Rattle.gm_undo.proofs.writing.link_rows.Goals as goal

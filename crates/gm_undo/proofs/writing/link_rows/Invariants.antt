@@ -1,6 +1,6 @@
 use Rattle.std.proofs.Common.{◌≡◌, ℕ, ◌+◌, ◌-◌, ◌*◌, length}
-use Rattle.gm_arena.specs.ArenaMap.{IsLiveName}
-use Rattle.gm_undo.specs.Writing.{HasFrame, IsOwnRow, IsWritten}
+use Rattle.gm_arena.specs.inner.ArenaMap.{IsLiveName}
+use Rattle.gm_undo.specs.inner.Writing.{HasFrame, IsOwnRow, IsWritten}
 use Rattle.gm_undo.proofs.writing.link_rows.Given as goal
 
 abbrev pub invariant-loop-index : goal.invariant-loop-index

@@ -1,11 +1,11 @@
 use Rattle.gm_undo.proofs.Sums.{never_more}
 use Rattle.std.proofs.Common.{◌≡◌, ◌+◌, ◌-◌, ◌≤◌}
 use Rattle.std.specs.FinMap.{get}
-use Rattle.gm_arena.specs.ArenaMap.{name_at}
+use Rattle.gm_arena.specs.inner.ArenaMap.{name_at}
 use Rattle.std.proofs.Common.{ap, ◌∙◌, arith}
 use Rattle.gm_arena.proofs.MapLemmas.{name_at-is, get-without_dart_same, get-without_dart_other}
-use Rattle.gm_arena.specs.Edits.{without_dart}
-use Rattle.gm_arena.specs.ArenaMap.{ArenaMap}
+use Rattle.gm_arena.specs.inner.Edits.{without_dart}
+use Rattle.gm_arena.specs.inner.ArenaMap.{ArenaMap}
 use Rattle.gm_undo.proofs.Counts.{some_dart}
 use Rattle.gm_undo.proofs.writing.remove_dart.Goals as goal
 

@@ -1,7 +1,7 @@
 use Rattle.std.proofs.Common.{◌≡◌, ◌+◌, ◌-◌, ◌*◌, ◌≤◌, None, ap, cond, subst, ◌∙◌}
 use Rattle.std.proofs.Math.Nat.{le_antisymm, le_refl, le_trans, le-add_right, lt_of_lt_of_le}
-use Rattle.gm_undo.specs.Flat.{row_in}
-use Rattle.gm_undo.specs.Writing.{IsClearedRow, IsWritten}
+use Rattle.gm_undo.specs.inner.Flat.{row_in}
+use Rattle.gm_undo.specs.inner.Writing.{IsClearedRow, IsWritten}
 use Rattle.gm_undo.proofs.Sides.{most_more}
 use Rattle.gm_undo.proofs.Written.{next_outside, room_more, same_room, still_alone, written_more, written_none}
 use Rattle.gm_undo.proofs.writing.remove_rows.Goals as goal

@@ -1,5 +1,5 @@
 use Rattle.std.proofs.Common.{◌+◌, ◌-◌, ◌*◌, ◌≤◌}
-use Rattle.gm_undo.specs.Writing.{HasRoomOf, IsClearedRow, IsWritten}
+use Rattle.gm_undo.specs.inner.Writing.{HasRoomOf, IsClearedRow, IsWritten}
 use Rattle.gm_undo.proofs.writing.remove_rows.Given as goal
 
 abbrev pub invariant-loop-index : goal.invariant-loop-index

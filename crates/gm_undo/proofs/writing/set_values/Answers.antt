@@ -1,10 +1,10 @@
 use Rattle.std.proofs.Common.{◌≡◌, length}
-use Rattle.gm_arena.specs.ArenaMap.{name_at}
-use Rattle.gm_arena.specs.Lawful.{AreGoodValues}
+use Rattle.gm_arena.specs.inner.ArenaMap.{name_at}
+use Rattle.gm_arena.specs.inner.Lawful.{AreGoodValues}
 use Rattle.std.proofs.Common.{refl, sym, ap, subst, ◌∙◌, arith}
 use Rattle.gm_undo.proofs.OneDart.{named, valued_more, valued_all, value_there}
-use Rattle.gm_arena.specs.Edits.{with_value}
-use Rattle.gm_arena.specs.ArenaMap.{ArenaMap}
+use Rattle.gm_arena.specs.inner.Edits.{with_value}
+use Rattle.gm_arena.specs.inner.ArenaMap.{ArenaMap}
 use Rattle.gm_model.specs.declared.schema.Schema.{Schema}
 use Rattle.std.proofs.Common.{get_or, pos}
 use Rattle.gm_model.specs.declared.value.Value.TheVariants.{Int}

@@ -1,9 +1,9 @@
 use Rattle.std.proofs.Common.{◌≡◌, ◌+◌, ◌-◌, length, ap, ◌∙◌}
 use Rattle.std.specs.FinMap.{get}
-use Rattle.gm_arena.specs.ArenaMap.{ArenaMap}
+use Rattle.gm_arena.specs.inner.ArenaMap.{ArenaMap}
 use Rattle.gm_arena.proofs.InsideLemmas.{is_some_at}
-use Rattle.gm_undo.specs.Flat.{row_in}
-use Rattle.gm_undo.specs.Standing.{rows_in}
+use Rattle.gm_undo.specs.inner.Flat.{row_in}
+use Rattle.gm_undo.specs.inner.Standing.{rows_in}
 use Rattle.gm_undo.proofs.Sides.{can_go, can_come, can_link, all_written, cost_rises, cost_within}
 use Rattle.gm_undo.proofs.Sums.{never_more}
 use Rattle.gm_undo.proofs.writing.write.Goals as goal

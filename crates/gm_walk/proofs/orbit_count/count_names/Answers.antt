@@ -4,7 +4,7 @@ use Rattle.std.proofs.lemmas.Bool.{cases_lt}
 use Rattle.std.proofs.lemmas.List.{length-replicate}
 use Rattle.gm_model.specs.Labels.{has}
 use Rattle.gm_arena.proofs.MapLemmas.{name_at-is}
-use Rattle.gm_walk.specs.Seen.{HasSeen, seen_count}
+use Rattle.gm_walk.specs.inner.Seen.{HasSeen, seen_count}
 use Rattle.gm_walk.proofs.CountLemmas.{few_names, has_slot, is_named, name_of_slot, names_counted}
 use Rattle.gm_walk.proofs.LeadLemmas.{all_met, nothing_met}
 use Rattle.gm_walk.proofs.WordLemmas.{is_word, letters_of_word}

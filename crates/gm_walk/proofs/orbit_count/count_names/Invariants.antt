@@ -1,7 +1,7 @@
 use Rattle.std.proofs.Common.{◌≡◌, ◌+◌, ◌*◌, ◌<◌, ◌≤◌, ℕ, List, length, get_or}
 use Rattle.std.specs.List.{Contains}
 use Rattle.gm_model.specs.Labels.{has}
-use Rattle.gm_walk.specs.Seen.{HasMet, HasSeen, seen_count}
+use Rattle.gm_walk.specs.inner.Seen.{HasMet, HasSeen, seen_count}
 use Rattle.gm_walk.proofs.orbit_count.count_names.Given as goal
 
 abbrev pub invariant-loop-name : goal.invariant-loop-name

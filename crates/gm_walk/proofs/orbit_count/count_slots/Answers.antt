@@ -3,9 +3,9 @@ use Rattle.std.specs.List.{Contains}
 use Rattle.std.proofs.lemmas.Bool.{cases_lt}
 use Rattle.std.proofs.lemmas.List.{length-replicate}
 use Rattle.gm_model.specs.Labels.{has}
-use Rattle.gm_arena.specs.ArenaMap.{name_at}
+use Rattle.gm_arena.specs.inner.ArenaMap.{name_at}
 use Rattle.gm_arena.proofs.MapLemmas.{name_at-is, slot_of_name}
-use Rattle.gm_walk.specs.Seen.{HasSeen, seen_count}
+use Rattle.gm_walk.specs.inner.Seen.{HasSeen, seen_count}
 use Rattle.gm_walk.proofs.LeadLemmas.{all_met, nothing_met}
 use Rattle.gm_walk.proofs.MetLemmas.{few_places, last_place, none_yet, one_more, one_more_fits, steps_in_slots, steps_on}
 use Rattle.gm_walk.proofs.SlotLemmas.{nothing_there}

@@ -1,8 +1,8 @@
 use Rattle.std.proofs.Common.{◌≡◌, ◌+◌, ◌*◌, ◌<◌, ◌≤◌, ℕ, List, length}
 use Rattle.std.specs.List.{Contains}
-use Rattle.gm_arena.specs.ArenaMap.{name_at}
+use Rattle.gm_arena.specs.inner.ArenaMap.{name_at}
 use Rattle.gm_model.specs.Labels.{has}
-use Rattle.gm_walk.specs.Seen.{HasMet, HasSeen, seen_count}
+use Rattle.gm_walk.specs.inner.Seen.{HasMet, HasSeen, seen_count}
 use Rattle.gm_walk.proofs.orbit_count.count_slots.Given as goal
 
 abbrev pub invariant-loop-at : goal.invariant-loop-at

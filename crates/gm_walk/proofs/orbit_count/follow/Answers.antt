@@ -1,6 +1,6 @@
 use Rattle.std.proofs.Common.{◌<◌, ◌++◌, ◌∷◌, [], true, length, set, refl, sym, subst, ◌∙◌, arith, length-set}
 use Rattle.std.proofs.lemmas.List.Sums.{count_by-le-length}
-use Rattle.gm_arena.specs.ArenaMap.{name_at}
+use Rattle.gm_arena.specs.inner.ArenaMap.{name_at}
 use Rattle.gm_arena.proofs.MapLemmas.{IsAt-name_at}
 use Rattle.gm_walk.proofs.NameLemmas.{at_name, live_at}
 use Rattle.gm_walk.proofs.RingLemmas.{IsFollowing, following_first, following_on, followed}

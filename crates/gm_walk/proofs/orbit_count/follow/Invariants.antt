@@ -1,7 +1,7 @@
 use Rattle.std.proofs.Common.{◌≡◌, ◌+◌, ◌-◌, ◌≤◌, ℕ, List, length}
 use Rattle.std.specs.List.{Contains}
-use Rattle.gm_arena.specs.ArenaMap.{IsLiveSlot, name_at}
-use Rattle.gm_walk.specs.Seen.{HasSeen, seen_count}
+use Rattle.gm_arena.specs.inner.ArenaMap.{IsLiveSlot, name_at}
+use Rattle.gm_walk.specs.inner.Seen.{HasSeen, seen_count}
 use Rattle.gm_walk.proofs.RingLemmas.{IsFollowing}
 use Rattle.gm_walk.proofs.orbit_count.follow.Given as goal
 

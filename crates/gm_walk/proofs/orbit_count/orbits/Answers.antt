@@ -1,7 +1,7 @@
 use Rattle.std.proofs.Common.{◌≡◌, ◌<◌, Bool, false, not, Option, None, is_some, sym, ap, subst, ◌∙◌, arith}
 use Rattle.std.proofs.lemmas.Bool.{false≢true}
 use Rattle.gm_model.proofs.Exits.{unless_ok}
-use Rattle.gm_walk.specs.Room.{Fits}
+use Rattle.gm_walk.specs.inner.Room.{Fits}
 use Rattle.gm_walk.proofs.WordLemmas.{set_within}
 use Rattle.gm_walk.proofs.orbit_count.orbits.Goals as goal
 use Rattle.gm_walk.proofs.orbit_count.orbits.Goals.{then-is_none+in_ok-fit, else-is_none}

@@ -1,10 +1,10 @@
 use Rattle.std.proofs.Common.{◌≤◌, refl, sym, subst, le_refl, add-zero, arith}
-use Rattle.gm_arena.specs.ArenaMap.{name_at}
+use Rattle.gm_arena.specs.inner.ArenaMap.{name_at}
 use Rattle.gm_arena.proofs.MapLemmas.{IsAt-name_at}
 use Rattle.gm_walk.proofs.GrowLemmas.{contains_on}
 use Rattle.gm_walk.proofs.LeadLemmas.{one_met}
 use Rattle.gm_walk.proofs.SlotLemmas.{unseen_lacks}
-use Rattle.gm_walk.specs.Seen.{HasMet}
+use Rattle.gm_walk.specs.inner.Seen.{HasMet}
 use Rattle.gm_walk.proofs.orbit_count.see_new.Goals as goal
 
 none_more : 0 ≤ 1

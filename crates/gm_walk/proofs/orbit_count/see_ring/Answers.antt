@@ -1,8 +1,8 @@
 use Rattle.std.proofs.Common.{◌≡◌, ℕ, ◌+◌, ◌≤◌, Bool, [], ◌∷◌, ◌++◌, ◌<◌, ◌∙◌, length, length-set, le_trans, arith}
 use Rattle.std.proofs.lemmas.List.Elements.{Contains-push}
-use Rattle.gm_arena.specs.ArenaMap.{name_at}
+use Rattle.gm_arena.specs.inner.ArenaMap.{name_at}
 use Rattle.gm_arena.proofs.MapLemmas.{IsAt-name_at}
-use Rattle.gm_walk.specs.Seen.{seen_count}
+use Rattle.gm_walk.specs.inner.Seen.{seen_count}
 use Rattle.gm_walk.proofs.GrowLemmas.{contains_on}
 use Rattle.gm_walk.proofs.NameLemmas.{none_past}
 use Rattle.gm_walk.proofs.RingLemmas.{ring_grown, ring_steps}

@@ -1,10 +1,10 @@
 use Rattle.std.proofs.Common.{◌≡◌, ◌+◌, ◌<◌, ◌≤◌, ◌++◌, ◌∷◌, [], true, length, get_or, set, take, refl, sym, ap, subst, ◌∙◌, arith, length-append, length-set}
 use Rattle.std.proofs.lemmas.List.{get_or-append-add, length-map, take_all, take_more, take-append-le}
-use Rattle.gm_arena.specs.ArenaMap.{IsAt, name_at}
+use Rattle.gm_arena.specs.inner.ArenaMap.{IsAt, name_at}
 use Rattle.gm_arena.specs.declared.slot.Slot.{Slot}
 use Rattle.gm_arena.proofs.MapLemmas.{IsAt-name_at}
-use Rattle.gm_walk.specs.Seen.{HasSeen}
-use Rattle.gm_walk.specs.Walks.{names_of}
+use Rattle.gm_walk.specs.inner.Seen.{HasSeen}
+use Rattle.gm_walk.specs.inner.Walks.{names_of}
 use Rattle.gm_walk.proofs.NameLemmas.{name_there}
 use Rattle.gm_walk.proofs.SlotLemmas.{lacked_unseen, one_seen}
 use Rattle.gm_walk.proofs.WalkedLemmas.{not_before}

@@ -1,9 +1,9 @@
 use Rattle.std.proofs.Common.{◌≡◌, ◌+◌, ◌++◌, ℕ, List, length, take}
 use Rattle.gm_model.specs.Orbits.{HasNoRepeats}
-use Rattle.gm_arena.specs.ArenaMap.{ArenaMap}
-use Rattle.gm_arena.specs.Lawful.{IsLawful}
-use Rattle.gm_walk.specs.Seen.{HasSeen}
-use Rattle.gm_walk.specs.Walks.{AreLive, names_of}
+use Rattle.gm_arena.specs.inner.ArenaMap.{ArenaMap}
+use Rattle.gm_arena.specs.inner.Lawful.{IsLawful}
+use Rattle.gm_walk.specs.inner.Seen.{HasSeen}
+use Rattle.gm_walk.specs.inner.Walks.{AreLive, names_of}
 use Rattle.gm_walk.proofs.orbit_count.see_slots.Given as goal
 
 abbrev pub invariant-loop-slot : goal.invariant-loop-slot

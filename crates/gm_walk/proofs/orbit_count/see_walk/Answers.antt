@@ -1,11 +1,11 @@
 use Rattle.std.proofs.Common.{◌≡◌, ◌+◌, ◌*◌, ◌≤◌, ◌++◌, length, sym, subst, arith, length-append}
 use Rattle.std.proofs.lemmas.List.{length-map}
 use Rattle.gm_model.specs.Orbits.{IsWalk}
-use Rattle.gm_arena.specs.ArenaMap.{name_at}
+use Rattle.gm_arena.specs.inner.ArenaMap.{name_at}
 use Rattle.gm_arena.specs.declared.slot.Slot.{Slot}
 use Rattle.gm_arena.proofs.MapLemmas.{IsAt-name_at}
-use Rattle.gm_walk.specs.Seen.{seen_count}
-use Rattle.gm_walk.specs.Walks.{AreLive, along, names_of}
+use Rattle.gm_walk.specs.inner.Seen.{seen_count}
+use Rattle.gm_walk.specs.inner.Walks.{AreLive, along, names_of}
 use Rattle.gm_walk.proofs.SlotLemmas.{unseen_lacks}
 use Rattle.gm_walk.proofs.WalkedLemmas.{names_live, walk_distinct, walk_grown, walk_steps}
 use Rattle.gm_walk.proofs.orbit_count.see_walk.Goals as goal

@@ -1,7 +1,7 @@
 use Rattle.std.proofs.Common.{◌+◌, ◌<◌, length, refl, subst, ◌∙◌, set, arith, length-set}
 use Rattle.std.proofs.lemmas.List.{length-map}
 use Rattle.gm_arena.specs.declared.slot.Slot.{Slot}
-use Rattle.gm_walk.specs.Marks.{numbers}
+use Rattle.gm_walk.specs.inner.Marks.{numbers}
 use Rattle.gm_walk.proofs.MarkLemmas.{IsClearedTo, cleared_none, cleared_more, cleared_all, number_at}
 use Rattle.gm_walk.proofs.scratch.unmark.Goals as goal
 

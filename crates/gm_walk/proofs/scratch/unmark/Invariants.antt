@@ -1,5 +1,5 @@
 use Rattle.std.proofs.Common.{◌≡◌, length}
-use Rattle.gm_walk.specs.Marks.{numbers}
+use Rattle.gm_walk.specs.inner.Marks.{numbers}
 use Rattle.gm_walk.proofs.MarkLemmas.{IsClearedTo}
 use Rattle.gm_walk.proofs.scratch.unmark.Given as goal
 

@@ -2,10 +2,10 @@ use Rattle.std.proofs.Common.{◌≡◌, ℕ, ◌+◌, ◌*◌, ◌<◌, ◌≤�
 use Rattle.std.proofs.lemmas.List.{append-nil, append_assoc, get_or_default, length_push}
 use Rattle.gm_model.specs.declared.word.Letter.TheVariants.{At, Gone}
 use Rattle.gm_model.specs.Orbits.{IsWalkTo}
-use Rattle.gm_walk.specs.Cells.{IsRow}
-use Rattle.gm_walk.specs.Turns.{IsTurn}
-use Rattle.gm_walk.specs.Walks.{along, names_of}
-use Rattle.gm_arena.specs.ArenaMap.{IsLiveSlot}
+use Rattle.gm_walk.specs.inner.Cells.{IsRow}
+use Rattle.gm_walk.specs.inner.Turns.{IsTurn}
+use Rattle.gm_walk.specs.inner.Walks.{along, names_of}
+use Rattle.gm_arena.specs.inner.ArenaMap.{IsLiveSlot}
 use Rattle.gm_arena.specs.declared.slot.Slot.{Slot}
 use Rattle.gm_model.proofs.Exits.{never_ok, on_err}
 use Rattle.gm_walk.proofs.CellLemmas.{one_entry, one_row, part_row}

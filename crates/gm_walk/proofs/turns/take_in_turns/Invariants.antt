@@ -1,9 +1,9 @@
 use Rattle.std.proofs.Common.{◌≡◌, ℕ, ◌+◌, ◌≤◌, ◌<◌, ◌++◌, List, length, get_or}
 use Rattle.gm_arena.specs.declared.slot.Slot.{Slot}
 use Rattle.gm_model.specs.Orbits.{IsWalkTo}
-use Rattle.gm_walk.specs.Cells.{AreCells, IsRow}
-use Rattle.gm_walk.specs.Turns.{IsTurn}
-use Rattle.gm_walk.specs.Walks.{AreLive, IsWalkedTo, along, names_of}
+use Rattle.gm_walk.specs.inner.Cells.{AreCells, IsRow}
+use Rattle.gm_walk.specs.inner.Turns.{IsTurn}
+use Rattle.gm_walk.specs.inner.Walks.{AreLive, IsWalkedTo, along, names_of}
 use Rattle.gm_walk.proofs.turns.take_in_turns.Given as goal
 
 abbrev pub invariant-loop-place : goal.invariant-loop-place

@@ -1,13 +1,13 @@
 use Rattle.std.proofs.Common.{◌≡◌, ◌<◌, ◌≤◌, List, length, sym, subst, ◌∙◌, le_antisymm, le_refl, le_trans, le-add_right, lt_of_lt_of_le}
 use Rattle.std.proofs.lemmas.List.{length-map}
 use Rattle.gm_arena.specs.declared.slot.Slot.{Slot}
-use Rattle.gm_arena.specs.ArenaMap.{name_at}
+use Rattle.gm_arena.specs.inner.ArenaMap.{name_at}
 use Rattle.gm_model.specs.Orbits.{IsWalkTo}
 use Rattle.gm_model.proofs.Exits.{never_ok, on_err}
-use Rattle.gm_walk.specs.Cells.{AreCells}
-use Rattle.gm_walk.specs.Room.{Room}
-use Rattle.gm_walk.specs.Turns.{IsTurn}
-use Rattle.gm_walk.specs.Walks.{along, names_of}
+use Rattle.gm_walk.specs.inner.Cells.{AreCells}
+use Rattle.gm_walk.specs.inner.Room.{Room}
+use Rattle.gm_walk.specs.inner.Turns.{IsTurn}
+use Rattle.gm_walk.specs.inner.Walks.{along, names_of}
 use Rattle.gm_walk.proofs.CellLemmas.{no_cells}
 use Rattle.gm_walk.proofs.NameLemmas.{has_begun, live_below, next_fits, next_steps, next_within, none_past, place_falls}
 use Rattle.gm_walk.proofs.TurnLemmas.{part_within, turn_steps, all_steps}

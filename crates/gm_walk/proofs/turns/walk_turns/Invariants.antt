@@ -1,8 +1,8 @@
 use Rattle.std.proofs.Common.{◌≡◌, ◌+◌, ◌-◌, ◌*◌, ◌≤◌, length}
-use Rattle.gm_arena.specs.ArenaMap.{name_at}
-use Rattle.gm_walk.specs.Cells.{AreCells}
-use Rattle.gm_walk.specs.Turns.{IsTurn}
-use Rattle.gm_walk.specs.Walks.{AreLive, IsWalkedTo, names_of}
+use Rattle.gm_arena.specs.inner.ArenaMap.{name_at}
+use Rattle.gm_walk.specs.inner.Cells.{AreCells}
+use Rattle.gm_walk.specs.inner.Turns.{IsTurn}
+use Rattle.gm_walk.specs.inner.Walks.{AreLive, IsWalkedTo, names_of}
 use Rattle.gm_walk.proofs.turns.walk_turns.Given as goal
 
 abbrev pub invariant-loop-at : goal.invariant-loop-at

@@ -1,10 +1,10 @@
 use Rattle.std.proofs.Common.{◌≡◌, length, get_or, refl, sym, ap, subst, Some, ◌∙◌, arith}
 use Rattle.std.proofs.lemmas.List.{get_or_default}
-use Rattle.gm_arena.specs.ArenaMap.{IsLiveSlot}
+use Rattle.gm_arena.specs.inner.ArenaMap.{IsLiveSlot}
 use Rattle.gm_arena.specs.declared.slot.Slot.{Slot}
 use Rattle.gm_model.specs.declared.word.Letter.TheVariants.{At, Gone}
 use Rattle.gm_model.specs.Orbits.{IsWalkTo}
-use Rattle.gm_walk.specs.Walks.{along, names_of}
+use Rattle.gm_walk.specs.inner.Walks.{along, names_of}
 use Rattle.gm_walk.proofs.NameLemmas.{live_at, at_place, live_after, longer_after, same_after, bound_after, walk_after}
 use Rattle.gm_walk.proofs.WalkLemmas.{next_dart}
 use Rattle.gm_walk.proofs.WordLemmas.{is_letter}

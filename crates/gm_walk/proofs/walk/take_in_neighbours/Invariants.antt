@@ -1,7 +1,7 @@
 use Rattle.std.proofs.Common.{◌≡◌, ℕ, ◌+◌, ◌≤◌, ◌<◌, length, get_or}
 use Rattle.gm_arena.specs.declared.slot.Slot.{Slot}
 use Rattle.gm_model.specs.Orbits.{IsWalkTo}
-use Rattle.gm_walk.specs.Walks.{AreLive, IsWalkedTo, along, names_of}
+use Rattle.gm_walk.specs.inner.Walks.{AreLive, IsWalkedTo, along, names_of}
 use Rattle.gm_walk.proofs.walk.take_in_neighbours.Given as goal
 
 abbrev pub invariant-loop-place : goal.invariant-loop-place

@@ -1,8 +1,8 @@
 use Rattle.std.proofs.Common.{length, subst}
-use Rattle.gm_arena.specs.ArenaMap.{name_at}
+use Rattle.gm_arena.specs.inner.ArenaMap.{name_at}
 use Rattle.gm_model.specs.Orbits.{IsWalk}
-use Rattle.gm_walk.specs.Lent.{slots_of}
-use Rattle.gm_walk.specs.Walks.{along, names_of}
+use Rattle.gm_walk.specs.inner.Lent.{slots_of}
+use Rattle.gm_walk.specs.inner.Walks.{along, names_of}
 use Rattle.gm_walk.proofs.WordLemmas.{is_word}
 use Rattle.gm_walk.proofs.walk.walk_mask.Goals as goal
 

@@ -1,9 +1,9 @@
 use Rattle.std.proofs.Common.{◌≡◌, ◌+◌, ◌*◌, ◌<◌, ◌≤◌, List, length, refl, sym, subst, ◌∙◌, le_antisymm, le_refl, le_trans, le-add_right, rules}
 use Rattle.std.proofs.lemmas.List.{length-map}
 use Rattle.gm_arena.specs.declared.slot.Slot.{Slot}
-use Rattle.gm_arena.specs.ArenaMap.{name_at}
+use Rattle.gm_arena.specs.inner.ArenaMap.{name_at}
 use Rattle.gm_model.specs.Orbits.{IsWalkTo}
-use Rattle.gm_walk.specs.Walks.{along, names_of}
+use Rattle.gm_walk.specs.inner.Walks.{along, names_of}
 use Rattle.gm_walk.proofs.NameLemmas.{has_begun, next_fits, next_steps_each, next_within, none_past, place_falls}
 use Rattle.gm_walk.proofs.walk.walk_word.Goals as goal
 

@@ -1,6 +1,6 @@
 use Rattle.std.proofs.Common.{◌≡◌, ◌+◌, ◌-◌, ◌*◌, ◌≤◌, length}
-use Rattle.gm_arena.specs.ArenaMap.{name_at}
-use Rattle.gm_walk.specs.Walks.{AreLive, IsWalkedTo}
+use Rattle.gm_arena.specs.inner.ArenaMap.{name_at}
+use Rattle.gm_walk.specs.inner.Walks.{AreLive, IsWalkedTo}
 use Rattle.gm_walk.proofs.walk.walk_word.Given as goal
 
 abbrev pub invariant-loop-at : goal.invariant-loop-at

@@ -1,8 +1,8 @@
 use Rattle.std.proofs.Common.{◌≡◌, length, ap, subst, sym, ◌∙◌, arith}
 use Rattle.std.proofs.lemmas.Result.{err_from_is_err_and}
 use Rattle.gm_model.specs.declared.schema.Schema.{Schema}
-use Rattle.gm_walk.specs.Room.{Room}
-use Rattle.gm_apply.specs.Reads.{HasRead}
+use Rattle.gm_walk.specs.inner.Room.{Room}
+use Rattle.gm_apply.specs.inner.Reads.{HasRead}
 use Rattle.gm_apply.proofs.Asking.{none_read}
 use Rattle.gm_apply.proofs.Giving.{every_one, ended_building, ended_editing, has_edits}
 use Rattle.gm_apply.proofs.reading.Reading.changes.Goals as goal

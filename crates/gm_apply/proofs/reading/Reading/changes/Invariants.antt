@@ -1,5 +1,5 @@
 use Rattle.std.proofs.Common.{◌≡◌, ℕ, List}
-use Rattle.gm_apply.specs.Reads.{IsReadable, HasRead}
+use Rattle.gm_apply.specs.inner.Reads.{IsReadable, HasRead}
 use Rattle.gm_apply.proofs.reading.Reading.changes.Given as goal
 
 abbrev pub invariant-loop-embed : goal.invariant-loop-embed

@@ -3,10 +3,10 @@ use Rattle.std.proofs.lemmas.List.{length-map}
 use Rattle.std.proofs.lemmas.Result.{err_from_is_err_and}
 use Rattle.gm_model.specs.declared.schema.Schema.{Schema}
 use Rattle.gm_model.specs.Maps.{IsEmbedAt}
-use Rattle.gm_pending.specs.Results.{PendingOf, instances_of, place_of}
-use Rattle.gm_eval.specs.Sharing.{HasUnitsBeside}
-use Rattle.gm_apply.specs.Readings.{WasRead, places_of, read_at}
-use Rattle.gm_apply.specs.Reads.{HasRead}
+use Rattle.gm_pending.specs.inner.Results.{PendingOf, instances_of, place_of}
+use Rattle.gm_eval.specs.inner.Sharing.{HasUnitsBeside}
+use Rattle.gm_apply.specs.inner.Readings.{WasRead, places_of, read_at}
+use Rattle.gm_apply.specs.inner.Reads.{HasRead}
 use Rattle.gm_apply.proofs.Giving.{entry_at, assigned_at, ended_opening, ended_without, given_more, given_long, these_deciders, all_given}
 use Rattle.gm_eval.proofs.Sharing.{is_some}
 use Rattle.gm_apply.proofs.ReadBefore.{units_once}

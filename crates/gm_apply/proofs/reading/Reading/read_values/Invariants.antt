@@ -1,8 +1,8 @@
 use Rattle.std.proofs.Common.{◌≡◌, ℕ, suc, List, length}
-use Rattle.gm_eval.specs.Keeping.{AreKept}
-use Rattle.gm_pending.specs.Results.{instances_of}
-use Rattle.gm_apply.specs.Readings.{places_of}
-use Rattle.gm_apply.specs.Reads.{IsReadable, HasRead}
+use Rattle.gm_eval.specs.inner.Keeping.{AreKept}
+use Rattle.gm_pending.specs.inner.Results.{instances_of}
+use Rattle.gm_apply.specs.inner.Readings.{places_of}
+use Rattle.gm_apply.specs.inner.Reads.{IsReadable, HasRead}
 use Rattle.gm_apply.proofs.Remembering.{IsKeptBefore}
 use Rattle.gm_apply.proofs.reading.Reading.read_values.Given as goal
 

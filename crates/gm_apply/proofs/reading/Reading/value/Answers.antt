@@ -3,9 +3,9 @@ use Rattle.std.specs.List.{Contains}
 use Rattle.gm_model.specs.declared.rule.RuleTable.{RuleTable}
 use Rattle.gm_model.specs.Rules.{Assigns, rule_of}
 use Rattle.gm_model.specs.Trees.{tree_of}
-use Rattle.gm_eval.specs.Sharing.{HasUnitsBeside, IsAtHand, Reads, collectors_of}
+use Rattle.gm_eval.specs.inner.Sharing.{HasUnitsBeside, IsAtHand, Reads, collectors_of}
 use Rattle.gm_eval.proofs.Matched.{live_there}
-use Rattle.gm_apply.specs.Readings.{read_at}
+use Rattle.gm_apply.specs.inner.Readings.{read_at}
 use Rattle.gm_apply.proofs.ReadValues.{one, tree_typed, gives, of_kind, of_units}
 use Rattle.gm_apply.proofs.reading.Reading.value.Goals as goal
 

@@ -1,6 +1,6 @@
 use Rattle.std.proofs.Common.{◌≡◌, length, sym, ◌∙◌, arith, vec_capacity, ◌<◌}
 use Rattle.std.proofs.lemmas.Bool.{and_parts, eqb-true}
-use Rattle.gm_arena.specs.Lawful.{AreGoodValues}
+use Rattle.gm_arena.specs.inner.Lawful.{AreGoodValues}
 use Rattle.gm_arena.proofs.ValueLemmas.{length-values, stretch}
 use Rattle.gm_arena.proofs.InsideLemmas.{none_at}
 use Rattle.gm_arena.proofs.SlotNameLemmas.{slots_named_with}

@@ -1,7 +1,7 @@
 use Rattle.std.proofs.Common.{◌+◌, ◌*◌, ◌≤◌, ◌<◌, length, ap, ◌∙◌, arith}
 use Rattle.std.specs.FinMap.{get}
 use Rattle.gm_arena.specs.declared.slot.Slot.{Slot}
-use Rattle.gm_arena.specs.Inside.{slots_in}
+use Rattle.gm_arena.specs.inner.Inside.{slots_in}
 use Rattle.gm_arena.proofs.InsideLemmas.{live_place, alpha_at}
 use Rattle.gm_arena.proofs.ReserveLemmas.{links_within}
 use Rattle.gm_arena.proofs.arena.Arena.alpha.Goals as goal

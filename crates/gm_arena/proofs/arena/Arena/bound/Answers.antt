@@ -1,5 +1,5 @@
 use Rattle.std.proofs.Common.{subst}
-use Rattle.gm_arena.specs.Lawful.{IsLawful}
+use Rattle.gm_arena.specs.inner.Lawful.{IsLawful}
 use Rattle.gm_arena.proofs.InsideLemmas.{lawful}
 use Rattle.gm_arena.proofs.arena.Arena.bound.Goals as goal
 

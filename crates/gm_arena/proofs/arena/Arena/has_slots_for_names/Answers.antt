@@ -1,7 +1,7 @@
 use Rattle.std.proofs.Common.{◌≡◌, ℕ, ◌<◌, ◌≤◌, None, sym, subst, ◌∙◌}
 use Rattle.std.specs.FinMap.{get}
 use Rattle.std.proofs.lemmas.Bool.{and_parts, eqb-true}
-use Rattle.gm_arena.specs.ArenaMap.{ArenaMap, IsAt}
+use Rattle.gm_arena.specs.inner.ArenaMap.{ArenaMap, IsAt}
 use Rattle.gm_arena.proofs.SlotNameLemmas.{named_below, none_above}
 use Rattle.gm_arena.proofs.arena.Arena.has_slots_for_names.Goals as goal
 

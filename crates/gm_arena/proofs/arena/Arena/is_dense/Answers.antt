@@ -1,6 +1,6 @@
 use Rattle.std.proofs.Common.{◌≡◌, ℕ, ◌<◌, sym, subst, ◌∙◌}
 use Rattle.std.proofs.lemmas.Bool.{eqb-true}
-use Rattle.gm_arena.specs.ArenaMap.{ArenaMap, IsLiveSlot}
+use Rattle.gm_arena.specs.inner.ArenaMap.{ArenaMap, IsLiveSlot}
 use Rattle.gm_arena.proofs.DenseLemmas.{all_taken}
 use Rattle.gm_arena.proofs.InsideLemmas.{live_at, some_of}
 use Rattle.gm_arena.proofs.arena.Arena.is_dense.Goals as goal

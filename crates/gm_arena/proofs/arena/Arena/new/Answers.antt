@@ -1,5 +1,5 @@
 use Rattle.std.proofs.Common.{◌+◌, true, length, vec_capacity, arith}
-use Rattle.gm_arena.specs.Inside.{HasParts}
+use Rattle.gm_arena.specs.inner.Inside.{HasParts}
 use Rattle.gm_arena.proofs.NewLemmas.{sound_empty, map_empty, named_empty}
 use Rattle.gm_arena.proofs.arena.Arena.new.Goals as goal
 

@@ -1,5 +1,5 @@
 use Rattle.std.proofs.Common.{◌≡◌, ◌+◌, ◌/◌, length, refl, ap, ap₂, ◌∙◌, arith}
-use Rattle.gm_arena.specs.Inside.{links_in}
+use Rattle.gm_arena.specs.inner.Inside.{links_in}
 use Rattle.gm_model.proofs.Exits.{unless_ok}
 use Rattle.gm_arena.proofs.LinesLemmas.{AreParts, sound_made, holds_made, named_made, few_lines, cost_lines}
 use Rattle.gm_arena.proofs.arena.Arena.of_lines.Given as given

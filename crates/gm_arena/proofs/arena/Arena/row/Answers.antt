@@ -1,6 +1,6 @@
 use Rattle.std.proofs.Common.{◌≡◌, ℕ, ◌+◌, ◌-◌, ◌*◌, ◌<◌, ◌≤◌, Fits, w64, length, Some, sym, ap, ◌∙◌, arith}
 use Rattle.std.specs.FinMap.{get}
-use Rattle.gm_arena.specs.Inside.{darts_in}
+use Rattle.gm_arena.specs.inner.Inside.{darts_in}
 use Rattle.gm_arena.proofs.InsideLemmas.{key_at, live_place, live_at, slot_at, name_in-get, row_at}
 use Rattle.gm_arena.proofs.ReserveLemmas.{links_within, values_within}
 use Rattle.gm_arena.proofs.arena.Arena.row.Goals as goal

@@ -5,7 +5,7 @@ use Rattle.std.specs.Option.{IsSome}
 use Rattle.std.proofs.lemmas.List.Elements.{All-weaker}
 use Rattle.slab.specs.Slab.{get}
 use Rattle.gm_arena.specs.declared.slot.Slot.{Slot}
-use Rattle.gm_arena.specs.Inside.{slots_in, map_of}
+use Rattle.gm_arena.specs.inner.Inside.{slots_in, map_of}
 use Rattle.gm_arena.proofs.InsideLemmas.{key_at}
 use Rattle.gm_arena.proofs.ReserveLemmas.{links_within}
 use Rattle.gm_arena.proofs.LinkLemmas.{lent_linked, sound_linked, map_linked}

@@ -2,7 +2,7 @@ use Rattle.std.proofs.Common.{inl, inr, sym, ap, ◌∙◌, arith}
 use Rattle.std.proofs.lemmas.Bool.{cases_lt, cases_eq}
 use Rattle.std.proofs.lemmas.List.{get_or_past}
 use Rattle.std.specs.FinMap.{get}
-use Rattle.gm_arena.specs.Inside.{no_slot, slot_in}
+use Rattle.gm_arena.specs.inner.Inside.{no_slot, slot_in}
 use Rattle.gm_arena.proofs.InsideLemmas.{slot_named, no_dart}
 use Rattle.gm_arena.proofs.SlotNameLemmas.{answered}
 use Rattle.gm_arena.proofs.arena.Arena.slot_from.Goals as goal

@@ -1,8 +1,8 @@
 use Rattle.std.proofs.Common.{◌≡◌, ℕ, ◌-◌, ◌≤◌, ◌++◌, Bool, false, List, sym, ap, ◌∙◌, arith, length, replicate, vec_capacity}
 use Rattle.std.proofs.lemmas.Bool.{false≢true}
 use Rattle.std.proofs.lemmas.List.{append-nil, length-append, length-replicate}
-use Rattle.gm_arena.specs.Inside.{no_slot}
-use Rattle.gm_arena.specs.Listing.{even, listing}
+use Rattle.gm_arena.specs.inner.Inside.{no_slot}
+use Rattle.gm_arena.specs.inner.Listing.{even, listing}
 use Rattle.gm_arena.proofs.ListingLemmas.{even_padded, length-listing}
 use Rattle.gm_model.proofs.Exits.{never_ok, on_err}
 use Rattle.gm_arena.proofs.table.Table.pad.Goals as goal

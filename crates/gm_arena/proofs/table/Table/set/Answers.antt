@@ -2,7 +2,7 @@ use Rattle.std.proofs.Common.{◌≡◌, ℕ, ◌+◌, ◌<◌, Bool, false, Lis
 use Rattle.std.specs.Prelude.{slice_set}
 use Rattle.std.proofs.lemmas.List.{length-set}
 use Rattle.std.proofs.lemmas.Bool.{and_parts, eqb-true, false≢true}
-use Rattle.gm_arena.specs.Listing.{listing}
+use Rattle.gm_arena.specs.inner.Listing.{listing}
 use Rattle.gm_arena.proofs.ListingLemmas.{even_more, is_listed, length-even, length-listing}
 use Rattle.gm_arena.proofs.table.Table.set.Goals as goal
 use Rattle.gm_arena.proofs.table.Table.set.Goals.{then-not-self+else-slot-name, else-not-self}

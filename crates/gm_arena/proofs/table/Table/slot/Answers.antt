@@ -1,6 +1,6 @@
 use Rattle.std.proofs.Common.{◌≡◌, ℕ, Bool, false, List, sym, ap, ◌∙◌}
-use Rattle.gm_arena.specs.Inside.{slot_in}
-use Rattle.gm_arena.specs.Listing.{even, listing}
+use Rattle.gm_arena.specs.inner.Inside.{slot_in}
+use Rattle.gm_arena.specs.inner.Listing.{even, listing}
 use Rattle.gm_arena.proofs.ListingLemmas.{slot_taken, slot_free}
 use Rattle.gm_arena.proofs.table.Table.slot.Goals as goal
 

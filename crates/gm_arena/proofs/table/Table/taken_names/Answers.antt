@@ -1,6 +1,6 @@
 use Rattle.std.proofs.Common.{◌<◌, ◌++◌, ◌∷◌, [], length, sym, ap, ◌∙◌, arith, ◌≤◌}
 use Rattle.std.proofs.lemmas.Grind.{get_or_default_zero}
-use Rattle.gm_arena.specs.Inside.{no_slot, names_in}
+use Rattle.gm_arena.specs.inner.Inside.{no_slot, names_in}
 use Rattle.gm_arena.proofs.NameLemmas.{names_taken, names_skipped}
 use Rattle.gm_model.proofs.Exits.{unless_ok}
 use Rattle.std.proofs.lemmas.List.{take_all}

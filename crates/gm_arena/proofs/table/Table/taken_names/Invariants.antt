@@ -1,5 +1,5 @@
 use Rattle.std.proofs.Common.{◌≡◌, take}
-use Rattle.gm_arena.specs.Inside.{names_in}
+use Rattle.gm_arena.specs.inner.Inside.{names_in}
 use Rattle.gm_arena.proofs.table.Table.taken_names.Given as goal
 
 -- the names so far

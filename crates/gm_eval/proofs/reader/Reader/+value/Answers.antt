@@ -9,7 +9,7 @@ use Rattle.gm_model.specs.declared.value.Kind.TheVariants as kinds
 use Rattle.gm_model.specs.declared.value.Value.TheVariants.{Int, Bool as Truth}
 use Rattle.gm_model.specs.Expressions.{HasValue}
 use Rattle.gm_model.specs.Trees.{Count, Unary, Binary, If, MakeVec2, MakeVec3, MakeRgb, tree_of}
-use Rattle.gm_eval.specs.Readers.{IsReady, Read, reading_of}
+use Rattle.gm_eval.specs.inner.Readers.{IsReady, Read, reading_of}
 use Rattle.gm_eval.proofs.Adding.{adds_as, ends_add, first_adds, front_adds, same_adds, start_adds, three_add, two_add}
 use Rattle.gm_eval.proofs.Casts.{wide_is}
 use Rattle.gm_eval.proofs.Measures.{binary_less, nested_less, pair_less, triple_less, unary_less, first_less, left_less, part_less, parts_less, quick_left_less, quick_right_less, right_less, second_less, still_fits, third_less}

@@ -1,6 +1,6 @@
 use Rattle.std.proofs.Common.{subst, arith}
-use Rattle.gm_eval.specs.Keeping.{collector_at}
-use Rattle.gm_eval.specs.Readers.{IsReady}
+use Rattle.gm_eval.specs.inner.Keeping.{collector_at}
+use Rattle.gm_eval.specs.inner.Readers.{IsReady}
 use Rattle.gm_eval.proofs.Keeping.{as_least}
 use Rattle.std.proofs.lemmas.Int.{ints}
 use Rattle.gm_model.specs.Trees.{Least, Greatest}

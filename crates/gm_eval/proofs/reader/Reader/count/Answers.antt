@@ -1,7 +1,7 @@
 use Rattle.std.proofs.Common.{length, List, ap, arith}
 use Rattle.std.proofs.lemmas.Int.{ints}
 use Rattle.gm_arena.specs.declared.slot.Slot.{Slot}
-use Rattle.gm_walk.specs.Lent.{slots_of}
+use Rattle.gm_walk.specs.inner.Lent.{slots_of}
 use Rattle.gm_eval.proofs.Collected.{count_found, within}
 use Rattle.gm_eval.proofs.reader.Reader.count.Goals as goal
 

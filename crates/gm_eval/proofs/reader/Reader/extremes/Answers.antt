@@ -3,9 +3,9 @@ use Rattle.gm_arena.specs.declared.slot.Slot.{Slot}
 use Rattle.std.specs.Int.{int_max, int_min}
 use Rattle.std.specs.List.{fold}
 use Rattle.gm_model.specs.declared.value.Kind.TheVariants as kinds
-use Rattle.gm_eval.specs.Sums.{first_at, parts_at}
-use Rattle.gm_walk.specs.Lent.{slots_of}
-use Rattle.gm_walk.specs.Walks.{AreLive}
+use Rattle.gm_eval.specs.inner.Sums.{first_at, parts_at}
+use Rattle.gm_walk.specs.inner.Lent.{slots_of}
+use Rattle.gm_walk.specs.inner.Walks.{AreLive}
 use Rattle.gm_eval.proofs.Collected.{least_found, greatest_found, some_slot, within}
 use Rattle.gm_eval.proofs.Ready.{count_ready, kinds_at, number_of_embed}
 use Rattle.gm_eval.proofs.reader.Reader.extremes.Goals as goal

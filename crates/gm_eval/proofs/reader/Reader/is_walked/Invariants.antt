@@ -1,7 +1,7 @@
 use Rattle.std.proofs.Common.{◌≡◌, ℕ, ◌<◌, Some}
 use Rattle.std.specs.List.{Contains}
 use Rattle.gm_arena.specs.declared.slot.Slot.{Slot}
-use Rattle.gm_plan.specs.Placed.{slot_at}
+use Rattle.gm_plan.specs.inner.Placed.{slot_at}
 use Rattle.gm_eval.proofs.reader.Reader.is_walked.Given as goal
 
 abbrev pub invariant-loop-position : goal.invariant-loop-position

@@ -2,8 +2,8 @@ use Rattle.std.proofs.Common.{subst, sym}
 use Rattle.gm_eval.proofs.Adding.{one_adds, same_adds}
 use Rattle.gm_eval.proofs.Keeping.{everywhere, node_there, one_more, shared_walked}
 use Rattle.gm_eval.proofs.Sharing.{same_kept}
-use Rattle.gm_eval.specs.Sharing.{IsAtHand, IsShared}
-use Rattle.gm_eval.specs.Keeping.{own_term}
+use Rattle.gm_eval.specs.inner.Sharing.{IsAtHand, IsShared}
+use Rattle.gm_eval.specs.inner.Keeping.{own_term}
 use Rattle.gm_eval.proofs.reader.Reader.keep.Goals as goal
 
 pub is_walked-requires : goal.is_walked-requires

@@ -1,8 +1,8 @@
 use Rattle.std.proofs.Common.{subst, sym, arith, refl}
 use Rattle.gm_model.specs.Trees.{Count, Sum}
-use Rattle.gm_eval.specs.Readers.{IsOrbit, IsReady, IsValueThere}
+use Rattle.gm_eval.specs.inner.Readers.{IsOrbit, IsReady, IsValueThere}
 use Rattle.std.proofs.lemmas.Bool.{false≢true}
-use Rattle.gm_eval.specs.Sharing.{IsAtHand, IsOwn, own_collector}
+use Rattle.gm_eval.specs.inner.Sharing.{IsAtHand, IsOwn, own_collector}
 use Rattle.gm_eval.proofs.Sharing.{later_kept, mean_within, of_mean_in, same_kept, two_left}
 use Rattle.gm_eval.proofs.Adding.{both_adds, own_adds, same_adds}
 use Rattle.gm_eval.proofs.Keeping.{as_count, found_there, owned}

@@ -1,7 +1,7 @@
 use Rattle.std.proofs.Common.{subst, sym, arith, refl}
-use Rattle.gm_eval.specs.Keeping.{collector_at}
-use Rattle.gm_eval.specs.Readers.{IsOrbit, IsReady, IsValueThere}
-use Rattle.gm_eval.specs.Sharing.{IsAtHand}
+use Rattle.gm_eval.specs.inner.Keeping.{collector_at}
+use Rattle.gm_eval.specs.inner.Readers.{IsOrbit, IsReady, IsValueThere}
+use Rattle.gm_eval.specs.inner.Sharing.{IsAtHand}
 use Rattle.gm_eval.proofs.Adding.{own_adds, same_adds}
 use Rattle.gm_eval.proofs.Keeping.{found_there, owned}
 use Rattle.gm_eval.proofs.Sharing.{not_found, same_kept}

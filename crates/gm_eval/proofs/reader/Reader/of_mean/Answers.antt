@@ -1,6 +1,6 @@
 use Rattle.std.proofs.Common.{subst}
 use Rattle.gm_model.specs.Trees.{Count, Sum}
-use Rattle.gm_eval.specs.Readers.{IsValueThere}
+use Rattle.gm_eval.specs.inner.Readers.{IsValueThere}
 use Rattle.gm_eval.proofs.Parts.{binary_known, binary_there, is_there, binary_ready}
 use Rattle.gm_eval.proofs.reader.Reader.of_mean.Goals as goal
 

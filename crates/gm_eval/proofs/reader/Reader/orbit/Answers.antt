@@ -1,5 +1,5 @@
 use Rattle.std.proofs.Common.{arith}
-use Rattle.gm_walk.specs.Lent.{slots_of}
+use Rattle.gm_walk.specs.inner.Lent.{slots_of}
 use Rattle.gm_walk.proofs.NameLemmas.{live_at}
 use Rattle.gm_eval.proofs.Collected.{orbit_of}
 use Rattle.gm_eval.proofs.Ready.{mask_small, term_here}

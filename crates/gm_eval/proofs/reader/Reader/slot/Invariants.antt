@@ -1,5 +1,5 @@
 use Rattle.std.proofs.Common.{◌≡◌, ◌+◌}
-use Rattle.gm_arena.specs.ArenaMap.{IsAt}
+use Rattle.gm_arena.specs.inner.ArenaMap.{IsAt}
 use Rattle.gm_eval.proofs.Terms.{dart_after}
 use Rattle.gm_eval.proofs.reader.Reader.slot.Given as goal
 

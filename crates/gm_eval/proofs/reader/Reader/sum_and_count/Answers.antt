@@ -3,9 +3,9 @@ use Rattle.std.proofs.Common.{◌≡◌, ◌≤◌, ◌<◌, ℕ, ℤ, length, L
 use Rattle.gm_arena.specs.declared.slot.Slot.{Slot}
 use Rattle.gm_model.specs.declared.schema.Embed.{Embed}
 use Rattle.gm_model.specs.declared.schema.Schema.{Schema}
-use Rattle.gm_eval.specs.Sums.{parts_at, sum_of}
-use Rattle.gm_walk.specs.Lent.{slots_of}
-use Rattle.gm_walk.specs.Walks.{AreLive}
+use Rattle.gm_eval.specs.inner.Sums.{parts_at, sum_of}
+use Rattle.gm_walk.specs.inner.Lent.{slots_of}
+use Rattle.gm_walk.specs.inner.Walks.{AreLive}
 use Rattle.gm_eval.proofs.Collected.{count_found, sum_found, within}
 use Rattle.gm_eval.proofs.Ready.{count_ready, embed_read, kinds_at, sum_kind_of, sum_known}
 use Rattle.gm_eval.proofs.reader.Reader.sum_and_count.Goals as goal

@@ -1,5 +1,5 @@
 use Rattle.std.proofs.Common.{◌≡◌, Result, Ok, Err, Some, OnOk, ap, subst}
-use Rattle.gm_forms.specs.Standing.{IsCurrentIn}
+use Rattle.gm_forms.specs.inner.Standing.{IsCurrentIn}
 use Rattle.gm_forms.proofs.draft.Draft.declare.Goals as goal
 
 some_on_ok : {X T E : Type 0} (result : Result T E) (x y : X) → OnOk result (x ≡ y) → OnOk result (Some x ≡ Some y)

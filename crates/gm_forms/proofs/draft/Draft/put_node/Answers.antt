@@ -2,9 +2,9 @@ use Rattle.std.proofs.Common.{◌≡◌, List, map, OnOk, subst}
 use Rattle.std.specs.Option.{option_map}
 use Rattle.gm_forms.specs.BookText.{NodeItem}
 use Rattle.gm_forms.specs.declared.form.SetForm.{SetForm}
-use Rattle.gm_forms.specs.Forms.{mention_of, set_form_of}
-use Rattle.gm_forms.specs.Reading.{with_item}
-use Rattle.gm_forms.specs.Standing.{current_of}
+use Rattle.gm_forms.specs.inner.Forms.{mention_of, set_form_of}
+use Rattle.gm_forms.specs.inner.Reading.{with_item}
+use Rattle.gm_forms.specs.inner.Standing.{current_of}
 use Rattle.gm_forms.proofs.draft.Draft.put_node.Goals as goal
 
 pub returns-clause-current : goal.returns-clause-current

@@ -3,7 +3,7 @@ use Rattle.std.proofs.lemmas.List.{map-append}
 use Rattle.std.specs.List.{AllByRecursion}
 use Rattle.gm_forms.specs.BookText.{SetForm, NodeItem}
 use Rattle.gm_forms.specs.declared.form.SetForm.{SetForm as CodeSet}
-use Rattle.gm_forms.specs.Forms.{IsItemIn, IsSetIn, mention_of, set_form_of}
+use Rattle.gm_forms.specs.inner.Forms.{IsItemIn, IsSetIn, mention_of, set_form_of}
 use Rattle.gm_forms.proofs.form.Item.assign.Goals as goal
 
 all_with : {X : Type 0} (P : X → Type 0) (xs : List X) (x : X) → AllByRecursion P xs → P x → AllByRecursion P (xs ++ x ∷ [])

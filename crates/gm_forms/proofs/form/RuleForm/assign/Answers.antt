@@ -1,6 +1,6 @@
 use Rattle.std.proofs.Common.{List, ap}
 use Rattle.gm_forms.specs.BookText.{Item, RuleForm}
-use Rattle.gm_forms.specs.Forms.{IsItemIn, rule_form_of, set_form_of}
+use Rattle.gm_forms.specs.inner.Forms.{IsItemIn, rule_form_of, set_form_of}
 use Rattle.gm_forms.proofs.Drafts.{last_kept, assigned_in}
 use Rattle.gm_model.proofs.Exits.{never_ok}
 use Rattle.gm_forms.proofs.Stops.{memory_fault}

@@ -4,9 +4,9 @@ use Rattle.std.specs.Str.{bytes_eq}
 use Rattle.gm_model.specs.declared.rule.Side.TheVariants.{Left}
 use Rattle.gm_model.specs.Tokens.{bytes_of}
 use Rattle.gm_forms.specs.BookText.{NodeItem}
-use Rattle.gm_forms.specs.Forms.{rule_form_of, mention_of}
-use Rattle.gm_forms.specs.Reading.{with_item, takes_hook, is_hook_on}
-use Rattle.gm_forms.specs.Standing.{rules_of, current_of}
+use Rattle.gm_forms.specs.inner.Forms.{rule_form_of, mention_of}
+use Rattle.gm_forms.specs.inner.Reading.{with_item, takes_hook, is_hook_on}
+use Rattle.gm_forms.specs.inner.Standing.{rules_of, current_of}
 use Rattle.gm_forms.proofs.Behind.{also_in, behind_moves, hook_moves}
 use Rattle.gm_model.proofs.Exits.{unless_ok}
 use Rattle.gm_forms.proofs.Stops.{memory_wanting}

@@ -1,8 +1,8 @@
 use Rattle.std.proofs.Common.{ap, map}
 use Rattle.gm_model.specs.Names.{reserved, is_among}
 use Rattle.gm_model.specs.Tokens.{bytes_of}
-use Rattle.gm_forms.specs.Forms.{rule_form_of}
-use Rattle.gm_forms.specs.Standing.{rules_of, current_of}
+use Rattle.gm_forms.specs.inner.Forms.{rule_form_of}
+use Rattle.gm_forms.specs.inner.Standing.{rules_of, current_of}
 use Rattle.gm_forms.proofs.NameWords.{told, is_long, is_short, name_in, name_reserved, name_long, name_named}
 use Rattle.gm_forms.proofs.reader.Reader.at_name.Goals as goal
 

@@ -1,7 +1,7 @@
 use Rattle.std.proofs.Common.{◌≡◌, true, false, codes, refl, sym, ap, map, ◌∙◌}
 use Rattle.std.specs.Str.{bytes_eq}
 use Rattle.gm_model.specs.Tokens.{bytes_of}
-use Rattle.gm_forms.specs.Forms.{rule_form_of}
+use Rattle.gm_forms.specs.inner.Forms.{rule_form_of}
 use Rattle.gm_forms.proofs.Behind.{behind_moves, with_moves}
 use Rattle.gm_model.proofs.Exits.{unless_ok}
 use Rattle.gm_forms.proofs.Stops.{memory_wanting}

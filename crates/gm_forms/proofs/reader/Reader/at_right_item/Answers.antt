@@ -1,7 +1,7 @@
 use Rattle.std.proofs.Common.{sym, ◌∙◌}
 use Rattle.gm_model.specs.Names.{reserved, is_among}
 use Rattle.gm_model.specs.Tokens.{bytes_of}
-use Rattle.gm_forms.specs.Standing.{rules_of, current_of}
+use Rattle.gm_forms.specs.inner.Standing.{rules_of, current_of}
 use Rattle.gm_forms.proofs.NameWords.{told, is_long, is_short, name_in, right_reserved, right_long, right_named, right_pre}
 use Rattle.gm_model.proofs.Exits.{unless_ok}
 use Rattle.gm_forms.proofs.Stops.{memory_wanting}

@@ -1,7 +1,7 @@
 use Rattle.gm_model.proofs.Exits.{unless_ok}
 use Rattle.gm_forms.proofs.Stops.{memory_wanting}
 use Rattle.std.proofs.Common.{sym, ◌∙◌}
-use Rattle.gm_forms.specs.Standing.{rules_of, current_of}
+use Rattle.gm_forms.specs.inner.Standing.{rules_of, current_of}
 use Rattle.gm_forms.proofs.OneToken.{no_rule_end}
 use Rattle.gm_forms.proofs.reader.Reader.at_rule_end.Goals as goal
 

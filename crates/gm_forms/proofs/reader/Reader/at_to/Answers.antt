@@ -1,8 +1,8 @@
 use Rattle.std.proofs.Common.{◌≡◌, false, length, nat_lt, ap, map}
 use Rattle.gm_model.specs.Names.{reserved, is_among}
 use Rattle.gm_model.specs.Tokens.{bytes_of}
-use Rattle.gm_forms.specs.Forms.{rule_form_of, IsIn}
-use Rattle.gm_forms.specs.Standing.{rules_of, current_of}
+use Rattle.gm_forms.specs.inner.Forms.{rule_form_of, IsIn}
+use Rattle.gm_forms.specs.inner.Standing.{rules_of, current_of}
 use Rattle.gm_forms.proofs.Behind.{to_moves}
 use Rattle.gm_forms.proofs.NameWords.{told, is_long, is_short, name_in, to_reserved, to_long}
 use Rattle.gm_model.proofs.Exits.{unless_ok}

@@ -1,5 +1,5 @@
 use Rattle.std.proofs.Common.{Ok, subst}
-use Rattle.gm_forms.specs.Standing.{IsStateIn}
+use Rattle.gm_forms.specs.inner.Standing.{IsStateIn}
 use Rattle.gm_forms.proofs.Behind.{ends_at, assigned_ends, rule_ends}
 use Rattle.gm_forms.proofs.reader.Reader.end.Goals as goal
 

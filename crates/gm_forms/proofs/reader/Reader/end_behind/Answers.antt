@@ -1,5 +1,5 @@
 use Rattle.std.proofs.Common.{ap, map}
-use Rattle.gm_forms.specs.Forms.{rule_form_of}
+use Rattle.gm_forms.specs.inner.Forms.{rule_form_of}
 use Rattle.gm_forms.proofs.Behind.{behind_ends}
 use Rattle.gm_model.proofs.Exits.{unless_ok}
 use Rattle.gm_forms.proofs.Stops.{memory_wanting}

@@ -1,4 +1,4 @@
-use Rattle.gm_forms.specs.Standing.{sign_mark, rules_of, current_of}
+use Rattle.gm_forms.specs.inner.Standing.{sign_mark, rules_of, current_of}
 use Rattle.gm_forms.proofs.Behind.{moves_from, stays_at, stays_keeps_at}
 use Rattle.gm_forms.proofs.Stops.{sign_stops}
 use Rattle.gm_forms.proofs.reader.Reader.sign.Goals as goal

@@ -1,6 +1,6 @@
 use Rattle.std.proofs.Common.{refl}
 use Rattle.gm_forms.proofs.Behind.{stays_keeps_at}
-use Rattle.gm_forms.specs.Standing.{rules_of, current_of}
+use Rattle.gm_forms.specs.inner.Standing.{rules_of, current_of}
 use Rattle.gm_forms.proofs.reader.Reader.step.Goals as goal
 
 pub returns-in-Gone-clause-within : goal.returns-in-Gone-clause-within

@@ -1,4 +1,4 @@
-use Rattle.gm_forms.specs.Standing.{word_mark}
+use Rattle.gm_forms.specs.inner.Standing.{word_mark}
 use Rattle.gm_forms.proofs.Behind.{moves_at, stays_at, keeps_in_at, stays_keeps_at}
 use Rattle.gm_forms.proofs.Stops.{word_stops}
 use Rattle.gm_forms.proofs.reader.Reader.word.Goals as goal

@@ -1,7 +1,7 @@
 use Rattle.std.proofs.Common.{◌∷◌, ◌++◌, [], sym, ap, ◌∙◌, refl, arith, rules}
 use Rattle.std.proofs.lemmas.Bool.{false≢true}
 use Rattle.gm_host.specs.Count.{counted}
-use Rattle.gm_host.specs.FileStore.{Counts}
+use Rattle.gm_host.specs.inner.FileStore.{Counts}
 use Rattle.gm_host.specs.Store.{IsFailed}
 use Rattle.gm_host.proofs.Told.{rises, on_ok, not_ok, unless_absent, on_failed, unless_failing, held_untold, cut_untold}
 use Rattle.gm_host.proofs.file_store.FileStoreStore.load.Goals as goal

@@ -1,7 +1,7 @@
 use Rattle.std.proofs.Common.{inl, refl, sym, ap, ◌∙◌, arith, rules}
 use Rattle.std.specs.Prelude.{if◌then◌else◌}
 use Rattle.gm_host.specs.Count.{counted}
-use Rattle.gm_host.specs.FileStore.{Counts}
+use Rattle.gm_host.specs.inner.FileStore.{Counts}
 use Rattle.gm_host.proofs.Told.{rises, on_ok, unless_err, on_failed_save, unless_failed_save, unless_unmade}
 use Rattle.gm_host.proofs.file_store.FileStoreStore.save.Goals as goal
 

@@ -4,7 +4,7 @@ use Rattle.std.proofs.lemmas.Result.{err_from_is_err_and}
 use Rattle.std.specs.FinMap.{get, from_entries}
 use Rattle.std.specs.Ordering.{nat_cmp}
 use Rattle.gm_host.specs.Count.{counted}
-use Rattle.gm_host.specs.MemSink.{SinkState}
+use Rattle.gm_host.specs.inner.MemSink.{SinkState}
 use Rattle.gm_host.proofs.Lookups.{get-from_tree}
 use Rattle.gm_host.proofs.Saving.{unmade_put}
 use Rattle.gm_host.proofs.mem_sink.MemSinkSink.put.Goals as goal

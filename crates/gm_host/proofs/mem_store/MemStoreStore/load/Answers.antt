@@ -1,8 +1,8 @@
 use Rattle.std.proofs.Common.{◌∷◌, ◌++◌, [], ap, subst, ◌∙◌, arith, rules}
 use Rattle.std.specs.Prelude.{IfOk}
 use Rattle.gm_host.specs.Count.{counted}
-use Rattle.gm_host.specs.Files.{Files, told}
-use Rattle.gm_host.specs.MemStore.{StoreState}
+use Rattle.gm_host.specs.inner.Files.{Files, told}
+use Rattle.gm_host.specs.inner.MemStore.{StoreState}
 use Rattle.gm_host.specs.Store.{Lacks, IsHeld, IsCutFromHeld, HoldsLongerFile, OnAbsent, IfTooLong, IsAbsentUnlessFailing, IsTooLongUnlessFailing}
 use Rattle.gm_host.proofs.Told.{rises, on_ok, unless_failing}
 use Rattle.gm_host.proofs.mem_store.MemStoreStore.load.Goals as goal

@@ -2,8 +2,8 @@ use Rattle.std.proofs.Common.{sym, ap, subst, ◌∙◌, ◌≡◌, Some, None, 
 use Rattle.std.proofs.lemmas.Result.{err_from_is_err_and}
 use Rattle.std.specs.FinMap.{get}
 use Rattle.gm_host.specs.Count.{counted}
-use Rattle.gm_host.specs.Files.{Files, told}
-use Rattle.gm_host.specs.MemStore.{StoreState}
+use Rattle.gm_host.specs.inner.Files.{Files, told}
+use Rattle.gm_host.specs.inner.MemStore.{StoreState}
 use Rattle.gm_host.specs.Saves.{IsSaved, IsSavedInPart}
 use Rattle.gm_host.proofs.Lookups.{get-from_tree}
 use Rattle.gm_host.proofs.Saving.{saved-insert, saved_in_part, planned_save, planned_fault, unmade_save}

@@ -1,8 +1,8 @@
 use Rattle.std.proofs.Common.{refl, ap, subst, rules}
 use Rattle.std.specs.Prelude.{IfOk}
-use Rattle.gm_host.specs.Files.{Files, told}
+use Rattle.gm_host.specs.inner.Files.{Files, told}
 use Rattle.gm_host.specs.Store.{Lacks, IsHeld, IsCutFromHeld, HoldsLongerFile, OnAbsent, IfTooLong, IsAbsentUnlessFailing, IsTooLongUnlessFailing}
-use Rattle.gm_host.specs.SureStore.{StoreState}
+use Rattle.gm_host.specs.inner.SureStore.{StoreState}
 use Rattle.gm_host.proofs.Told.{on_ok, unless_failing}
 use Rattle.gm_host.proofs.sure_store.SureStoreStore.load.Goals as goal
 

@@ -1,8 +1,8 @@
 use Rattle.std.proofs.Common.{refl, ap, ◌∙◌, arith, rules}
 use Rattle.std.proofs.lemmas.Result.{err_from_is_err_and}
 use Rattle.gm_host.specs.Count.{counted}
-use Rattle.gm_host.specs.Files.{told}
-use Rattle.gm_host.specs.SureStore.{StoreState}
+use Rattle.gm_host.specs.inner.Files.{told}
+use Rattle.gm_host.specs.inner.SureStore.{StoreState}
 use Rattle.gm_host.proofs.Saving.{saved-insert}
 use Rattle.gm_host.proofs.sure_store.SureStoreStore.save.Goals as goal
 

@@ -5,7 +5,7 @@ use Rattle.std.proofs.lemmas.Option.{slice_get-get_or}
 use Rattle.gm_model.specs.declared.step.Step.{Step}
 use Rattle.gm_model.specs.declared.step.Step.TheVariants.{Absent}
 use Rattle.gm_model.specs.Rules.{rule_of, is_end, is_label, letters, links_on, step, step_in}
-use Rattle.gm_model.specs.NodeSteps.{letter_step, step_or}
+use Rattle.gm_model.specs.inner.NodeSteps.{letter_step, step_or}
 use Rattle.gm_model.proofs.NodeSteps.{step_by-split}
 use Rattle.gm_model.proofs.rule.RuleTable.steps.Goals as goal
 

@@ -6,7 +6,7 @@ use Rattle.std.proofs.lemmas.List.Elements.{All-from_recursion}
 use Rattle.std.proofs.lemmas.Option.{slice_get-map, slice_get-get_or}
 use Rattle.gm_model.specs.declared.script.Entry.{Entry}
 use Rattle.gm_model.specs.declared.value.Value.{Value}
-use Rattle.gm_model.specs.Entries.{AreEntriesOf, IsEntryOf, stat_at, stats_of}
+use Rattle.gm_model.specs.inner.Entries.{AreEntriesOf, IsEntryOf, stat_at, stats_of}
 use Rattle.gm_model.specs.Statements.{Stat, Statements}
 use Rattle.gm_model.proofs.script.Script.get.Goals as goal
 

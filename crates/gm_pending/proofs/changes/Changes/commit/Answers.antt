@@ -1,9 +1,9 @@
 use Rattle.std.proofs.Common.{◌≡◌, ℕ, ◌+◌, ◌*◌, ◌≤◌, [], length, drop, refl, ap, ◌∙◌, subst, arith}
-use Rattle.gm_pending.specs.Collected.{told_by, made_in}
-use Rattle.gm_pending.specs.EditLists.{EditLists, AreEditsOf, HasSameRows}
-use Rattle.gm_pending.specs.Results.{PendingOf, rule_in}
-use Rattle.gm_pending.specs.ToldEdits.{values_told}
-use Rattle.gm_pending.specs.Written.{IsExtended, end_at, with_arcs, with_values}
+use Rattle.gm_pending.specs.inner.Collected.{told_by, made_in}
+use Rattle.gm_pending.specs.inner.EditLists.{EditLists, AreEditsOf, HasSameRows}
+use Rattle.gm_pending.specs.inner.Results.{PendingOf, rule_in}
+use Rattle.gm_pending.specs.inner.ToldEdits.{values_told}
+use Rattle.gm_pending.specs.inner.Written.{IsExtended, end_at, with_arcs, with_values}
 use Rattle.gm_pending.proofs.Stages.{freeing, removing, adding_long, adding_values, adding_names, adding_room, linking, setting, committed, IsCommitted}
 use Rattle.gm_pending.proofs.Table.{with_made}
 use Rattle.gm_pending.proofs.changes.Changes.commit.Given.{Over}

@@ -4,11 +4,11 @@ use Rattle.std.specs.Option.{option_map}
 use Rattle.gm_arena.specs.declared.slot.Slot.{Slot}
 use Rattle.gm_model.proofs.Exits.{unless_ok}
 use Rattle.gm_model.specs.declared.step.Step.{Step}
-use Rattle.gm_plan.specs.Placed.{Placed}
-use Rattle.gm_pending.specs.Collected.{IsFitted, RewriteRows, all_removed, left_slots, rows_at, told_by}
-use Rattle.gm_pending.specs.EditLists.{EditLists, AreDistinct}
-use Rattle.gm_pending.specs.ToldEdits.{lists_told, values_told}
-use Rattle.gm_pending.specs.Touched.{touched_or}
+use Rattle.gm_plan.specs.inner.Placed.{Placed}
+use Rattle.gm_pending.specs.inner.Collected.{IsFitted, RewriteRows, all_removed, left_slots, rows_at, told_by}
+use Rattle.gm_pending.specs.inner.EditLists.{EditLists, AreDistinct}
+use Rattle.gm_pending.specs.inner.ToldEdits.{lists_told, values_told}
+use Rattle.gm_pending.specs.inner.Touched.{touched_or}
 use Rattle.gm_pending.proofs.Taken.{are_touched, few_touched, matched_live, same_taken, valued_live}
 use Rattle.gm_pending.proofs.changes.Changes.into_edits.Goals as goal
 

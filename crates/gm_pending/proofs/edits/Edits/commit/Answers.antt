@@ -1,9 +1,9 @@
 use Rattle.std.proofs.Common.{◌≡◌, ◌+◌, ◌-◌, ◌≤◌, List, length, ap, ap₂, subst, sym, ◌∙◌}
 use Rattle.gm_model.specs.declared.step.Step.{Step}
-use Rattle.gm_pending.specs.Collected.{rows_at, told_by}
-use Rattle.gm_pending.specs.EditLists.{EditLists, AreEditsOf, IsUntouched, cost_of}
-use Rattle.gm_pending.specs.OwnEdits.{OwnEdits}
-use Rattle.gm_pending.specs.ToldEdits.{lists_told, values_told}
+use Rattle.gm_pending.specs.inner.Collected.{rows_at, told_by}
+use Rattle.gm_pending.specs.inner.EditLists.{EditLists, AreEditsOf, IsUntouched, cost_of}
+use Rattle.gm_pending.specs.inner.OwnEdits.{OwnEdits}
+use Rattle.gm_pending.specs.inner.ToldEdits.{lists_told, values_told}
 use Rattle.gm_pending.proofs.edits.Edits.commit.Goals as goal
 
 pub commit-requires : goal.commit-requires

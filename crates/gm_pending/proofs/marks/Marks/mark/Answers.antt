@@ -2,9 +2,9 @@ use Rattle.std.proofs.Common.{◌≡◌, ◌<◌, Ok, [], ◌∷◌, ◌++◌, f
 use Rattle.std.specs.Option.{is_some}
 use Rattle.std.proofs.lemmas.Bool.{false≢true}
 use Rattle.gm_walk.specs.declared.mark.Mark.{Mark}
-use Rattle.gm_pending.specs.Marks.{HasKey, reached_by}
-use Rattle.gm_plan.specs.Indices.{index_at}
-use Rattle.gm_walk.specs.Keys.{key_of}
+use Rattle.gm_pending.specs.inner.Marks.{HasKey, reached_by}
+use Rattle.gm_plan.specs.inner.Indices.{index_at}
+use Rattle.gm_walk.specs.inner.Keys.{key_of}
 use Rattle.gm_pending.proofs.Marking.{bit_below, found_marked, some_below}
 use Rattle.gm_pending.proofs.Reached.{marked_few, unmarked}
 use Rattle.gm_pending.proofs.marks.Marks.mark.Goals as goal

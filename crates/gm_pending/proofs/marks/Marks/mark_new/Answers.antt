@@ -3,9 +3,9 @@ use Rattle.std.specs.Prelude.{OnOk, OnErr}
 use Rattle.gm_model.proofs.Exits.{never_ok, on_err}
 use Rattle.gm_walk.specs.declared.at.At.{At}
 use Rattle.gm_walk.specs.declared.mark.Mark.{Mark}
-use Rattle.gm_pending.specs.Marks.{HasKey, IsMarkedMore, reached_by}
-use Rattle.gm_plan.specs.Indices.{index_at}
-use Rattle.gm_walk.specs.Keys.{key_of}
+use Rattle.gm_pending.specs.inner.Marks.{HasKey, IsMarkedMore, reached_by}
+use Rattle.gm_plan.specs.inner.Indices.{index_at}
+use Rattle.gm_walk.specs.inner.Keys.{key_of}
 use Rattle.gm_pending.proofs.Marking.{bit_below}
 use Rattle.gm_pending.proofs.Reached.{marked_few}
 use Rattle.gm_pending.proofs.marks.Marks.mark_new.Goals as goal

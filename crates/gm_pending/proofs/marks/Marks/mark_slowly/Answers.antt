@@ -1,6 +1,6 @@
 use Rattle.std.proofs.Common.{refl, sym, ◌∙◌, inl, inr}
 use Rattle.std.proofs.lemmas.Bool.{false≢true}
-use Rattle.gm_walk.specs.Keys.{key_of}
+use Rattle.gm_walk.specs.inner.Keys.{key_of}
 use Rattle.gm_model.proofs.Exits.{never_ok, on_err, unless_ok}
 use Rattle.gm_pending.proofs.Marking.{found_marked}
 use Rattle.gm_pending.proofs.Reached.{unmarked}

@@ -3,9 +3,9 @@ use Rattle.std.specs.Option.{is_some, option_map}
 use Rattle.std.proofs.lemmas.Bool.{false≢true}
 use Rattle.gm_plan.specs.declared.index.Index.{Index}
 use Rattle.gm_walk.specs.declared.mark.Mark.{Mark}
-use Rattle.gm_pending.specs.Marks.{ByKey, AreMarked, AreSeen, HasDistinctKeys, HasKey, IsIndex}
-use Rattle.gm_plan.specs.Indices.{AreTheSame, IsOneMore, index_at}
-use Rattle.gm_walk.specs.Keys.{key_of}
+use Rattle.gm_pending.specs.inner.Marks.{ByKey, AreMarked, AreSeen, HasDistinctKeys, HasKey, IsIndex}
+use Rattle.gm_plan.specs.inner.Indices.{AreTheSame, IsOneMore, index_at}
+use Rattle.gm_walk.specs.inner.Keys.{key_of}
 use Rattle.gm_pending.proofs.Marking.{bit_below, not_quick}
 use Rattle.gm_pending.proofs.Reached.{distinct_more, put_again, put_new, seen_more}
 use Rattle.gm_model.proofs.Exits.{never_ok, on_err, unless_ok}

@@ -1,8 +1,8 @@
 use Rattle.std.proofs.Common.{◌≡◌, ℕ, ◌+◌, ◌*◌, List, ◌++◌, length, take, drop, subst, sym, ap, ◌∙◌, arith}
 use Rattle.std.proofs.lemmas.List.{take-append-le, take_all}
 use Rattle.gm_model.specs.declared.value.Value.{Value}
-use Rattle.gm_pending.specs.EditLists.{AreAddedValues}
-use Rattle.gm_pending.specs.Gathered.{AreDecidedBelow, AreKeptValues}
+use Rattle.gm_pending.specs.inner.EditLists.{AreAddedValues}
+use Rattle.gm_pending.specs.inner.Gathered.{AreDecidedBelow, AreKeptValues}
 use Rattle.gm_pending.proofs.AddedValues.{no_values}
 use Rattle.gm_pending.proofs.GivenValues.{none_decided, all_decided}
 use Rattle.gm_pending.proofs.pending.Pending.added_values.Goals as goal

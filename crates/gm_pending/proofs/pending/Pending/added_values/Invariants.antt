@@ -1,4 +1,4 @@
-use Rattle.gm_pending.specs.Gathered.{AreDecidedBelow}
+use Rattle.gm_pending.specs.inner.Gathered.{AreDecidedBelow}
 use Rattle.gm_pending.proofs.pending.Pending.added_values.Given as goal
 
 abbrev pub invariant-loop-embed : goal.invariant-loop-embed

@@ -1,7 +1,7 @@
 use Rattle.std.proofs.Common.{◌<◌, ◌↔◌, length, IsTrue, sym, subst}
 use Rattle.gm_model.specs.declared.schema.Schema.{Schema}
 use Rattle.gm_model.specs.Components.{IsAssigned}
-use Rattle.gm_pending.specs.Results.{PendingOf, rule_in}
+use Rattle.gm_pending.specs.inner.Results.{PendingOf, rule_in}
 use Rattle.gm_pending.proofs.pending.Pending.assigns.Goals as goal
 
 pub assigns-requires-clause-embed : goal.assigns-requires-clause-embed

@@ -1,8 +1,8 @@
 use Rattle.std.proofs.Common.{length, replicate, None, sym, subst, ap, ◌∙◌}
 use Rattle.gm_model.specs.declared.schema.Schema.{Schema}
 use Rattle.gm_model.specs.Rules.{rule_of}
-use Rattle.gm_plan.specs.Plans.{IsPlanned}
-use Rattle.gm_pending.specs.Results.{IsPrepared}
+use Rattle.gm_plan.specs.inner.Plans.{IsPlanned}
+use Rattle.gm_pending.specs.inner.Results.{IsPrepared}
 use Rattle.gm_pending.proofs.Answered.{no_answers, nothing_answered, nothing_prepared}
 use Rattle.gm_pending.proofs.MatchedBits.{all_seen}
 use Rattle.gm_pending.proofs.pending.Pending.build_in.Goals as goal

@@ -1,7 +1,7 @@
 use Rattle.std.proofs.Common.{◌≡◌, Some, ap, ◌∙◌}
 use Rattle.gm_arena.proofs.InsideLemmas.{some_of}
-use Rattle.gm_pending.specs.Results.{instances_of}
-use Rattle.gm_pending.specs.Sources.{given_of}
+use Rattle.gm_pending.specs.inner.Results.{instances_of}
+use Rattle.gm_pending.specs.inner.Sources.{given_of}
 use Rattle.gm_pending.proofs.Valued.{value_decided, has_given}
 use Rattle.gm_pending.proofs.pending.Pending.decided_value.Goals as goal
 

@@ -3,7 +3,7 @@ use Rattle.std.proofs.Common.{◌≡◌, None, ◌∙◌, ap}
 use Rattle.std.specs.Option.{option_map}
 use Rattle.std.proofs.lemmas.Option.{slice_get-get_or, slice_get-map}
 use Rattle.gm_pending.specs.declared.deciding_instance.DecidingInstance.{DecidingInstance}
-use Rattle.gm_pending.specs.Results.{instances_of, place_of}
+use Rattle.gm_pending.specs.inner.Results.{instances_of, place_of}
 use Rattle.gm_pending.proofs.pending.Pending.decider.Goals as goal
 
 pub orbits-requires : goal.orbits-requires

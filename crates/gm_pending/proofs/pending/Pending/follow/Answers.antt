@@ -2,14 +2,14 @@ use Rattle.std.proofs.Common.{◌≡◌, ℕ, ◌+◌, ◌-◌, ◌<◌, ◌≤�
 use Rattle.std.proofs.lemmas.Bool.{false≢true}
 use Rattle.gm_model.specs.declared.schema.Embed.{Embed}
 use Rattle.gm_model.specs.Maps.{IsEmbedAt}
-use Rattle.gm_theory.specs.Theorem.{Unfolded}
+use Rattle.gm_theory.specs.inner.Theorem.{Unfolded}
 use Rattle.gm_walk.specs.declared.at.At.{At}
 use Rattle.gm_walk.specs.declared.mark.Mark.{Mark}
-use Rattle.gm_pending.specs.Marks.{HasKey}
-use Rattle.gm_walk.specs.Keys.{key_of}
-use Rattle.gm_pending.specs.Pairs.{IsPair}
-use Rattle.gm_pending.specs.Reached.{IsFollowedAlong, IsFollowedBut, IsFollowedOut, IsGoneOn, IsGrownAlong, LeadsBackOnly}
-use Rattle.gm_pending.specs.Results.{PendingOf, IsUnfoldedIn, name_of}
+use Rattle.gm_pending.specs.inner.Marks.{HasKey}
+use Rattle.gm_walk.specs.inner.Keys.{key_of}
+use Rattle.gm_pending.specs.inner.Pairs.{IsPair}
+use Rattle.gm_pending.specs.inner.Reached.{IsFollowedAlong, IsFollowedBut, IsFollowedOut, IsGoneOn, IsGrownAlong, LeadsBackOnly}
+use Rattle.gm_pending.specs.inner.Results.{PendingOf, IsUnfoldedIn, name_of}
 use Rattle.gm_pending.proofs.Law.{some_unfolding}
 use Rattle.gm_pending.proofs.Pairs.{by_keys, follow_ends, follow_goes_on, no_shorter, one_longer, only_ends, pair_turned}
 use Rattle.gm_pending.proofs.Reached.{key_kept, key_marked}

@@ -1,9 +1,9 @@
 use Rattle.std.proofs.Common.{◌≡◌, ◌≢◌, ◌∙◌, ℕ, Option, Some, None, MatchOption, sym, subst}
-use Rattle.gm_plan.specs.InArena.{slot_number}
+use Rattle.gm_plan.specs.inner.InArena.{slot_number}
 use Rattle.gm_theory.proofs.Scenes.{IsRightAt}
 use Rattle.gm_walk.specs.declared.at.At.TheVariants.{Old}
-use Rattle.gm_plan.specs.Lookup.{IsWithin, IsAtSlot}
-use Rattle.gm_pending.specs.Results.{PendingOf, IsPrepared, IsResultDart, scene_in, name_of}
+use Rattle.gm_plan.specs.inner.Lookup.{IsWithin, IsAtSlot}
+use Rattle.gm_pending.specs.inner.Results.{PendingOf, IsPrepared, IsResultDart, scene_in, name_of}
 use Rattle.gm_pending.proofs.Darts.{instance_lies, none_lies}
 use Rattle.gm_pending.proofs.pending.Pending.instance.Goals as goal
 

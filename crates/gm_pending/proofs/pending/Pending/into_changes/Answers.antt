@@ -2,9 +2,9 @@ use Rattle.std.proofs.Common.{◌≡◌, ℕ, ◌+◌, ◌*◌, ◌<◌, ◌≤�
 use Rattle.std.proofs.lemmas.Nat.{mul-le}
 use Rattle.gm_model.specs.Unfolding.{added_nodes}
 use Rattle.gm_pending.specs.declared.rewrite.Arcs.TheVariants.{Freed, Made}
-use Rattle.gm_pending.specs.Results.{PendingOf, IsPrepared, rule_in}
-use Rattle.gm_plan.specs.Placed.{Placed}
-use Rattle.gm_pending.specs.EditLists.{AreDistinct}
+use Rattle.gm_pending.specs.inner.Results.{PendingOf, IsPrepared, rule_in}
+use Rattle.gm_plan.specs.inner.Placed.{Placed}
+use Rattle.gm_pending.specs.inner.EditLists.{AreDistinct}
 use Rattle.gm_pending.proofs.Collected.{are_edits, few_added, left_distinct}
 use Rattle.gm_pending.proofs.Told.{same_arcs, same_left, same_removed}
 use Rattle.gm_model.proofs.Exits.{unless_ok}

@@ -1,8 +1,8 @@
 use Rattle.std.proofs.Common.{subst, sym, arith}
 use Rattle.std.proofs.lemmas.List.{length-map}
-use Rattle.gm_pending.specs.Answered.{instances_in}
-use Rattle.gm_pending.specs.EditLists.{AllGiven, AreNewValues}
-use Rattle.gm_pending.specs.ToldEdits.{values_told}
+use Rattle.gm_pending.specs.inner.Answered.{instances_in}
+use Rattle.gm_pending.specs.inner.EditLists.{AllGiven, AreNewValues}
+use Rattle.gm_pending.specs.inner.ToldEdits.{values_told}
 use Rattle.gm_pending.proofs.ToldValues.{told_new}
 use Rattle.gm_pending.proofs.pending.Pending.into_orbits.Goals as goal
 

@@ -1,5 +1,5 @@
 use Rattle.std.proofs.Common.{◌≡◌, ℕ, ◌<◌, length, None, get_or}
-use Rattle.gm_pending.specs.Sources.{IsKeeperFor}
+use Rattle.gm_pending.specs.inner.Sources.{IsKeeperFor}
 use Rattle.gm_pending.proofs.pending.Pending.keepers.Given as goal
 
 abbrev pub invariant-loop-embed : goal.invariant-loop-embed

@@ -1,9 +1,9 @@
 use Rattle.std.proofs.Common.{◌≡◌, subst}
 use Rattle.gm_model.specs.declared.rule.Side.TheVariants.{Left, Right}
 use Rattle.gm_model.specs.Rules.{has_word}
-use Rattle.gm_plan.specs.InArena.{slot_number}
+use Rattle.gm_plan.specs.inner.InArena.{slot_number}
 use Rattle.gm_theory.proofs.Tests.{both_true}
-use Rattle.gm_pending.specs.Results.{PendingOf, IsPrepared, rule_in}
+use Rattle.gm_pending.specs.inner.Results.{PendingOf, IsPrepared, rule_in}
 use Rattle.gm_plan.proofs.Looked.{slot_answered}
 use Rattle.gm_pending.proofs.pending.Pending.kept_slot.Goals as goal
 

@@ -1,7 +1,7 @@
 use Rattle.std.proofs.Common.{◌≡◌, ℕ, ◌+◌, ◌*◌, ◌≤◌, length, subst, ◌∙◌, sym, arith}
 use Rattle.std.proofs.lemmas.Nat.{mul-le}
-use Rattle.gm_pending.specs.Gathered.{AreKeptValues, new_number}
-use Rattle.gm_pending.specs.Results.{PendingOf, rule_in}
+use Rattle.gm_pending.specs.inner.Gathered.{AreKeptValues, new_number}
+use Rattle.gm_pending.specs.inner.Results.{PendingOf, rule_in}
 use Rattle.gm_pending.proofs.AddedDarts.{first_dart, next_node, all_darts, few_darts}
 use Rattle.gm_pending.proofs.AddedValues.{none_kept}
 use Rattle.gm_pending.proofs.Ends.{other_added}

@@ -1,12 +1,12 @@
 use Rattle.std.proofs.Common.{◌≢◌, ℕ, MatchOption, sym, ◌∙◌, subst}
 use Rattle.std.proofs.lemmas.Bool.{false≢true}
 use Rattle.gm_model.specs.Rules.{rule_of}
-use Rattle.gm_plan.specs.InArena.{slot_number}
-use Rattle.gm_plan.specs.Lookup.{IsWithin, IsAtSlot}
-use Rattle.gm_pending.specs.Results.{PendingOf, IsPrepared}
+use Rattle.gm_plan.specs.inner.InArena.{slot_number}
+use Rattle.gm_plan.specs.inner.Lookup.{IsWithin, IsAtSlot}
+use Rattle.gm_pending.specs.inner.Results.{PendingOf, IsPrepared}
 use Rattle.gm_pending.proofs.Darts.{one_left_count}
 use Rattle.gm_pending.proofs.MatchedBits.{none_matched}
-use Rattle.gm_pending.specs.Answered.{IsLookedUp}
+use Rattle.gm_pending.specs.inner.Answered.{IsLookedUp}
 use Rattle.gm_pending.proofs.pending.Pending.left_instance.Goals as goal
 
 pub instance_at-requires : goal.instance_at-requires

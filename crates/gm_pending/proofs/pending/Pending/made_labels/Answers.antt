@@ -1,6 +1,6 @@
 use Rattle.std.proofs.Common.{subst}
-use Rattle.gm_plan.specs.Changes.{AreMadeLabels}
-use Rattle.gm_pending.specs.Results.{PendingOf, rule_in}
+use Rattle.gm_plan.specs.inner.Changes.{AreMadeLabels}
+use Rattle.gm_pending.specs.inner.Results.{PendingOf, rule_in}
 use Rattle.gm_pending.proofs.pending.Pending.made_labels.Goals as goal
 
 pub returns : goal.returns

@@ -1,5 +1,5 @@
 use Rattle.std.proofs.Common.{◌≡◌, None, inr, subst, arith}
-use Rattle.gm_pending.specs.Reached.{AreMarkedTo}
+use Rattle.gm_pending.specs.inner.Reached.{AreMarkedTo}
 use Rattle.gm_pending.proofs.OneOrbit.{next_absent, next_marked, none_marked_yet}
 use Rattle.gm_pending.proofs.Spread.{marked_darts}
 use Rattle.gm_pending.proofs.pending.Pending.mark_instances.Goals as goal

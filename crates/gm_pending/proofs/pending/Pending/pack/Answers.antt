@@ -1,5 +1,5 @@
 use Rattle.std.proofs.Common.{subst}
-use Rattle.gm_pending.specs.Results.{IsResultDart}
+use Rattle.gm_pending.specs.inner.Results.{IsResultDart}
 use Rattle.gm_pending.proofs.Spread.{added_sides, few_nodes}
 use Rattle.gm_pending.proofs.pending.Pending.pack.Goals as goal
 

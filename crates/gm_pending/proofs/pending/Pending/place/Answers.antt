@@ -1,11 +1,11 @@
 use Rattle.std.proofs.Common.{◌≡◌, ◌<◌, IsTrue, subst, refl, sym}
 use Rattle.gm_model.specs.declared.rule.Side.TheVariants.{Left}
 use Rattle.gm_model.specs.Rules.{has_word}
-use Rattle.gm_plan.specs.InArena.{slot_number}
-use Rattle.gm_pending.specs.Results.{PendingOf, IsPrepared, rule_in, scene_in}
+use Rattle.gm_plan.specs.inner.InArena.{slot_number}
+use Rattle.gm_pending.specs.inner.Results.{PendingOf, IsPrepared, rule_in, scene_in}
 use Rattle.gm_plan.proofs.Looked.{slot_answered}
 use Rattle.gm_pending.proofs.Darts.{stays_there}
-use Rattle.gm_plan.specs.Plans.{IsLeftCount}
+use Rattle.gm_plan.specs.inner.Plans.{IsLeftCount}
 use Rattle.gm_theory.proofs.Arcs.{kept_name}
 use Rattle.gm_pending.proofs.Law.{law}
 use Rattle.gm_pending.proofs.Lefts.{right_added}

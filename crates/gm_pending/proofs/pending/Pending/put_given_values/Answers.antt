@@ -4,9 +4,9 @@ use Rattle.std.proofs.lemmas.Bool.{false≢true}
 use Rattle.std.proofs.lemmas.Nat.{mul-add-lt}
 use Rattle.std.proofs.lemmas.Option.{slice_get_read}
 use Rattle.gm_model.specs.Unfolding.{added_nodes}
-use Rattle.gm_pending.specs.Reached.{AreReached}
-use Rattle.gm_pending.specs.Results.{IsResultDart, IsValueIn, instances_of, name_of, rule_in}
-use Rattle.gm_pending.specs.Sources.{given_of}
+use Rattle.gm_pending.specs.inner.Reached.{AreReached}
+use Rattle.gm_pending.specs.inner.Results.{IsResultDart, IsValueIn, instances_of, name_of, rule_in}
+use Rattle.gm_pending.specs.inner.Sources.{given_of}
 use Rattle.gm_pending.proofs.AddedDarts.{new_dart_below}
 use Rattle.gm_pending.proofs.GivenValues.{none_put_over, old_passed_over, given_put_over, entry_dart, entry_given, entry_value, decided_more}
 use Rattle.gm_pending.proofs.pending.Pending.put_given_values.Goals as goal

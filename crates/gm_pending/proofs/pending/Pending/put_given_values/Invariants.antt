@@ -1,8 +1,8 @@
 use Rattle.gm_model.specs.declared.schema.Embed.{Embed}
 use Rattle.gm_model.specs.Maps.{IsEmbedAt}
-use Rattle.gm_pending.specs.Gathered.{AreDecidedFrom}
-use Rattle.gm_pending.specs.Reached.{AreReached}
-use Rattle.gm_pending.specs.Results.{instances_of}
+use Rattle.gm_pending.specs.inner.Gathered.{AreDecidedFrom}
+use Rattle.gm_pending.specs.inner.Reached.{AreReached}
+use Rattle.gm_pending.specs.inner.Results.{instances_of}
 use Rattle.gm_pending.proofs.pending.Pending.put_given_values.Given as goal
 
 abbrev pub invariant-loop-entry : goal.invariant-loop-entry

@@ -1,6 +1,6 @@
 use Rattle.std.proofs.Common.{◌≡◌, ◌<◌, length, refl, arith}
 use borrow.Author.Count.{falls}
-use Rattle.gm_pending.specs.Gathered.{new_number}
+use Rattle.gm_pending.specs.inner.Gathered.{new_number}
 use Rattle.gm_pending.proofs.AddedValues.{none_put, more_put, more_kept}
 use Rattle.gm_pending.proofs.Valued.{keeper_preserved, keeper_source}
 use Rattle.gm_pending.proofs.pending.Pending.put_kept_values_of_dart.Goals as goal

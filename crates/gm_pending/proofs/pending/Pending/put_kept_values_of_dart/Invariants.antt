@@ -1,5 +1,5 @@
 use Rattle.std.proofs.Common.{◌+◌, ◌≤◌}
-use Rattle.gm_pending.specs.Gathered.{new_number}
+use Rattle.gm_pending.specs.inner.Gathered.{new_number}
 use Rattle.gm_pending.proofs.AddedValues.{ArePut}
 use Rattle.gm_pending.proofs.pending.Pending.put_kept_values_of_dart.Given as goal
 

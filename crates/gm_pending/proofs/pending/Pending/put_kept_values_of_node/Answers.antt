@@ -1,6 +1,6 @@
 use Rattle.std.proofs.Common.{◌≡◌, ℕ, ◌+◌, ◌*◌, ◌≤◌, length, subst, arith}
 use Rattle.std.proofs.lemmas.Nat.{mul-le}
-use Rattle.gm_pending.specs.Gathered.{AreKeptValues, new_number}
+use Rattle.gm_pending.specs.inner.Gathered.{AreKeptValues, new_number}
 use Rattle.gm_pending.proofs.pending.Pending.put_kept_values_of_node.Goals as goal
 
 -- the values of one dart more

@@ -1,5 +1,5 @@
 use Rattle.std.proofs.Common.{◌+◌, ◌*◌, ◌≤◌, length}
-use Rattle.gm_pending.specs.Gathered.{AreKeptValues, new_number}
+use Rattle.gm_pending.specs.inner.Gathered.{AreKeptValues, new_number}
 use Rattle.gm_pending.proofs.pending.Pending.put_kept_values_of_node.Given as goal
 
 abbrev pub invariant-loop-position : goal.invariant-loop-position

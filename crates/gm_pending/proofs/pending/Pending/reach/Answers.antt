@@ -1,8 +1,8 @@
 use Rattle.std.proofs.Common.{◌≡◌, ◌+◌, ◌<◌, List, length, get_or, None, sym, ap, ◌∙◌, subst, arith, ◌*◌, ◌≤◌, ℕ, ◌-◌, le_refl, le_of_eq}
 use Rattle.std.proofs.lemmas.Option.{slice_get_read}
 use Rattle.gm_walk.specs.declared.mark.Mark.{Mark}
-use Rattle.gm_pending.specs.Reached.{IsSpreadTo}
-use Rattle.gm_pending.specs.Results.{name_of}
+use Rattle.gm_pending.specs.inner.Reached.{IsSpreadTo}
+use Rattle.gm_pending.specs.inner.Results.{name_of}
 use Rattle.gm_pending.proofs.Following.{stays_longer, walked_cost, walked_on, walked_some}
 use Rattle.gm_pending.proofs.Decided.{on_ok}
 use Rattle.gm_pending.proofs.Pairs.{follow_other, follow_spreads, follow_starts, one_longer, pair_cost, pair_turned, pair_wide}

@@ -1,7 +1,7 @@
 use Rattle.std.proofs.Common.{◌+◌, ◌-◌, ◌*◌, ◌≤◌, length}
-use Rattle.gm_theory.specs.Theorem.{Unfolded}
-use Rattle.gm_pending.specs.Reached.{AreResultDarts, IsClosed, IsSpreadTo}
-use Rattle.gm_pending.specs.Results.{IsUnfoldedIn, name_of}
+use Rattle.gm_theory.specs.inner.Theorem.{Unfolded}
+use Rattle.gm_pending.specs.inner.Reached.{AreResultDarts, IsClosed, IsSpreadTo}
+use Rattle.gm_pending.specs.inner.Results.{IsUnfoldedIn, name_of}
 use Rattle.gm_pending.proofs.pending.Pending.reach.Given as goal
 
 abbrev pub invariant-loop-next : goal.invariant-loop-next

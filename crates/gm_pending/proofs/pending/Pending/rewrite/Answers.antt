@@ -1,8 +1,8 @@
 use Rattle.std.proofs.Common.{nat_lt, refl, sym, ap, subst, ◌∙◌}
 use Rattle.gm_model.specs.declared.schema.Schema.{Schema}
-use Rattle.gm_pending.specs.Answered.{pending_as}
-use Rattle.gm_pending.specs.Collected.{RewriteRows, AreAlike, rows_at, told_by, rewrite_of}
-use Rattle.gm_pending.specs.Results.{PendingOf}
+use Rattle.gm_pending.specs.inner.Answered.{pending_as}
+use Rattle.gm_pending.specs.inner.Collected.{RewriteRows, AreAlike, rows_at, told_by, rewrite_of}
+use Rattle.gm_pending.specs.inner.Results.{PendingOf}
 use Rattle.gm_pending.proofs.Told.{ArePlanRows, none_more, rows_alike, rows_fitted}
 use Rattle.gm_pending.proofs.pending.Pending.rewrite.Goals as goal
 

@@ -1,5 +1,5 @@
 use Rattle.std.proofs.Common.{subst}
-use Rattle.gm_pending.specs.Sources.{HasSourceNode}
+use Rattle.gm_pending.specs.inner.Sources.{HasSourceNode}
 use Rattle.gm_pending.proofs.Reached.{get_within}
 use Rattle.gm_pending.proofs.pending.Pending.source.Goals as goal
 

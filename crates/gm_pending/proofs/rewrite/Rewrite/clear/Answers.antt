@@ -1,7 +1,7 @@
 use Rattle.std.proofs.Common.{refl, ap, ◌∙◌, arith}
 use Rattle.gm_pending.specs.declared.rewrite.Arcs.TheVariants.{Freed}
-use Rattle.gm_pending.specs.Collected.{all_arcs, all_removed, told_by}
-use Rattle.gm_pending.specs.Written.{end_at, with_arcs, without_darts}
+use Rattle.gm_pending.specs.inner.Collected.{all_arcs, all_removed, told_by}
+use Rattle.gm_pending.specs.inner.Written.{end_at, with_arcs, without_darts}
 use Rattle.gm_pending.proofs.Table.{left_alone}
 use Rattle.gm_pending.proofs.Unremoved.{nothing_freed, nothing_removed}
 use Rattle.gm_pending.proofs.rewrite.Rewrite.clear.Goals as goal

@@ -1,8 +1,8 @@
 use Rattle.std.proofs.Common.{◌≡◌, ℕ, ◌/◌, ◌^◌, ◌<◌, ◌≤◌, bit_and, length, ap, ◌∙◌, subst, sym, arith}
 use Rattle.std.proofs.Math.Dec.{eqb}
 use Rattle.std.proofs.lemmas.Nat.Bits.{shr_and_one}
-use Rattle.gm_plan.specs.Changes.{has_bit}
-use Rattle.gm_pending.specs.Collected.{RewriteRows}
+use Rattle.gm_plan.specs.inner.Changes.{has_bit}
+use Rattle.gm_pending.specs.inner.Collected.{RewriteRows}
 use Rattle.gm_pending.proofs.rewrite.Rewrite.is_removed.Goals as goal
 
 node_below : (node nodes : ℕ) → node < nodes → nodes ≤ 32 → node < 32

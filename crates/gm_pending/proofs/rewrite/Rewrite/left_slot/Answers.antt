@@ -1,5 +1,5 @@
 use Rattle.std.proofs.Common.{◌<◌, sym, subst}
-use Rattle.gm_pending.specs.Collected.{RewriteRows}
+use Rattle.gm_pending.specs.inner.Collected.{RewriteRows}
 use Rattle.gm_pending.proofs.Ends.{slot_is}
 use Rattle.gm_pending.proofs.rewrite.Rewrite.left_slot.Goals as goal
 

@@ -1,7 +1,7 @@
 use Rattle.std.proofs.Common.{◌≡◌, ◌+◌, ◌*◌, length, ap, ◌∙◌, arith}
 use Rattle.std.proofs.lemmas.Nat.{mul-le}
 use Rattle.gm_model.proofs.Exits.{unless_ok}
-use Rattle.gm_pending.specs.Collected.{told_by, concat_below, left_slots_of}
+use Rattle.gm_pending.specs.inner.Collected.{told_by, concat_below, left_slots_of}
 use Rattle.gm_pending.proofs.Concat.{put_next}
 use Rattle.gm_pending.proofs.Table.{some_long, one_more, rest_of_room}
 use Rattle.gm_pending.proofs.rewrite.Rewrite.left_slots.Goals as goal

@@ -1,6 +1,6 @@
 use Rattle.std.proofs.Common.{◌≡◌, ◌+◌, ◌*◌, ◌≤◌}
 use Rattle.std.specs.Vec.{vec_capacity}
-use Rattle.gm_pending.specs.Collected.{told_by, concat_below, left_slots_of}
+use Rattle.gm_pending.specs.inner.Collected.{told_by, concat_below, left_slots_of}
 use Rattle.gm_pending.proofs.rewrite.Rewrite.left_slots.Given as goal
 
 abbrev pub invariant-loop-node : goal.invariant-loop-node

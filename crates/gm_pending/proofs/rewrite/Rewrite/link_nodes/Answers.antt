@@ -1,5 +1,5 @@
 use Rattle.std.proofs.Common.{[], ◌∷◌, refl, ◌∙◌, arith}
-use Rattle.gm_pending.specs.Collected.{told_by, end_of, arc_between, made_in}
+use Rattle.gm_pending.specs.inner.Collected.{told_by, end_of, arc_between, made_in}
 use Rattle.gm_pending.proofs.Concat.{length_same}
 use Rattle.gm_pending.proofs.ManyArcs.{slots_live, alphas_arcs}
 use Rattle.gm_pending.proofs.rewrite.Rewrite.link_nodes.Goals as goal

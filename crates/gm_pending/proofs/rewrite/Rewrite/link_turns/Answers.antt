@@ -2,10 +2,10 @@ use Rattle.std.proofs.Common.{◌≡◌, ℕ, ◌<◌, ◌≤◌, List, length, 
 use borrow.Author.Count.{falls}
 use Rattle.gm_model.specs.declared.step.Step.TheVariants.{Imp}
 use Rattle.gm_arena.specs.declared.slot.Slot.{Slot}
-use Rattle.gm_plan.specs.Placed.{turn_at}
-use Rattle.gm_plan.specs.Searches.{row_step}
-use Rattle.gm_pending.specs.Collected.{RewriteOf, RewriteRows, told_by, end_of, arc_between, made_in}
-use Rattle.gm_pending.specs.Written.{slot_of}
+use Rattle.gm_plan.specs.inner.Placed.{turn_at}
+use Rattle.gm_plan.specs.inner.Searches.{row_step}
+use Rattle.gm_pending.specs.inner.Collected.{RewriteOf, RewriteRows, told_by, end_of, arc_between, made_in}
+use Rattle.gm_pending.specs.inner.Written.{slot_of}
 use Rattle.gm_pending.proofs.Writing.{none_written, one_written, still_writable}
 use Rattle.gm_pending.proofs.rewrite.Rewrite.link_turns.Goals as goal
 

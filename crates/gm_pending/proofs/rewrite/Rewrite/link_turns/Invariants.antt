@@ -1,6 +1,6 @@
 use Rattle.std.proofs.Common.{[], ◌∷◌}
-use Rattle.gm_plan.specs.Placed.{turn_at}
-use Rattle.gm_pending.specs.Collected.{told_by, concat_below, arc_between, made_in}
+use Rattle.gm_plan.specs.inner.Placed.{turn_at}
+use Rattle.gm_pending.specs.inner.Collected.{told_by, concat_below, arc_between, made_in}
 use Rattle.gm_pending.proofs.Writing.{AreWritten}
 use Rattle.gm_pending.proofs.rewrite.Rewrite.link_turns.Given as goal
 

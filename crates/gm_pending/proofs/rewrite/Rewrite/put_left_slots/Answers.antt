@@ -1,5 +1,5 @@
 use Rattle.std.proofs.Common.{◌≡◌, ◌<◌, ◌∷◌, [], length, refl, sym, ap, ◌∙◌, arith, append-nil, length-append}
-use Rattle.gm_pending.specs.Collected.{told_by, concat_below, slot_in}
+use Rattle.gm_pending.specs.inner.Collected.{told_by, concat_below, slot_in}
 use Rattle.gm_pending.proofs.Concat.{put_more}
 use Rattle.gm_pending.proofs.Table.{part_long}
 use Rattle.gm_pending.proofs.rewrite.Rewrite.put_left_slots.Goals as goal

@@ -1,6 +1,6 @@
 use Rattle.std.proofs.Common.{◌≡◌, [], ◌∷◌, ◌++◌}
 use Rattle.std.specs.Vec.{vec_capacity}
-use Rattle.gm_pending.specs.Collected.{concat_below, slot_in}
+use Rattle.gm_pending.specs.inner.Collected.{concat_below, slot_in}
 use Rattle.gm_pending.proofs.rewrite.Rewrite.put_left_slots.Given as goal
 
 abbrev pub invariant-loop-position : goal.invariant-loop-position

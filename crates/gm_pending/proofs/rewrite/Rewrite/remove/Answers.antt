@@ -1,5 +1,5 @@
 use Rattle.std.proofs.Common.{◌≡◌, ◌<◌, length, arith}
-use Rattle.gm_pending.specs.Collected.{told_by, removed_in}
+use Rattle.gm_pending.specs.inner.Collected.{told_by, removed_in}
 use Rattle.gm_pending.proofs.Writing.{none_gone, more_gone, can_go_on}
 use Rattle.gm_pending.proofs.rewrite.Rewrite.remove.Goals as goal
 

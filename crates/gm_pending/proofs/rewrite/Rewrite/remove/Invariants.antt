@@ -1,4 +1,4 @@
-use Rattle.gm_pending.specs.Collected.{told_by, concat_below, removed_in}
+use Rattle.gm_pending.specs.inner.Collected.{told_by, concat_below, removed_in}
 use Rattle.gm_pending.proofs.Writing.{AreGone}
 use Rattle.gm_pending.proofs.rewrite.Rewrite.remove.Given as goal
 

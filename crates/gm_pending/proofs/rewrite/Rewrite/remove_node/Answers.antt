@@ -1,7 +1,7 @@
 use Rattle.std.proofs.Common.{◌≡◌, ℕ, ◌+◌, ◌<◌, true, [], ◌∷◌, length, refl, sym, ap, ◌∙◌, arith}
-use Rattle.gm_arena.specs.ArenaMap.{ArenaMap}
-use Rattle.gm_pending.specs.Collected.{RewriteOf, concat_below, removed_in, removed_of, slot_in, told_by}
-use Rattle.gm_pending.specs.Written.{CanRemove, without_darts}
+use Rattle.gm_arena.specs.inner.ArenaMap.{ArenaMap}
+use Rattle.gm_pending.specs.inner.Collected.{RewriteOf, concat_below, removed_in, removed_of, slot_in, told_by}
+use Rattle.gm_pending.specs.inner.Written.{CanRemove, without_darts}
 use Rattle.gm_pending.proofs.Ends.{none_removed}
 use Rattle.gm_pending.proofs.Writing.{AreGone, none_gone, more_gone, can_go_on}
 use Rattle.gm_pending.proofs.rewrite.Rewrite.remove_node.Goals as goal

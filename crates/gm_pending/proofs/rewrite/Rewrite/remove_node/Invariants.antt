@@ -1,4 +1,4 @@
-use Rattle.gm_pending.specs.Collected.{told_by, concat_below, removed_of}
+use Rattle.gm_pending.specs.inner.Collected.{told_by, concat_below, removed_of}
 use Rattle.gm_pending.proofs.Writing.{AreGone}
 use Rattle.gm_pending.proofs.rewrite.Rewrite.remove_node.Given as goal
 

@@ -1,6 +1,6 @@
 use Rattle.std.proofs.Common.{◌≡◌, ℕ, ◌+◌, ◌*◌, ◌<◌, ◌≤◌, ap, ◌∙◌, le-add_right, arith}
 use Rattle.std.proofs.lemmas.Nat.{mul-le}
-use Rattle.gm_pending.specs.Collected.{RewriteRows, told_by}
+use Rattle.gm_pending.specs.inner.Collected.{RewriteRows, told_by}
 use Rattle.gm_pending.proofs.Table.{part_within, part_at}
 use Rattle.gm_pending.proofs.rewrite.Rewrite.slots_of.Goals as goal
 

@@ -1,5 +1,5 @@
 use Rattle.std.proofs.Common.{◌≡◌, ◌<◌, length, arith}
-use Rattle.gm_pending.specs.Collected.{told_by, concat_below, arcs_in, made_in}
+use Rattle.gm_pending.specs.inner.Collected.{told_by, concat_below, arcs_in, made_in}
 use Rattle.gm_pending.proofs.Concat.{contains_concat}
 use Rattle.gm_pending.proofs.Writing.{none_written, more_written, still_writable}
 use Rattle.gm_pending.proofs.rewrite.Rewrite.write.Goals as goal

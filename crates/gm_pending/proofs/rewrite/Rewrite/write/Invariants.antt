@@ -1,4 +1,4 @@
-use Rattle.gm_pending.specs.Collected.{told_by, concat_below, arcs_in, made_in}
+use Rattle.gm_pending.specs.inner.Collected.{told_by, concat_below, arcs_in, made_in}
 use Rattle.gm_pending.proofs.Writing.{AreWritten}
 use Rattle.gm_pending.proofs.rewrite.Rewrite.write.Given as goal
 

@@ -1,5 +1,5 @@
 use Rattle.std.proofs.Common.{◌≡◌, ◌<◌, arith}
-use Rattle.gm_pending.specs.Collected.{told_by, concat_below, labels, arcs_at, made_in}
+use Rattle.gm_pending.specs.inner.Collected.{told_by, concat_below, labels, arcs_at, made_in}
 use Rattle.gm_pending.proofs.Concat.{contains_concat}
 use Rattle.gm_pending.proofs.Writing.{none_written, more_written, still_writable}
 use Rattle.gm_pending.proofs.rewrite.Rewrite.write_node.Goals as goal

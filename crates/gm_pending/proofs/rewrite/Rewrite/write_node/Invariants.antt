@@ -1,4 +1,4 @@
-use Rattle.gm_pending.specs.Collected.{told_by, concat_below, arcs_at, made_in}
+use Rattle.gm_pending.specs.inner.Collected.{told_by, concat_below, arcs_at, made_in}
 use Rattle.gm_pending.proofs.Writing.{AreWritten}
 use Rattle.gm_pending.proofs.rewrite.Rewrite.write_node.Given as goal
 

@@ -1,8 +1,8 @@
 use Rattle.std.proofs.Common.{◌≡◌, ◌≢◌, rules, refl, arith}
 use Rattle.gm_model.specs.declared.step.Step.TheVariants.{Absent}
-use Rattle.gm_plan.specs.Placed.{turn_at}
+use Rattle.gm_plan.specs.inner.Placed.{turn_at}
 use Rattle.gm_pending.specs.declared.rewrite.Arcs.TheVariants.{Freed}
-use Rattle.gm_pending.specs.Collected.{told_by, arcs_at, made_in}
+use Rattle.gm_pending.specs.inner.Collected.{told_by, arcs_at, made_in}
 use Rattle.gm_pending.proofs.Ends.{no_arcs}
 use Rattle.gm_pending.proofs.StepArcs.{freed_arcs, linked_arcs, turned_arcs, writable_at, all_written}
 use Rattle.gm_pending.proofs.rewrite.Rewrite.write_step.Goals as goal

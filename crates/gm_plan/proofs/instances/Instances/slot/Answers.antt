@@ -1,6 +1,6 @@
 use Rattle.std.proofs.Common.{◌≡◌, ◌+◌, ◌*◌, ◌<◌, Some, length, sym, ap, subst, ◌∙◌, arith}
 use Rattle.std.proofs.lemmas.Option.{slice_get-get_or}
-use Rattle.gm_plan.specs.Placed.{Placed, slot_at}
+use Rattle.gm_plan.specs.inner.Placed.{Placed, slot_at}
 use Rattle.gm_plan.proofs.Placing.{within_rows}
 use Rattle.gm_plan.proofs.instances.Instances.slot.Goals as goal
 

@@ -1,5 +1,5 @@
 use Rattle.std.proofs.Common.{◌<◌, length, subst, sym, arith}
-use Rattle.gm_plan.specs.Placed.{Placed}
+use Rattle.gm_plan.specs.inner.Placed.{Placed}
 use Rattle.gm_plan.proofs.Placing.{within_rows}
 use Rattle.gm_plan.proofs.instances.Instances.turn.Goals as goal
 

@@ -1,7 +1,7 @@
 use Rattle.std.proofs.Common.{◌∙◌, ap}
 use Rattle.std.specs.HashMap.{get}
 use Rattle.std.specs.Prelude.{nat_eq}
-use Rattle.gm_plan.specs.Lookup.{BySlot}
+use Rattle.gm_plan.specs.inner.Lookup.{BySlot}
 use Rattle.gm_plan.proofs.Looked.{looked_up}
 use Rattle.gm_plan.proofs.lookup.Lookup.find.Goals as goal
 

@@ -1,7 +1,7 @@
 use Rattle.std.proofs.Common.{◌≡◌, ◌<◌, ℕ, true, false, Option, Some, None, length, refl, add-zero, arith}
 use Rattle.std.proofs.lemmas.List.{length-set}
 use Rattle.gm_model.specs.declared.step.Step.TheVariants.{Exp}
-use Rattle.gm_plan.specs.Searches.{row_step, rank_at}
+use Rattle.gm_plan.specs.inner.Searches.{row_step, rank_at}
 use Rattle.gm_plan.proofs.Extended.{follow_finds}
 use Rattle.gm_plan.proofs.Ranks.{rank_new, rank_other}
 use Rattle.gm_plan.proofs.Rows.{row_below}

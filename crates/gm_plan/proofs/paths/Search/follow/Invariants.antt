@@ -1,5 +1,5 @@
 use Rattle.std.proofs.Common.{◌≡◌, ℕ, List, length}
-use Rattle.gm_plan.specs.Searches.{row_step, rank_at, IsSearched}
+use Rattle.gm_plan.specs.inner.Searches.{row_step, rank_at, IsSearched}
 use Rattle.gm_plan.proofs.Search.{IsFollowed}
 use Rattle.gm_plan.proofs.paths.Search.follow.Given as goal
 

@@ -1,5 +1,5 @@
 use Rattle.std.proofs.Common.{◌+◌, ◌≤◌, ℕ, List}
-use Rattle.gm_plan.specs.Searches.{IsSearched}
+use Rattle.gm_plan.specs.inner.Searches.{IsSearched}
 use Rattle.gm_plan.proofs.paths.Search.follow_rank.Given as goal
 
 abbrev pub invariant-loop-label : goal.invariant-loop-label

@@ -1,5 +1,5 @@
 use Rattle.std.proofs.Common.{arith}
-use Rattle.gm_plan.specs.Searches.{rank_at, row_step}
+use Rattle.gm_plan.specs.inner.Searches.{rank_at, row_step}
 use Rattle.gm_plan.proofs.Search.{other_rank, no_end, end_with_rank, new_end}
 use Rattle.gm_plan.proofs.paths.Search.new_end.Goals as goal
 

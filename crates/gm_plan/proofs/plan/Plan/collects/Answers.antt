@@ -1,7 +1,7 @@
 use Rattle.std.proofs.Common.{◌≡◌, ◌<◌, false, length, IsTrue, sym, subst}
 use Rattle.gm_model.specs.Rules.{rule_of}
-use Rattle.gm_plan.specs.Collecting.{Collects, CollectsNothing}
-use Rattle.gm_plan.specs.Plans.{PlanOf}
+use Rattle.gm_plan.specs.inner.Collecting.{Collects, CollectsNothing}
+use Rattle.gm_plan.specs.inner.Plans.{PlanOf}
 use Rattle.gm_plan.proofs.EmbedTables.{read_sources}
 use Rattle.gm_plan.proofs.plan.Plan.collects.Goals as goal
 

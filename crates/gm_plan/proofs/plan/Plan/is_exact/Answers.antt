@@ -2,8 +2,8 @@ use Rattle.std.proofs.Common.{◌<◌, false, length, IsTrue, slice_index_or, sy
 use Rattle.gm_model.specs.declared.schema.Embed.{Embed}
 use Rattle.gm_model.specs.Maps.{IsEmbedAt, type_of}
 use Rattle.gm_model.specs.Rules.{rule_of}
-use Rattle.gm_plan.specs.Plans.{PlanOf}
-use Rattle.gm_plan.specs.Sources.{HasExactLetters}
+use Rattle.gm_plan.specs.inner.Plans.{PlanOf}
+use Rattle.gm_plan.specs.inner.Sources.{HasExactLetters}
 use Rattle.gm_plan.proofs.EmbedTables.{read_for}
 use Rattle.gm_plan.proofs.plan.Plan.is_exact.Goals as goal
 

@@ -5,7 +5,7 @@ use Rattle.gm_model.specs.Components.{IsKeeper, IsNew}
 use Rattle.gm_model.specs.Maps.{IsEmbedAt, type_of}
 use Rattle.gm_model.specs.Rules.{rule_of, has_word}
 use Rattle.gm_model.proofs.Nodes.{node_below}
-use Rattle.gm_plan.specs.Plans.{PlanOf}
+use Rattle.gm_plan.specs.inner.Plans.{PlanOf}
 use Rattle.gm_plan.proofs.EmbedTables.{read_for}
 use Rattle.gm_plan.proofs.plan.Plan.keeper.Goals as goal
 

@@ -1,6 +1,6 @@
 use Rattle.std.proofs.Common.{subst}
 use Rattle.gm_model.specs.Rules.{rule_of}
-use Rattle.gm_plan.specs.Plans.{PlanOf, IsLeftCount}
+use Rattle.gm_plan.specs.inner.Plans.{PlanOf, IsLeftCount}
 use Rattle.gm_plan.proofs.LeftNodes.{left_most}
 use Rattle.gm_plan.proofs.plan.Plan.left_nodes.Goals as goal
 

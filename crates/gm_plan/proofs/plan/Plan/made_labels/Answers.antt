@@ -1,7 +1,7 @@
 use Rattle.std.proofs.Common.{subst}
 use Rattle.gm_model.specs.Rules.{rule_of}
-use Rattle.gm_plan.specs.Changes.{AreMadeLabels}
-use Rattle.gm_plan.specs.Plans.{PlanOf}
+use Rattle.gm_plan.specs.inner.Changes.{AreMadeLabels}
+use Rattle.gm_plan.specs.inner.Plans.{PlanOf}
 use Rattle.gm_plan.proofs.plan.Plan.made_labels.Goals as goal
 
 pub returns : goal.returns

@@ -1,8 +1,8 @@
 use Rattle.std.proofs.Common.{◌≡◌, ◌<◌, length, get_or, sym, subst, arith}
 use Rattle.gm_model.specs.declared.step.Step.TheVariants.{Absent}
 use Rattle.gm_model.specs.Rules.{rule_of}
-use Rattle.gm_plan.specs.Changes.{made_step}
-use Rattle.gm_plan.specs.Plans.{PlanOf}
+use Rattle.gm_plan.specs.inner.Changes.{made_step}
+use Rattle.gm_plan.specs.inner.Plans.{PlanOf}
 use Rattle.gm_plan.proofs.Rows.{read_row}
 use Rattle.gm_plan.proofs.plan.Plan.made_step.Goals as goal
 

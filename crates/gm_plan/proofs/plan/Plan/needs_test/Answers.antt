@@ -1,7 +1,7 @@
 use Rattle.std.proofs.Common.{ℕ, ◌<◌, length, sym, subst, ◌∙◌}
 use Rattle.gm_model.specs.Rules.{rule_of}
-use Rattle.gm_plan.specs.Plans.{PlanOf}
-use Rattle.gm_plan.specs.Tested.{IsForcedStep}
+use Rattle.gm_plan.specs.inner.Plans.{PlanOf}
+use Rattle.gm_plan.specs.inner.Tested.{IsForcedStep}
 use Rattle.gm_plan.proofs.Forced.{all_forced}
 use Rattle.gm_plan.proofs.plan.Plan.needs_test.Goals as goal
 

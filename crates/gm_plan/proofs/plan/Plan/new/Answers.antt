@@ -2,8 +2,8 @@ use Rattle.std.proofs.Common.{length, refl, sym, subst}
 use Rattle.std.proofs.lemmas.Result.{IfOk-from_err}
 use Rattle.gm_model.specs.declared.rule.Side.TheVariants.{Left, Right}
 use Rattle.gm_model.specs.Rules.{rule_of}
-use Rattle.gm_plan.specs.Changes.{made_step}
-use Rattle.gm_plan.specs.Plans.{AreRows, AreSteps}
+use Rattle.gm_plan.specs.inner.Changes.{made_step}
+use Rattle.gm_plan.specs.inner.Plans.{AreRows, AreSteps}
 use Rattle.gm_plan.proofs.plan.Plan.new.Goals as goal
 
 pub sides_of-requires : goal.sides_of-requires

@@ -2,7 +2,7 @@ use Rattle.std.proofs.Common.{◌≡◌, ◌<◌, length, get_or, sym, subst, ar
 use Rattle.gm_model.specs.declared.step.Step.TheVariants.{Absent}
 use Rattle.gm_model.specs.Rules.{rule_of, step}
 use Rattle.gm_model.specs.declared.rule.Side.TheVariants.{Left, Right}
-use Rattle.gm_plan.specs.Plans.{PlanOf}
+use Rattle.gm_plan.specs.inner.Plans.{PlanOf}
 use Rattle.gm_plan.proofs.Rows.{read_row}
 use Rattle.gm_plan.proofs.plan.Plan.step.Goals as goal
 

@@ -2,8 +2,8 @@ use Rattle.std.proofs.Common.{◌≡◌, ◌≢◌, ◌<◌, length, get_or, sym
 use Rattle.gm_model.specs.declared.rule.Side.TheVariants.{Left}
 use Rattle.gm_model.specs.declared.step.Step.TheVariants.{Absent}
 use Rattle.gm_model.specs.Rules.{rule_of, step}
-use Rattle.gm_plan.specs.Plans.{PlanOf}
-use Rattle.gm_plan.specs.Tested.{IsForcedStep}
+use Rattle.gm_plan.specs.inner.Plans.{PlanOf}
+use Rattle.gm_plan.specs.inner.Tested.{IsForcedStep}
 use Rattle.gm_plan.proofs.Forced.{row_forced, row_kept}
 use Rattle.gm_plan.proofs.plan.Plan.tested_step.Goals as goal
 

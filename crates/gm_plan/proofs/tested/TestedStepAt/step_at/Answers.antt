@@ -2,7 +2,7 @@ use Rattle.std.proofs.Common.{◌<◌, sym, subst, ◌∙◌}
 use Rattle.std.proofs.lemmas.Bool.{false≢true}
 use Rattle.gm_model.specs.declared.rule.Side.TheVariants.{Left}
 use Rattle.gm_model.specs.Rules.{rule_of, step}
-use Rattle.gm_plan.specs.Searches.{row_step}
+use Rattle.gm_plan.specs.inner.Searches.{row_step}
 use Rattle.gm_plan.proofs.Forced.{tested_walked, tested_on_path, tested_kept}
 use Rattle.gm_plan.proofs.Rows.{row_step_is}
 use Rattle.gm_plan.proofs.tested.TestedStepAt.step_at.Goals as goal

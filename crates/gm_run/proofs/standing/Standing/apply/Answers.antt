@@ -1,8 +1,8 @@
 use Rattle.gm_model.specs.Budgets.{entered}
 use Rattle.std.proofs.Common.{refl}
-use Rattle.gm_arena.specs.ArenaAsMap.{as_map}
+use Rattle.gm_arena.specs.inner.ArenaAsMap.{as_map}
 use Rattle.gm_model.specs.Histories.{done_at}
-use Rattle.gm_undo.specs.Standing.{StandsFor}
+use Rattle.gm_undo.specs.inner.Standing.{StandsFor}
 use Rattle.gm_run.proofs.Stepping.{entries_then, needs_none, then_needed}
 use Rattle.gm_run.proofs.standing.Standing.apply.Goals as goal
 

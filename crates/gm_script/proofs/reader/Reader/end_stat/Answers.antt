@@ -1,7 +1,7 @@
 use Rattle.std.proofs.Common.{◌≡◌, map, OnOk, subst}
 use Rattle.gm_model.specs.Rules.{rule_of}
-use Rattle.gm_script.specs.Reading.{Held, ended_by, taken_at}
-use Rattle.gm_script.specs.SoFar.{Adds}
+use Rattle.gm_script.specs.inner.Reading.{Held, ended_by, taken_at}
+use Rattle.gm_script.specs.inner.SoFar.{Adds}
 use Rattle.gm_script.proofs.Loop.{adds_same, adds_one, ended_same}
 use Rattle.gm_script.proofs.reader.Reader.end_stat.Goals as goal
 

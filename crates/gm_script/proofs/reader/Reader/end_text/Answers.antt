@@ -1,8 +1,8 @@
 use Rattle.std.proofs.Common.{List, [], ◌∷◌, ◌++◌, length, map, None, OnOk, subst}
 use Rattle.std.proofs.lemmas.Result.{err_from_is_err_and}
 use Rattle.gm_model.specs.Rules.{rule_of}
-use Rattle.gm_script.specs.Reading.{Held, HeldStat}
-use Rattle.gm_script.specs.SoFar.{Holds}
+use Rattle.gm_script.specs.inner.Reading.{Held, HeldStat}
+use Rattle.gm_script.specs.inner.SoFar.{Holds}
 use Rattle.gm_script.proofs.Loop.{end_fails, adds_none, ends, ends_with, memory_fails}
 use Rattle.gm_script.proofs.reader.Reader.end_text.Goals as goal
 

@@ -1,7 +1,7 @@
 use Rattle.std.proofs.Common.{◌≡◌, length, refl, ap, subst, arith}
 use Rattle.gm_model.specs.Tokens.{items_at}
-use Rattle.gm_text.specs.Cursor.{Cursor}
-use Rattle.gm_text.specs.Lexing.{rest_of}
+use Rattle.gm_text.specs.inner.Cursor.{Cursor}
+use Rattle.gm_text.specs.inner.Lexing.{rest_of}
 use Rattle.gm_text.proofs.lexer.Lexer.number_behind.Goals as goal
 
 pub behind_this-requires-clause-inside : goal.behind_this-requires-clause-inside

@@ -1,7 +1,7 @@
 use Rattle.std.proofs.Common.{◌≡◌, ◌+◌, ◌≤◌, length, subst, sym, arith}
 use Rattle.gm_model.specs.Tokens.{items_at}
-use Rattle.gm_text.specs.Cursor.{Cursor}
-use Rattle.gm_text.specs.Lexing.{IsNumberRead, rest_of}
+use Rattle.gm_text.specs.inner.Cursor.{Cursor}
+use Rattle.gm_text.specs.inner.Lexing.{IsNumberRead, rest_of}
 use Rattle.gm_text.proofs.SmallTokens.{number_read}
 use Rattle.gm_text.proofs.lexer.Lexer.number_from.Goals as goal
 

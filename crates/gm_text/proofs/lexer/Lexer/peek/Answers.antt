@@ -1,5 +1,5 @@
 use Rattle.std.proofs.Common.{◌<◌, length, sym, subst, ◌∙◌, arith}
-use Rattle.gm_text.specs.Lexing.{IsGap}
+use Rattle.gm_text.specs.inner.Lexing.{IsGap}
 use Rattle.gm_text.proofs.Items.{items_at-end, items_at-stray, items_at-token}
 use Rattle.gm_text.proofs.Longest.{IsLongest-at, HasNoLexeme-at}
 use Rattle.gm_text.proofs.lexer.Lexer.peek.Goals as goal

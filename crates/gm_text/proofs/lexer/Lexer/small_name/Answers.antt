@@ -1,6 +1,6 @@
 use Rattle.std.proofs.Common.{subst}
-use Rattle.gm_text.specs.Cursor.{Cursor}
-use Rattle.gm_text.specs.SchemaAnswers.{IsNext}
+use Rattle.gm_text.specs.inner.Cursor.{Cursor}
+use Rattle.gm_text.specs.inner.SchemaAnswers.{IsNext}
 use Rattle.gm_text.proofs.SmallTokens.{name_next}
 use Rattle.gm_text.proofs.lexer.Lexer.small_name.Goals as goal
 

@@ -1,6 +1,6 @@
 use Rattle.std.proofs.Common.{subst, ◌+◌}
-use Rattle.gm_text.specs.Cursor.{Cursor}
-use Rattle.gm_text.specs.Lexing.{IsSignRead}
+use Rattle.gm_text.specs.inner.Cursor.{Cursor}
+use Rattle.gm_text.specs.inner.Lexing.{IsSignRead}
 use Rattle.gm_text.proofs.SmallTokens.{sign_read}
 use Rattle.gm_text.proofs.lexer.Lexer.small_sign.Goals as goal
 

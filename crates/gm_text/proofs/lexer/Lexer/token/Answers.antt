@@ -1,5 +1,5 @@
 use Rattle.std.proofs.Common.{◌≡◌, None, Ok, Err, length, rules}
-use Rattle.gm_text.specs.Lexing.{after}
+use Rattle.gm_text.specs.inner.Lexing.{after}
 use Rattle.gm_text.proofs.SchemaTokens.{none_at_end, none_at_stray}
 use Rattle.gm_text.proofs.lexer.Lexer.token.Goals as goal
 

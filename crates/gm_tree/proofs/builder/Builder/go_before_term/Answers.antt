@@ -1,8 +1,8 @@
 use Rattle.std.proofs.Common.{ℕ, sym, ap, ◌∙◌, List}
 use Rattle.std.specs.Option.{option_map}
 use Rattle.gm_model.specs.Tokens.{bytes_of}
-use Rattle.gm_tree.specs.Building.{frames_of, name_fault, term_in}
-use Rattle.gm_tree.specs.FirstNames.{first_names}
+use Rattle.gm_tree.specs.inner.Building.{frames_of, name_fault, term_in}
+use Rattle.gm_tree.specs.inner.FirstNames.{first_names}
 use Rattle.gm_tree.proofs.LookUp.{before_name}
 use Rattle.gm_tree.proofs.builder.Builder.go_before_term.Goals as goal
 

@@ -3,8 +3,8 @@ use Rattle.std.specs.Prelude.{Result, Ok, Err, IfOk}
 use Rattle.std.specs.Option.{option_map}
 use Rattle.gm_model.specs.Symbols.{value_of}
 use Rattle.gm_model.specs.Tokens.{bytes_of}
-use Rattle.gm_tree.specs.Building.{BehindTerm, Part, field_in, frames_of, name_fault, part_of, work}
-use Rattle.gm_tree.specs.FirstNames.{first_names}
+use Rattle.gm_tree.specs.inner.Building.{BehindTerm, Part, field_in, frames_of, name_fault, part_of, work}
+use Rattle.gm_tree.specs.inner.FirstNames.{first_names}
 use Rattle.gm_parse.proofs.Keys.{kind_of_number}
 use Rattle.gm_tree.proofs.LookUp.{behind_embed, behind_number}
 use Rattle.gm_tree.proofs.builder.Builder.go_behind_term.Goals as goal

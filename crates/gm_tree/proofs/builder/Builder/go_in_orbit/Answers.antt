@@ -1,7 +1,7 @@
 use Rattle.std.proofs.Common.{ℕ, sym, ap, ◌∙◌}
 use Rattle.std.specs.Option.{option_map}
 use Rattle.gm_model.specs.Tokens.{bytes_of}
-use Rattle.gm_tree.specs.Building.{frames_of, name_fault, labelled}
+use Rattle.gm_tree.specs.inner.Building.{frames_of, name_fault, labelled}
 use Rattle.gm_parse.proofs.Keys.{kind_of_number}
 use Rattle.gm_tree.proofs.LookUp.{orbit_number}
 use Rattle.gm_tree.proofs.builder.Builder.go_in_orbit.Goals as goal

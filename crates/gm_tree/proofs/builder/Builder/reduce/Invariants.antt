@@ -1,6 +1,6 @@
 use Rattle.std.proofs.Common.{◌≡◌, length}
 use Rattle.gm_model.specs.Trees.{tree_of}
-use Rattle.gm_tree.specs.Building.{frames_of, reduced}
+use Rattle.gm_tree.specs.inner.Building.{frames_of, reduced}
 use Rattle.gm_tree.proofs.builder.Builder.reduce.Given as goal
 
 abbrev pub invariant-loop-waiting : goal.invariant-loop-waiting

@@ -9,13 +9,13 @@ use Rattle.gm_undo.proofs.Sums.{change_few, counted_steps, least_rises, room_lef
 use Rattle.std.proofs.Common.{subst, List}
 use Rattle.gm_undo.specs.declared.keeping.Made.{Made}
 use Rattle.std.proofs.lemmas.Nat.{mul-le}
-use Rattle.gm_apply.specs.Prepared as prepared
-use Rattle.gm_undo.specs.Costs.{rows_of}
+use Rattle.gm_apply.specs.inner.Prepared as prepared
+use Rattle.gm_undo.specs.inner.Costs.{rows_of}
 use Rattle.gm_undo.proofs.Ranges.{range_long}
-use Rattle.gm_undo.specs.Layout.{changes_in, change_in, end_of}
-use Rattle.gm_arena.specs.ArenaMap.{ArenaMap}
-use Rattle.gm_arena.specs.ArenaAsMap.{as_map}
-use Rattle.gm_arena.specs.Lawful.{IsLawful}
+use Rattle.gm_undo.specs.inner.Layout.{changes_in, change_in, end_of}
+use Rattle.gm_arena.specs.inner.ArenaMap.{ArenaMap}
+use Rattle.gm_arena.specs.inner.ArenaAsMap.{as_map}
+use Rattle.gm_arena.specs.inner.Lawful.{IsLawful}
 use Rattle.gm_model.specs.declared.schema.Schema.{Schema}
 use Rattle.gm_undo.proofs.Entering.{changes_one, laid_one, some_changes, end_low, entered_costs, entered_history, next_begins, stands_grown}
 use Rattle.gm_undo.proofs.Tellings.{sound_held}

@@ -1,7 +1,7 @@
 use Rattle.std.proofs.Common.{◌≡◌, ◌≢◌, ℕ, ◌≤◌, is_some, length, refl, sym, ap, subst, ◌∙◌}
 use Rattle.std.proofs.lemmas.Bool.{false≢true}
-use Rattle.gm_undo.specs.Layout.{changes_in}
-use Rattle.gm_undo.specs.Standing.{IsEntry}
+use Rattle.gm_undo.specs.inner.Layout.{changes_in}
+use Rattle.gm_undo.specs.inner.Standing.{IsEntry}
 use Rattle.gm_undo.proofs.Spans.{changes_long}
 use Rattle.gm_undo.proofs.Sums.{ends_high, ends_low}
 use Rattle.gm_undo.proofs.Tellings.{next_of, none_on, not_open, on_takes, redone, sound_held, sound_here}

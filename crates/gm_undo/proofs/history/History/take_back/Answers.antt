@@ -1,7 +1,7 @@
 use Rattle.std.proofs.Common.{◌≡◌, ℕ, ◌≤◌, None, Some, is_some, length, sym, ap, subst, ◌∙◌}
 use Rattle.std.proofs.lemmas.Bool.{false≢true}
-use Rattle.gm_undo.specs.Layout.{end_of}
-use Rattle.gm_undo.specs.Standing.{map_of}
+use Rattle.gm_undo.specs.inner.Layout.{end_of}
+use Rattle.gm_undo.specs.inner.Standing.{map_of}
 use Rattle.gm_undo.proofs.Entering.{changes_cut, dropped_costs, dropped_cut, dropped_same, dropped_same_costs, end_low, group_low, group_map, laid_cut, take_less}
 use Rattle.std.proofs.Math.Nat.{le_refl}
 use Rattle.gm_undo.proofs.Sums.{low_in, same_start}

@@ -1,7 +1,7 @@
 use Rattle.std.proofs.Common.{◌≡◌, ℕ, ◌≤◌, is_some, length, refl, sym, ap, ◌∙◌}
 use Rattle.std.proofs.lemmas.Bool.{false≢true}
-use Rattle.gm_undo.specs.Layout.{changes_in}
-use Rattle.gm_undo.specs.Standing.{IsEntry}
+use Rattle.gm_undo.specs.inner.Layout.{changes_in}
+use Rattle.gm_undo.specs.inner.Standing.{IsEntry}
 use Rattle.std.proofs.Math.Nat.{le_trans}
 use Rattle.gm_undo.proofs.Sums.{starts_low}
 use Rattle.gm_undo.proofs.Tellings.{back_takes, last_of, none_back, not_open, sound_held, sound_here, undone}

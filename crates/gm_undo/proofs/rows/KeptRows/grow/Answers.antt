@@ -1,6 +1,6 @@
 use Rattle.std.proofs.Common.{◌≡◌, ℕ, ◌*◌, ◌<◌, length, sym, ap, ◌∙◌, inl, inr, arith}
 use Rattle.std.proofs.lemmas.Bool.{cases_lt}
-use Rattle.gm_undo.specs.Flat.{RowsOf}
+use Rattle.gm_undo.specs.inner.Flat.{RowsOf}
 use Rattle.gm_undo.proofs.Flats.{rows_long}
 use Rattle.gm_undo.proofs.rows.KeptRows.grow.Goals as goal
 

@@ -1,5 +1,5 @@
 use Rattle.std.proofs.Common.{length, sym, ap, ◌∙◌}
-use Rattle.gm_undo.specs.Flat.{RowsOf}
+use Rattle.gm_undo.specs.inner.Flat.{RowsOf}
 use Rattle.gm_undo.proofs.Flats.{rows_long}
 use Rattle.gm_undo.proofs.rows.KeptRows.len.Goals as goal
 

@@ -1,8 +1,8 @@
 use Rattle.std.proofs.Common.{◌<◌, length, sym, ap, subst, ◌∙◌, arith}
-use Rattle.gm_undo.specs.Flat.{RowsOf, row_in}
+use Rattle.gm_undo.specs.inner.Flat.{RowsOf, row_in}
 use Rattle.gm_undo.proofs.Flats.{marked, rows_long}
 use Rattle.std.proofs.Common.{set}
-use Rattle.gm_undo.specs.Flat.{staying}
+use Rattle.gm_undo.specs.inner.Flat.{staying}
 use Rattle.gm_undo.proofs.rows.KeptRows.mark_staying.Goals as goal
 
 pub index_mut-requires : goal.index_mut-requires

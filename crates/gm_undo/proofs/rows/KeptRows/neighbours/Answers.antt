@@ -1,7 +1,7 @@
 use Rattle.std.proofs.Common.{◌<◌, length, sym, ap, subst, ◌∙◌, arith}
-use Rattle.gm_arena.specs.Parts.{part_of}
-use Rattle.gm_undo.specs.Flat.{RowsOf, row_in}
-use Rattle.gm_undo.specs.Kept.{KeptRow}
+use Rattle.gm_arena.specs.inner.Parts.{part_of}
+use Rattle.gm_undo.specs.inner.Flat.{RowsOf, row_in}
+use Rattle.gm_undo.specs.inner.Kept.{KeptRow}
 use Rattle.gm_undo.proofs.Flats.{row_is, rows_long, stretch}
 use Rattle.gm_undo.proofs.rows.KeptRows.neighbours.Goals as goal
 

@@ -1,10 +1,10 @@
 use Rattle.gm_undo.proofs.Sums.{never_more}
 use Rattle.std.proofs.Common.{◌≡◌, ◌+◌, ◌<◌, List, [], ◌∷◌, ◌++◌, map, length, sym, ap, subst, ◌∙◌, arith, length-append}
 use Rattle.std.proofs.lemmas.List.{length-map, length_push}
-use Rattle.gm_arena.specs.ArenaMap.{name_at}
+use Rattle.gm_arena.specs.inner.ArenaMap.{name_at}
 use Rattle.gm_arena.specs.declared.slot.Slot.{Slot}
-use Rattle.gm_undo.specs.Flat.{RowsOf, flat_rows}
-use Rattle.gm_undo.specs.Kept.{KeptRow}
+use Rattle.gm_undo.specs.inner.Flat.{RowsOf, flat_rows}
+use Rattle.gm_undo.specs.inner.Kept.{KeptRow}
 use Rattle.gm_undo.proofs.Flats.{dart_row, more_fits, more_long, pushed, row_whole, rows_long}
 use Rattle.gm_undo.proofs.rows.KeptRows.push.Goals as goal
 

@@ -1,7 +1,7 @@
 use Rattle.std.proofs.Common.{◌≤◌, length, sym, ap, subst, ◌∙◌, arith}
 use Rattle.std.proofs.Common.{List, take}
-use Rattle.gm_undo.specs.Flat.{RowsOf, flat_rows}
-use Rattle.gm_undo.specs.Kept.{KeptRow}
+use Rattle.gm_undo.specs.inner.Flat.{RowsOf, flat_rows}
+use Rattle.gm_undo.specs.inner.Kept.{KeptRow}
 use Rattle.gm_undo.proofs.Flats.{rows_long, truncated}
 use Rattle.std.proofs.lemmas.Nat.{mul-le}
 use Rattle.gm_undo.proofs.rows.KeptRows.truncate.Goals as goal

@@ -1,5 +1,5 @@
 use Rattle.std.proofs.Common.{[], length, ap, ◌∙◌}
-use Rattle.gm_walk.specs.Room.{Room}
+use Rattle.gm_walk.specs.inner.Room.{Room}
 use Rattle.gm_walk.proofs.MarkLemmas.{written_back}
 use Rattle.gm_walk.proofs.scratch.Scratch.clear.Goals as goal
 

@@ -1,8 +1,8 @@
 use Rattle.std.proofs.Common.{◌≡◌, ℕ, List, ◌+◌, ◌<◌, length, get_or, set, sym, ap, subst, ◌∙◌, arith, length-set}
 use Rattle.std.proofs.lemmas.List.{length-map, length_push, map_push, get_or_default, set-get_or}
 use Rattle.gm_arena.specs.declared.slot.Slot.{Slot}
-use Rattle.gm_walk.specs.Room.TakesIn.{Known, Added}
-use Rattle.gm_walk.specs.Marks.{IsKept, IsMarked, numbers}
+use Rattle.gm_walk.specs.inner.Room.TakesIn.{Known, Added}
+use Rattle.gm_walk.specs.inner.Marks.{IsKept, IsMarked, numbers}
 use Rattle.gm_walk.proofs.MarkLemmas.{taken_in, not_contained, has_mark, mark_tells, last_there}
 use Rattle.gm_walk.proofs.scratch.Scratch.take.Goals as goal
 

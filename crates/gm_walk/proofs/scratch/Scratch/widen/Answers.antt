@@ -1,7 +1,7 @@
 use Rattle.std.proofs.Common.{◌≡◌, ℕ, ◌+◌, ◌-◌, ◌<◌, ◌≤◌, length, max, min, refl, sym, ap, ◌∙◌, le_of_eq, le_of_lt, le_refl, le_trans, arith}
 use Rattle.std.proofs.lemmas.List.{take_all}
 use Rattle.gm_model.proofs.Exits.{never_ok}
-use Rattle.gm_walk.specs.Room.{Room}
+use Rattle.gm_walk.specs.inner.Room.{Room}
 use Rattle.gm_walk.proofs.MarkLemmas.{more_marks, queue_short, still_kept}
 use Rattle.gm_walk.proofs.scratch.Scratch.widen.Goals as goal
 

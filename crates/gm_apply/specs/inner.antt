@@ -1,0 +1,5 @@
+pub mod Outcomes
+pub mod Prepared
+pub mod ReadOnce
+pub mod Readings
+pub mod Reads

@@ -1,0 +1,10 @@
+pub mod ArenaMap
+pub mod ArenaAsMap
+pub mod Lawful
+pub mod InOrder
+pub mod Parts
+pub mod Lines
+pub mod Edits
+pub mod Filled
+pub mod Inside
+pub mod Listing

@@ -1,0 +1,4 @@
+pub mod Ascending
+pub mod OddStart
+pub mod Painted
+pub mod Search

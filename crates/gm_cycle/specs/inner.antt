@@ -1,0 +1,2 @@
+pub mod StepRows
+pub mod NodeSquares

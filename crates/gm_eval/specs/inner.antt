@@ -1,0 +1,6 @@
+pub mod Keeping
+pub mod Made
+pub mod Places
+pub mod Readers
+pub mod Sharing
+pub mod Sums

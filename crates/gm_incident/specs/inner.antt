@@ -1,0 +1,4 @@
+pub mod Faults
+pub mod Ranges
+pub mod Reached
+pub mod Words

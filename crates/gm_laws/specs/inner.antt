@@ -1,0 +1,3 @@
+pub mod Darts
+pub mod Faults
+pub mod Holding

@@ -1,0 +1,4 @@
+pub mod Firsts
+pub mod Layout
+pub mod Outcome
+pub mod Taken

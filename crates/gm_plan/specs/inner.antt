@@ -1,0 +1,13 @@
+pub mod Changes
+pub mod Collecting
+pub mod Counts
+pub mod InArena
+pub mod Indices
+pub mod Lookup
+pub mod Paths
+pub mod Placed
+pub mod Plans
+pub mod Refusals
+pub mod Searches
+pub mod Sources
+pub mod Tested

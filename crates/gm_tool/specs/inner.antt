@@ -1,0 +1,5 @@
+pub mod Refusals
+pub mod Books
+pub mod Replies
+pub mod Stops
+pub mod Begun
