@@ -217,7 +217,7 @@ fn assigned_fault<'t>(
 }
 
 /// The first fault of the rule's names outside of expressions. One table serves for all of them.
-#[tactic(auto, unfolding(crate::specs::FirstNameFault::rule_least))]
+#[tactic(auto, unfolding(crate::specs::inner::FirstNameFault::rule_least))]
 fn find_names_fault<'t>(
     table: &mut IndexSet<NameKey<'t>>,
     text: &'t [u8],

@@ -31,7 +31,7 @@ pub fn on_right(spot: Spot) -> Spot
 }
 
 /// The name of an embedding that is assigned.
-#[tactic(auto, unfolding(crate::specs::Standing::stepped))]
+#[tactic(auto, unfolding(crate::specs::inner::Standing::stepped))]
 pub fn at_set(lexer: &Lexer<'_>, token: Token, spot: Spot) -> Result<State, FormFault>
     requires token { IsToken lexer.now.text token }
     requires kind { token.kind ≡ Name }
@@ -51,7 +51,7 @@ pub fn at_set(lexer: &Lexer<'_>, token: Token, spot: Spot) -> Result<State, Form
 }
 
 /// The sign behind that name.
-#[tactic(auto, unfolding(crate::specs::Standing::stepped))]
+#[tactic(auto, unfolding(crate::specs::inner::Standing::stepped))]
 pub fn at_equal(
     lexer: &Lexer<'_>,
     token: Token,

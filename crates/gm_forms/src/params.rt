@@ -18,7 +18,7 @@ use gm_text::{Lexer, Token, is_reserved};
 const MOST_PARAMS: u8 = 8;
 
 /// A sign behind a rule's name.
-#[tactic(auto, unfolding(crate::specs::Standing::stepped))]
+#[tactic(auto, unfolding(crate::specs::inner::Standing::stepped))]
 pub fn at_open(
     lexer: &Lexer<'_>,
     token: Token,
@@ -36,7 +36,7 @@ pub fn at_open(
 }
 
 /// A parameter's name, behind `count` parameters.
-#[tactic(auto, unfolding(crate::specs::Standing::stepped))]
+#[tactic(auto, unfolding(crate::specs::inner::Standing::stepped))]
 pub fn at_param(
     lexer: &Lexer<'_>,
     token: Token,
@@ -66,7 +66,7 @@ pub fn at_param(
 }
 
 /// The sign behind a parameter's name.
-#[tactic(auto, unfolding(crate::specs::Standing::stepped))]
+#[tactic(auto, unfolding(crate::specs::inner::Standing::stepped))]
 pub fn at_colon(
     lexer: &Lexer<'_>,
     token: Token,
@@ -86,7 +86,7 @@ pub fn at_colon(
 }
 
 /// A parameter's kind.
-#[tactic(auto, unfolding(crate::specs::Standing::stepped))]
+#[tactic(auto, unfolding(crate::specs::inner::Standing::stepped))]
 pub fn at_kind(
     lexer: &Lexer<'_>,
     token: Token,
@@ -109,7 +109,7 @@ pub fn at_kind(
 }
 
 /// The sign behind a parameter.
-#[tactic(auto, unfolding(crate::specs::Standing::stepped))]
+#[tactic(auto, unfolding(crate::specs::inner::Standing::stepped))]
 pub fn at_comma(
     lexer: &Lexer<'_>,
     token: Token,

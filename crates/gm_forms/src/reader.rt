@@ -32,7 +32,7 @@ pub struct Reader<'a> {
 }
 
 /// Behind the header, where the first rule can begin.
-#[tactic(auto, unfolding(crate::specs::Standing::stepped))]
+#[tactic(auto, unfolding(crate::specs::inner::Standing::stepped))]
 pub fn at_rules(lexer: &Lexer<'_>, token: Token, heading: Heading) -> Result<State, FormFault>
     requires { IsToken lexer.now.text token }
     ensures leads { Leads lexer.now.text (states.Rules heading) (word_mark lexer.now.text token) result }
@@ -44,7 +44,7 @@ pub fn at_rules(lexer: &Lexer<'_>, token: Token, heading: Heading) -> Result<Sta
     Ok(State::Name(heading, Tally::one()))
 }
 
-#[tactic(auto, unfolding(crate::specs::Standing::stepped))]
+#[tactic(auto, unfolding(crate::specs::inner::Standing::stepped))]
 fn at_left_item(lexer: &Lexer<'_>, token: Token, spot: Spot) -> Result<State, FormFault>
     requires token { IsToken lexer.now.text token }
     requires kind { token.kind ≡ Name }
@@ -82,7 +82,7 @@ impl<'a> Reader<'a> {
         }
     }
 
-    #[tactic(auto, unfolding(crate::specs::Standing::stepped))]
+    #[tactic(auto, unfolding(crate::specs::inner::Standing::stepped))]
     pub fn at_name(
         &mut self,
         alloc: Global,
@@ -110,7 +110,7 @@ impl<'a> Reader<'a> {
     }
 
     /// Behind a rule's name, or behind its parameters.
-    #[tactic(auto, unfolding(crate::specs::Standing::stepped))]
+    #[tactic(auto, unfolding(crate::specs::inner::Standing::stepped))]
     pub fn at_left(
         &mut self,
         lexer: &Lexer<'a>,
@@ -137,7 +137,7 @@ impl<'a> Reader<'a> {
         }))
     }
 
-    #[tactic(auto, unfolding(crate::specs::Standing::stepped))]
+    #[tactic(auto, unfolding(crate::specs::inner::Standing::stepped))]
     fn at_right_item(
         &mut self,
         lexer: &Lexer<'a>,
@@ -209,7 +209,7 @@ impl<'a> Reader<'a> {
         at_left_item(lexer, token, spot)
     }
 
-    #[tactic(auto, unfolding(crate::specs::Standing::stepped))]
+    #[tactic(auto, unfolding(crate::specs::inner::Standing::stepped))]
     fn at_right_behind(
         &mut self,
         alloc: Global,
@@ -234,7 +234,7 @@ impl<'a> Reader<'a> {
     }
 
     /// Behind a whole assignment.
-    #[tactic(auto, unfolding(crate::specs::Standing::stepped))]
+    #[tactic(auto, unfolding(crate::specs::inner::Standing::stepped))]
     fn at_assigned(
         &mut self,
         lexer: &Lexer<'a>,
@@ -253,7 +253,7 @@ impl<'a> Reader<'a> {
     }
 
     /// Behind a rule's precondition.
-    #[tactic(auto, unfolding(crate::specs::Standing::stepped))]
+    #[tactic(auto, unfolding(crate::specs::inner::Standing::stepped))]
     fn at_rule_end(
         &mut self,
         lexer: &Lexer<'a>,
@@ -293,7 +293,7 @@ impl<'a> Reader<'a> {
         }
     }
 
-    #[tactic(auto, unfolding(crate::specs::Standing::stepped))]
+    #[tactic(auto, unfolding(crate::specs::inner::Standing::stepped))]
     fn at_to(
         &mut self,
         lexer: &Lexer<'a>,
@@ -322,7 +322,7 @@ impl<'a> Reader<'a> {
     }
 
     /// Where a word stands.
-    #[tactic(auto, unfolding(crate::specs::Standing::stepped))]
+    #[tactic(auto, unfolding(crate::specs::inner::Standing::stepped))]
     pub fn word(
         &mut self,
         alloc: Global,
@@ -378,7 +378,7 @@ impl<'a> Reader<'a> {
     }
 
     /// Where a sign stands. The token before it stands at the place `last`.
-    #[tactic(auto, unfolding(crate::specs::Standing::stepped))]
+    #[tactic(auto, unfolding(crate::specs::inner::Standing::stepped))]
     fn sign(
         &mut self,
         lexer: &Lexer<'a>,
@@ -430,7 +430,7 @@ impl<'a> Reader<'a> {
     }
 
     /// The book's end, where it can end.
-    #[tactic(auto, unfolding(crate::specs::Standing::stepped))]
+    #[tactic(auto, unfolding(crate::specs::inner::Standing::stepped))]
     pub fn end(&mut self, alloc: Global, state: State, place: usize) -> Result<(), FormFault>
         requires { IsOutside state }
         ensures within { (text : List ℕ) → IsDraftIn text self.old.draft → IsStateIn text state → IfOk result (λ _. AllByRecursion (IsRuleIn text) self.new.draft.rules.items) }
@@ -449,7 +449,7 @@ impl<'a> Reader<'a> {
         }
     }
 
-    #[tactic(auto, unfolding(crate::specs::Standing::stepped))]
+    #[tactic(auto, unfolding(crate::specs::inner::Standing::stepped))]
     fn end_item(&mut self, spot: Spot, place: usize) -> Result<(), FormFault>
         ensures within { (text : List ℕ) → IsDraftIn text self.old.draft → IfOk result (λ _. AllByRecursion (IsRuleIn text) self.new.draft.rules.items) }
         ensures ends { (text : List ℕ) → EndsFrom text self.old.nodes self.old.draft (states.Item spot) place result self.new.draft }

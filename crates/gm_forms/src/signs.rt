@@ -18,7 +18,7 @@ use gm_model::{Letter, LimitKind, MOST_NODES, Word};
 use gm_text::{Lexer, Token};
 
 /// A letter of a word.
-#[tactic(auto, unfolding(crate::specs::Standing::stepped))]
+#[tactic(auto, unfolding(crate::specs::inner::Standing::stepped))]
 pub fn at_letter(
     lexer: &Lexer<'_>,
     token: Token,
@@ -47,7 +47,7 @@ pub fn at_letter(
 }
 
 /// A `_` of a word.
-#[tactic(auto, unfolding(crate::specs::Standing::stepped))]
+#[tactic(auto, unfolding(crate::specs::inner::Standing::stepped))]
 pub fn at_gone(spot: Spot, name: Token, word: Word, place: usize) -> Result<State, FormFault>
     ensures leads { (text : List ℕ) → Leads text (states.Letter spot name word) (record { symbol = Gone; place = place }) result }
     ensures within { (text : List ℕ) → StaysIn text (states.Letter spot name word) result }
@@ -62,7 +62,7 @@ pub fn at_gone(spot: Spot, name: Token, word: Word, place: usize) -> Result<Stat
 }
 
 /// A sign in a word.
-#[tactic(auto, unfolding(crate::specs::Standing::stepped))]
+#[tactic(auto, unfolding(crate::specs::inner::Standing::stepped))]
 pub fn at_word_end(
     lexer: &Lexer<'_>,
     token: Token,
@@ -81,7 +81,7 @@ pub fn at_word_end(
 }
 
 /// A link's label.
-#[tactic(auto, unfolding(crate::specs::Standing::stepped))]
+#[tactic(auto, unfolding(crate::specs::inner::Standing::stepped))]
 pub fn at_label(
     lexer: &Lexer<'_>,
     token: Token,
@@ -104,7 +104,7 @@ pub fn at_label(
 }
 
 /// The sign behind a link's label.
-#[tactic(auto, unfolding(crate::specs::Standing::stepped))]
+#[tactic(auto, unfolding(crate::specs::inner::Standing::stepped))]
 pub fn at_dash(
     lexer: &Lexer<'_>,
     token: Token,
@@ -123,7 +123,7 @@ pub fn at_dash(
 }
 
 /// A node's sign behind its name, which stands at the place `last`.
-#[tactic(auto, unfolding(crate::specs::Standing::stepped))]
+#[tactic(auto, unfolding(crate::specs::inner::Standing::stepped))]
 fn at_node<'a>(
     lexer: &Lexer<'a>,
     token: Token,
@@ -147,7 +147,7 @@ fn at_node<'a>(
 }
 
 /// The sign behind an item's first name, which stands at the place `last`.
-#[tactic(auto, unfolding(crate::specs::Standing::stepped))]
+#[tactic(auto, unfolding(crate::specs::inner::Standing::stepped))]
 pub fn at_sign<'a>(
     lexer: &Lexer<'a>,
     token: Token,
@@ -178,7 +178,7 @@ pub fn at_sign<'a>(
 }
 
 /// Where a number stands.
-#[tactic(auto, unfolding(crate::specs::Standing::stepped))]
+#[tactic(auto, unfolding(crate::specs::inner::Standing::stepped))]
 pub fn at_number(lexer: &Lexer<'_>, token: Token, state: State) -> Result<State, FormFault>
     requires token { IsToken lexer.now.text token }
     requires kind { token.kind ≡ Number }
@@ -194,7 +194,7 @@ pub fn at_number(lexer: &Lexer<'_>, token: Token, state: State) -> Result<State,
 }
 
 /// Where a `_` stands.
-#[tactic(auto, unfolding(crate::specs::Standing::stepped))]
+#[tactic(auto, unfolding(crate::specs::inner::Standing::stepped))]
 pub fn gone(state: State, place: usize) -> Result<State, FormFault>
     requires { IsOutside state }
     ensures leads { (text : List ℕ) → Leads text state (record { symbol = Gone; place = place }) result }
