@@ -14,9 +14,9 @@ from gmr.program import answer
 from gmr.scripts import read_script
 from gmr.unfolding import first_breach, first_value_breach, unfold
 from gmr.why.counterexample import Search, search
+from gmr.why.derived import derive, is_safe, with_steps
 from gmr.why.edits import faults_of
 from gmr.why.example import script_text, tell_breach, text_after
-from gmr.why.implied import implied_steps, with_implied
 from gmr.why.verdict import tell_search
 
 HERE = Path(__file__).resolve().parent
@@ -92,30 +92,57 @@ def rules_of(name: str) -> Iterator[tuple[Book, Rule, str]]:
 
 def test_random_rules() -> None:
     """Of 400 random rules that are refused for an arc or a square, 349 would break a map that is found, and the program
-    refuses what would come; 14 lie in no map; and of the 37 that break nothing, 25 are accepted once what the laws make
-    of their left sides is written on both sides."""
+    refuses what would come. Of the 51 others it is derived that they can't: 14 lie in no map, and 37 break none; of
+    these 25 are accepted once what follows from their left sides is written on both sides, and of the rest 3 lie over
+    some orbits alone."""
     tally: Counter[tuple[str, str]] = Counter()
     for name in ("refused2a.gbook", "refused2b.gbook", "refused3.gbook"):
         for book, rule, fault in rules_of(name):
             found = search(rule, book.dimension, book.embeds, fault)
             tally[fault[:3], verdict(book, rule, fault, found)] += 1
     assert tally == {("arc", "breaks"): 250, ("arc", "nowhere"): 5, ("arc", "implied"): 2, ("squ", "breaks"): 99,
-                     ("squ", "nowhere"): 9, ("squ", "implied"): 23, ("squ", "safe"): 12}, tally
+                     ("squ", "nowhere"): 9, ("squ", "implied"): 23, ("squ", "bound"): 3, ("squ", "safe"): 9}, tally
 
 
 def verdict(book: Book, rule: Rule, fault: str, found: Search) -> str:
     """What comes of a rule in one word, which is what is told."""
-    said = " ".join(tell_search(rule, book.dimension, fault, found))
+    said, derived = " ".join(tell_search(rule, book.dimension, fault, found)), derive(rule, book.dimension)
     if found.found:
         assert said.startswith("Applied to"), said
         assert said_of("show", text_after(found.found)).startswith("refused MAP "), said
+        assert derived is not None and not is_safe(derived), said
         return "breaks"
     assert found.is_whole, said
-    if not found.fitting:
-        assert "lies in no map" in said and "a dart has one neighbour along" in said, said
+    if derived is None:
+        assert not found.fitting and "lies in no map" in said and "a dart has one neighbour along" in said, said
         return "nowhere"
-    assert "stricter than this rule needs" in said, said
-    return "safe" if faults_of(book, [with_implied(rule, implied_steps(rule, book.dimension))])[0] else "implied"
+    assert found.fitting and is_safe(derived) and "in a map of whatever size" in said, said
+    if faults_of(book, [with_steps(rule, derived.steps())]) == [None]:
+        return "implied"
+    return "bound" if any(place != other for place, other in derived.place_for.items()) else "safe"
+
+
+def test_accepted_rules_are_safe() -> None:
+    """Of each rule of the library, all accepted, it is derived that it breaks no law of neighbours."""
+    rules = 0
+    for path in sorted((HERE.parents[1] / "examples" / "operations").glob("*.gbook")):
+        book = read_book(path.read_text(encoding="latin-1"))
+        for rule in book.rules:
+            derived = derive(rule, book.dimension)
+            assert derived is not None and is_safe(derived), rule.name
+            rules += 1
+    assert rules > 180, rules
+
+
+def test_two_values_behind_a_square() -> None:
+    """Of a rule that breaks no law of neighbours it is looked at what it does to values."""
+    sides = ("left a <> hook b <> c <> hook a -0- b b -2- b a -1- a c -1- c "
+             "right a <> b <> c <> a -0- a b -0- b b -2- b a -1- c")
+    book = read_book(f"book 2 dim 2 embed n <1 2> int rule r {sides}")
+    assert faults_of(book, book.rules) == ["square a 0 2"]
+    derived, found = derive(book.rules[0], 2), search(book.rules[0], 2, book.embeds, "square a 0 2").found
+    assert derived is not None and is_safe(derived)
+    assert found is not None and "with two values of n" in tell_breach(found), found
 
 
 def test_the_rules_that_the_model_works_through() -> None:

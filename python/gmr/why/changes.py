@@ -4,8 +4,8 @@ from itertools import product
 
 from gmr.books import Book, Node, Rule
 from gmr.matches import steps_of
+from gmr.why.derived import derive, with_steps
 from gmr.why.edits import node_of, with_letter, with_link, with_node, with_value, without_link
-from gmr.why.implied import implied_steps, with_implied
 
 NAMES = "nmkopqrstuvwxyzabcdefghijl"
 SIDES = ("left", "right")
@@ -170,7 +170,9 @@ def for_square(book: Book, rule: Rule, words: list[str]) -> Iterator[Rule]:
     """What the laws make of the left side is written; a label of the square comes on both sides, by a link, a letter or
     the hook's word; a letter or a link near the node is another one."""
     name, one, other = words[0], int(words[1]), int(words[2])
-    yield with_implied(rule, implied_steps(rule, book.dimension))
+    derived = derive(rule, book.dimension)
+    if derived:
+        yield with_steps(rule, derived.steps())
     near = near_of(rule, name, (one, other))
     for label in (one, other):
         for node in near:

@@ -25,14 +25,15 @@ class Clash(Exception):
 
 
 class Budget:
-    """How many choices a search may make before it ends without an answer."""
+    """How many choices a search may make before it ends without an answer. `is_short` where a choice was left out."""
 
     def __init__(self, most: int) -> None:
-        self.left = most
+        self.left, self.is_short = most, False
 
     def spend(self) -> bool:
         """Takes one of what is left; whether there was one."""
         self.left -= 1
+        self.is_short |= self.left < 0
         return self.left >= 0
 
 
@@ -100,6 +101,7 @@ class Partial:
             if not budget.spend():
                 return
             if end == OPEN and len(self.near) >= self.most:
+                budget.is_short = True
                 continue
             try:
                 self.join(label, dart, self.add() if end == OPEN else end)

@@ -181,6 +181,9 @@ class Pattern:
         return [self.first[node.name] for node in self.rule.nodes if node.hook]
 
 
+Ways = Callable[[Pattern, list[Embed], Budget], Iterator[Found]]
+
+
 def own_value(kind: str, number: int) -> Value:
     """A value of a kind that goes with a number and no other."""
     if kind == "int":
@@ -216,8 +219,21 @@ def judge(pattern: Pattern, embeds: list[Embed]) -> Found | None:
 
 
 def search(rule: Rule, dimension: int, embeds: list[Embed], fault: str) -> Search:
-    """Looks for a counterexample to a rule that is refused for a fault of arcs, squares or values."""
-    best, fitting, clashing, is_whole, clash, words = None, 0, 0, True, None, fault.split()
+    """Looks for a counterexample to a rule that is refused for a fault of arcs, squares or values. What breaks no law
+    of neighbours may still leave two values on an orbit."""
+    words = fault.split()
+    if words[0] in OF_VALUES:
+        return search_by(closed, rule, dimension, embeds)
+    found = search_by(partial(breaking, words), rule, dimension, embeds)
+    if found.found or not embeds:
+        return found
+    of_values = search_by(closed, rule, dimension, embeds)
+    return of_values if of_values.found else found
+
+
+def search_by(ways: Ways, rule: Rule, dimension: int, embeds: list[Embed]) -> Search:
+    """Looks for a smallest counterexample over each small orbit, in these ways."""
+    best, fitting, clashing, is_whole, clash = None, 0, 0, True, None
     for turns in orbits_for(rule):
         pattern = Pattern(rule, dimension, turns)
         if best and len(pattern.part.near) >= len(best.candidate.map.darts):
@@ -235,10 +251,8 @@ def search(rule: Rule, dimension: int, embeds: list[Embed], fault: str) -> Searc
         fits = next(pattern.part.close(Budget(MOST_CHOICES)), pattern) is None
         pattern = laid_again(pattern) if fits else pattern
         fitting += fits
-        of_values = words[0] in OF_VALUES
-        ways = closed(pattern, embeds, budget) if of_values else breaking(pattern, words, embeds, budget)
-        best = next(ways, best)
-        is_whole &= budget.left >= 0
+        best = next(ways(pattern, embeds, budget), best)
+        is_whole &= not budget.is_short
     return Search(best, fitting, clashing, is_whole, clash)
 
 
@@ -250,15 +264,17 @@ def laid_again(pattern: Pattern) -> Pattern:
     return fresh
 
 
-def breaking(pattern: Pattern, fault: list[str], embeds: list[Embed], budget: Budget) -> Iterator[Found]:
+def breaking(fault: list[str], pattern: Pattern, embeds: list[Embed], budget: Budget) -> Iterator[Found]:
     """The whole maps over a pattern in which the result breaks a law of neighbours."""
     for check in pattern.checks(fault):
         for _ in pattern.settle(check, budget):
-            for _ in pattern.part.close(Budget(MOST_CHOICES // 4)):
+            to_close = Budget(MOST_CHOICES // 4)
+            for _ in pattern.part.close(to_close):
                 found = judge(pattern, embeds)
                 if found:
                     yield found
                 break
+            budget.is_short |= to_close.is_short
 
 
 def closed(pattern: Pattern, embeds: list[Embed], budget: Budget) -> Iterator[Found]:

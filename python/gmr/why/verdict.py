@@ -3,30 +3,38 @@ from gmr.books import Rule
 from gmr.matches import Step
 from gmr.why.closing import Arc, Clash
 from gmr.why.counterexample import OF_NEIGHBOURS, OF_VALUES, Pattern, Search
+from gmr.why.derived import Steps, derive, is_safe
 from gmr.why.example import tell_found
-from gmr.why.implied import Implied, implied_steps
 
 MOST_SQUARES = 4     # that are told of one contradiction
+NOWHERE = "Its left side lies in no map, so nothing breaks, and nothing is ever done."
 
 
 def tell_search(rule: Rule, dimension: int, fault: str, found: Search) -> list[str]:
     """What a search came to, in a few lines."""
     if found.found:
         return tell_found(found.found)
-    if not found.fitting and found.clash:
-        return tell_clash(*found.clash)
+    derived = derive(rule, dimension)
+    if derived is None:
+        return [NOWHERE, *(tell_clash(*found.clash) if found.clash else ())]
     if not found.fitting:
         return ["No map of up to 64 darts was found in which its left side lies."]
     if fault.startswith("arc-twice"):
         return ["Of the two, the unfolding takes the link that stands first and passes the other over; so no map "
                 "breaks, but the rule says two things."]
-    tried = "each way was tried in which the darts around can be joined" if found.is_whole else "many ways were tried"
-    lines = [f"No map was found that it would break: {tried}, over {found.fitting} small "
-             f"{'orbit' if found.fitting == 1 else 'orbits'}. The condition is stricter than this rule needs."]
-    if found.clashing:
-        lines.append(f"Over {found.clashing} more its left side lies in no map.")
-    implied = implied_steps(rule, dimension)
-    return lines + ([f"The laws make more of its left side than it says: {tell_implied(implied)}."] if implied else [])
+    lines = [f"No map was found that it would break: {tell_tried(found)}."]
+    if fault.split()[0] in OF_NEIGHBOURS and is_safe(derived):
+        lines = ["It breaks no law of neighbours, in a map of whatever size: by what the laws make of its left side, "
+                 "each label leads to one dart and each square closes. The condition is stricter than this rule needs."]
+    steps = derived.steps()
+    return lines + ([f"What follows from its left side and isn't said there: {tell_steps(steps)}."] if steps else [])
+
+
+def tell_tried(found: Search) -> str:
+    """What was tried in vain."""
+    ways = "each way was tried in which the darts around can be joined" if found.is_whole else "many ways were tried"
+    beside = f", and over {found.clashing} more its left side lies in no map" if found.clashing else ""
+    return f"{ways}, over {found.fitting} small {'orbit' if found.fitting == 1 else 'orbits'}{beside}"
 
 
 def has_map(fault: str) -> bool:
@@ -34,9 +42,9 @@ def has_map(fault: str) -> bool:
     return fault.split()[0] in OF_NEIGHBOURS | OF_VALUES
 
 
-def tell_implied(implied: Implied) -> str:
+def tell_steps(steps: Steps) -> str:
     """Steps that follow from a left side."""
-    return ", ".join(f"{name} {tell_step(name, label, step)}" for (name, label), step in implied.items())
+    return ", ".join(f"{name} {tell_step(name, label, step)}" for (name, label), step in steps.items())
 
 
 def tell_step(name: str, label: int, step: Step) -> str:
@@ -48,14 +56,13 @@ def tell_step(name: str, label: int, step: Step) -> str:
 
 # ---------------------------------------------------------------------- contradictions
 def tell_clash(pattern: Pattern, clash: Clash) -> list[str]:
-    """Why a left side lies in no map: the squares by which one of its arcs is another one."""
+    """Why a left side lies in no map over an orbit: the squares by which one of its arcs is another one."""
     lines: list[str] = []
     told: set[Arc] = set()
     for arc in (clash.has, clash.arc):
         tell_derived(pattern, arc, clash.because if arc is clash.arc else (), told, lines)
     ends = f"{tell_arc(pattern, clash.arc)} and {tell_arc(pattern, clash.has)}"
-    return ["Its left side lies in no map, so nothing breaks, and nothing is ever done.",
-            *lines[:MOST_SQUARES], f"So it says that {ends}, and a dart has one neighbour along {clash.arc.label}."]
+    return [*lines[:MOST_SQUARES], f"So it says that {ends}, and a dart has one neighbour along {clash.arc.label}."]
 
 
 def tell_derived(pattern: Pattern, arc: Arc, because: tuple[Arc, ...], told: set[Arc], lines: list[str]) -> None:
