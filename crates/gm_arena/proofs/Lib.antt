@@ -17,4 +17,5 @@ pub mod SlotNameLemmas
 pub mod NameLemmas
 pub mod MapLemmas
 pub mod Keys
+pub mod SortedLemmas
 pub mod ArenaIsMap

@@ -1,11 +1,12 @@
 ghost use Rattle.std.specs.Prelude.{◌≡◌, ℕ, ◌+◌, ◌*◌, ◌/◌, ◌<◌, ◌≤◌, ◌-◌, ◌++◌, ◌∷◌, [], length, replicate, take, max, map, Some, None, All, MatchOption, IfOk, IsSome, IsTrue, OnOk, OnErr};
 ghost use Rattle.std.specs.FinMap.{get, keys};
 ghost use Rattle.std.specs.List.{zip};
+ghost use Rattle.std.specs.List.Sorted.{IsNonDecreasing, IsPermutation};
 ghost use Rattle.slab.specs.Slab.{HasRoomFor, slab_len};
 ghost use Rattle.gm_model.specs.Limits.{most_darts, most_names};
 ghost use Rattle.std.specs.Vec.{vec_capacity};
 ghost use Rattle.slab.specs.Slab as slab;
-ghost use Rattle.gm_arena.specs.inner.Inside.{no_slot, names_in, name_in, linked, slot_numbered, links_in, IsWritten, HasParts, AreNumbered, AreNamesSlots};
+ghost use Rattle.gm_arena.specs.inner.Inside.{no_slot, names_in, name_in, linked, slot_numbered, links_in, place_names, IsWritten, HasParts, AreNumbered, AreNamesSlots};
 
 use crate::slot::Slot;
 use crate::steps::Steps;
@@ -18,6 +19,10 @@ use std::sync::ledger::Ledger;
 
 /// How many entries are filled past what a slot needs.
 const AHEAD: usize = 256;
+
+/// Where there are more reserved names for each dart, the names of the darts are sorted, and not
+/// sought in the table.
+const NAMES_PER_DART: usize = 32;
 
 #[derive(Clone, Copy)]
 struct Place {
@@ -215,7 +220,9 @@ impl Arena {
         }
     }
 
-    /// The names of the live darts, ascending. It counts one step for each dart.
+    /// The names of the live darts, ascending. It counts one step for each dart. A step stands for some
+    /// 32 names of the table, or where darts are fewer for one dart's part in sorting them, which is
+    /// in the order of the logarithm of their number, 20 at most.
     pub fn names<L: Ledger>(
         &self,
         alloc: Global,
@@ -226,6 +233,9 @@ impl Arena {
     {
         let count = self.places.len();
         steps.tick_times(count as u64);
+        if count < self.table.len() / NAMES_PER_DART {
+            return sorted_names(alloc, &self.places);
+        }
         self.table.taken_names(alloc, count)
     }
 
@@ -454,6 +464,27 @@ fn read_name(places: &Slab<Place>, names_are_slots: bool, slot: Slot) -> u32
         return slot.at;
     }
     places[slot.at as usize].name
+}
+
+/// The names of all places, ascending. It goes over the slots that were ever in use.
+fn sorted_names(alloc: Global, places: &Slab<Place>) -> Result<Vec<u32>, OutOfMemory>
+    ensures permutation { IfOk result (λ names. IsPermutation (place_names places.now) names.items) }
+    ensures ascending { IfOk result (λ names. IsNonDecreasing names.items) }
+{
+    let mut names = names_by_slot(alloc, places)?;
+    names.sort_unstable();
+    Ok(names)
+}
+
+/// The names of all places, in the order of their slots.
+fn names_by_slot(alloc: Global, places: &Slab<Place>) -> Result<Vec<u32>, OutOfMemory>
+    ensures { IfOk result (λ names. names.items ≡ place_names places.now) }
+{
+    let mut names = Vec::with_capacity(alloc, places.len())?;
+    for (_slot, place) in places {
+        names.push(place.name)?;
+    }
+    Ok(names)
 }
 
 /// Makes each neighbour of the slot the slot itself. It takes no memory.

@@ -3,7 +3,7 @@ use Rattle.std.specs.Prelude.{◌≡◌, ◌≢◌, ℕ, zero, suc, ◌+◌, ◌
 use Rattle.std.specs.Option.{option_map, option_map_or}
 use Rattle.std.specs.Ordering.{nat_cmp}
 use Rattle.std.specs.FinMap.{FinMap, len}
-use Rattle.slab.specs.Slab.{Slab, get, slab_len, entries_from, HasRoomFor}
+use Rattle.slab.specs.Slab.{Slab, get, slab_len, entries, entries_from, HasRoomFor}
 use Rattle.gm_model.specs.declared.schema.Schema.{Schema}
 use Rattle.gm_model.specs.declared.value.Value.{Value}
 use Rattle.gm_arena.specs.declared.slot.Slot.{Slot}
@@ -32,6 +32,10 @@ names_in table = map (λ e. e.0) (entries_from 0 (map entry_of table))
 
 abbrev pub name_in : Slab Place → ℕ → ℕ
 name_in places slot = option_map_or (λ (p : Place). p.name) (get places slot) 0
+
+-- the names of all places, in the order of their slots
+abbrev pub place_names : Slab Place → List ℕ
+place_names places = map (λ e. e.1.name) (entries places)
 
 -- a list with these from an index on, over what it had there
 abbrev pub written_at : {A : Type 0} → ℕ → List A → List A → List A
