@@ -7,6 +7,7 @@ from pathlib import Path
 from gmr.books import read_book
 from gmr.infer.inference import infer, write_book
 from gmr.infer.compare import are_same
+from gmr.infer.doubt import constants_in
 from gmr.infer.example import NoRule, compare
 from gmr.infer.place import draft_of
 from gmr.infer.terms import Term, find_expression
@@ -62,6 +63,7 @@ def test_values_of_the_library():
         "values2/move_face": "a.pos + vec3(-60, 90, 60)",
         "values2/kis_from_centre": "2 * (sum<0 1>(a.pos) / count<0 1>(a)) - sum<0 1 2>(a.pos) / count<0 1 2>(a)",
         "values3/hexahedra_at_middles": "sum<0 1>(a.pos) / count<0 1>(a)",
+        "values2/darken_face": "rgb(red(a.paint) - 60, green(a.paint) - 60, blue(a.paint) - 60)",
     }
     for name, text in texts.items():
         draft = made(LIBRARY / name).draft
@@ -193,6 +195,12 @@ def test_expressions():
     number = Term("{0}.weight", (3, 5, 8))
     equal(find_expression("int", 1, (2, 3, 4), [number]), "({0}.weight + 1) / 2")
     equal(find_expression("rgb", 3, (1, 2, 3, 4, 5, 6), [number]), None)
+    colour = Term("{0}.paint", (200, 9, 80, 100, 30, 31))
+    darker = "rgb(red({0}.paint) - 5, green({0}.paint) - 5, blue({0}.paint) - 5)"
+    equal(find_expression("rgb", 3, (195, 4, 75, 95, 25, 26), [colour]), darker)
+    equal(find_expression("rgb", 3, (195, 4, 75, 95, 25, 27), [colour]), None)
+    equal([constants_in(text) for text in (darker, darker.replace("5,", "6,"), "{1}@2.pos + vec2(3, 0)", "2 * {0}.w / 3")],
+          [1, 3, 2, 0])
 
 
 def test_rules_that_differ_are_told_apart():

@@ -228,6 +228,18 @@ def test_a_map_of_which_rows_are_read_when_they_are_asked_for() -> None:
         assert all(lazy.values[embed.name][dart] == whole_map.values[embed.name][dart] for embed in lazy.embeds), dart
 
 
+def test_names_of_darts_with_gaps() -> None:
+    """Where names are left out they are read from the text, whatever their length is; and a map may be empty."""
+    text = answer("show", ROOT / "examples" / "square.gmap")[1]
+    names = [3, 12, 105, 106, 1000, 1048575, 2097152, 2097153]
+    gaps = re.sub(r"(?<=darts 8\n)[^$]*", lambda rows: "".join(
+        " ".join(str(names[int(word)]) for word in row.split()) + "\n" for row in rows[0].splitlines()), text)
+    lazy = LazyMap(gaps)
+    assert (list(lazy.darts), lazy.next, lazy.alpha[0][1000]) == (names, 2097154, 1048575), gaps
+    empty = LazyMap("gmap 2\ndim 2\nnext 7\ndarts 0\n")
+    assert (list(empty.darts), empty.next) == ([], 7)
+
+
 def test_a_picture() -> None:
     """The map that a line met is drawn where it is asked for."""
     with tempfile.TemporaryDirectory() as folder:

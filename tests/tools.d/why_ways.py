@@ -1,6 +1,9 @@
 """Tests of ways out: each is followed to the letter, as it is told, and the program accepts the rule that then stands
 there, which is the one that was meant."""
 import re
+import shlex
+import subprocess
+import sys
 import tempfile
 import tomllib
 from pathlib import Path
@@ -12,7 +15,6 @@ from gmr.unfolding import unfold
 from gmr.matches import find_candidate
 from gmr.why.edits import faults_of, rule_lines
 from gmr.why.lines import Line, tell_line
-from gmr.why.maps import tell_agree
 from gmr.why.texts import tell_text
 from gmr.why.ways import find_ways, tell_way
 
@@ -106,11 +108,39 @@ def test_an_unsewing_at_a_free_dart() -> None:
 
 
 def test_files_and_numbers_that_are_others() -> None:
-    """A book where a map is needed, a decimal point, and an embedding that an import can make."""
+    """A book where a map is needed, and a decimal point."""
     said = tell_text("MAP", "a.gbook", "book 1 dim 1", 0)
     assert said[-1] == "a.gbook is a book, and a map is needed here: the files go MAP BOOK SCRIPT.", said
     text = "apply lift 0 with 1.5"
     assert "A decimal point stands here, and numbers are whole" in tell_text("SCRIPT", "a", text, text.index("."))[-1]
-    book = read_book("book 1 dim 2 embed paint <0 1> rgb rule r left right")
-    said = tell_agree(read_map("gmap 1 dim 2 darts 0"), book)
-    assert "`tools/mesh import MODEL MAP --paint R G B` makes a map with one colour in `paint`." in said, said
+
+
+def test_embeddings_that_an_import_makes() -> None:
+    """The commands that are named are followed to the letter: the map of a cube that each makes agrees with the book."""
+    schemas = [("embed pos <1 2> vec3 embed paint <0 1> rgb", ["--paint R G B"]),
+               ("embed pos <1 2> vec3 embed near <> vec3", ["--embed 'near <> vec3'"]),
+               ("embed pos <1 2> vec3 embed paint <0 1> rgb embed near <> vec3 embed w <0 2> int",
+                ["--paint R G B --embed 'near <> vec3' --embed 'w <0 2> int'"]),
+               ("embed near <> vec3 embed pos <1 2> vec3", []), ("embed paint <1 2> rgb", [])]
+    with tempfile.TemporaryDirectory() as name:
+        files = {role: str(Path(name, f"a {end}")) for role, end in
+                 (("MAP", "map.gmap"), ("BOOK", "book.gbook"), ("SCRIPT", "script.gscript"))}
+        Path(files["SCRIPT"]).touch()
+        for schema, options in schemas:
+            Path(files["BOOK"]).write_text(f"book 1 dim 2 {schema} rule r left right", encoding="ascii")
+            Path(files["MAP"]).write_text("gmap 1 dim 2 embed n <1 2> int darts 0", encoding="ascii")
+            said = told_by_why(files)
+            commands = re.findall("`(tools/mesh [^`]*)`", said)
+            assert [one.split("MAP ", 1)[1] for one in commands[1:]] == options, said
+            for command in commands:
+                words = [str(ROOT / "tools" / "mesh") if word == "tools/mesh" else
+                         {"MODEL": str(ROOT / "examples" / "cube.obj"), "MAP": files["MAP"], "R": "90", "G": "140",
+                          "B": "200"}.get(word, word) for word in shlex.split(command)]
+                subprocess.run([sys.executable, *words], check=True, capture_output=True)
+                assert told_by_why(files).startswith("nothing is refused"), (command, told_by_why(files))
+
+
+def told_by_why(files: dict[str, str]) -> str:
+    """What tools/why puts for a map, a book and a script."""
+    command = [sys.executable, ROOT / "tools" / "why", *files.values()]
+    return subprocess.run(command, capture_output=True, text=True, check=False).stdout

@@ -6,7 +6,6 @@ from collections.abc import Sequence
 from pathlib import Path
 
 from gmr.books import read_book
-from gmr.commands.draw import main as draw_maps
 from gmr.commands.frame import new_parser, run_command
 from gmr.errors import Fault
 from gmr.maps import Map, load_map
@@ -66,7 +65,7 @@ def tell_refusal(line: str, files: dict[str, str], folder: Path | None) -> list[
         return [f"{files.get(fault[0], 'The map that is left')} is longer than the 268,435,456 bytes that the "
                 "program takes."]
     if what == "agree":
-        return tell_agree(load_map(files["MAP"]), read_book(read_bytes(files["BOOK"])))
+        return tell_agree(load_map(files["MAP"]), read_book(read_bytes(files["BOOK"])), files["BOOK"])
     return tell_file(what, files, fault[:-1], folder) if what in FILES else []
 
 
@@ -122,7 +121,8 @@ class Run:
 
 
 def draw(amap: Map, out: str, folder: Path) -> None:
-    """Draws the map by tools/draw."""
+    """Draws the map by tools/draw, which is loaded here alone: it takes longer than all the rest."""
+    from gmr.commands.draw import main as draw_maps
     path = folder / "met.gmap"
     path.write_text(amap.text(), encoding="ascii")
     try:

@@ -17,6 +17,7 @@ MOST_CLOSINGS = 40      # of one orbit, on which two rules are compared
 NUMBER = re.compile(r"(?<![\w@])\d+(?!\w)")
 READ = re.compile(r"<[^>]*>|@\d+|\{\d+\}")
 FACTOR = re.compile(r"\d+ \*|/ \d+")
+SHADE = re.compile(r"rgb\(red\((.*?)\) ([+-] \d+), green\(\1\) \2, blue\(\1\) \2\)")
 
 
 class Rest(NamedTuple):
@@ -40,8 +41,9 @@ class Difference(NamedTuple):
 
 
 def constants_in(text: str) -> int:
-    """How many numbers an expression has of its own: neither labels nor factors nor divisors."""
-    return len(NUMBER.findall(FACTOR.sub("", READ.sub("", text))))
+    """How many numbers an expression has of its own: neither labels nor factors nor divisors. The one by which all parts
+    of a colour change counts once."""
+    return len(NUMBER.findall(FACTOR.sub("", READ.sub("", SHADE.sub(r"\1 \2", text)))))
 
 
 def rests_of(places: Sequence[Place], embeds: Sequence[Embed]) -> list[Rest]:

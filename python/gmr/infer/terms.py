@@ -131,7 +131,19 @@ def find_expression(kind: str, width: int, wanted: Row, terms: Sequence[Term],
     for term in terms:
         if term.row == wanted:
             return term.text
-    return guess if kind == "rgb" else find_combined(kind, width, wanted, terms, guess is None) or guess
+    if kind == "rgb":
+        return find_shade(wanted, terms) or guess
+    return find_combined(kind, width, wanted, terms, guess is None) or guess
+
+
+def find_shade(wanted: Row, terms: Sequence[Term]) -> str | None:
+    """A colour each part of which is by one number more or less than that of a term."""
+    for term in terms:
+        more, *others = {want - part for want, part in zip(wanted, term.row)}
+        if not others:
+            parts = (f"{part}({term.text}) {'-' if more < 0 else '+'} {abs(more)}" for part in ("red", "green", "blue"))
+            return f"rgb({', '.join(parts)})"
+    return None
 
 
 def find_combined(kind: str, width: int, wanted: Row, terms: Sequence[Term], with_constants: bool) -> str | None:

@@ -1,11 +1,12 @@
 """A large map of which few rows are looked at: its text is kept, and a row is read when it is asked for."""
 import re
-from collections.abc import Iterator
-from typing import SupportsIndex, overload
+
+import numpy as np
 
 from gmr.maps import EMBED, HEAD, WIDTHS, Embed, Map, Value, read_map
+from gmr.views import Whole
 
-NAME = re.compile(r"\n([0-9]+) ")
+LINE_END, SPACE, ZERO = b"\n 0"
 
 
 class Rows:
@@ -33,37 +34,22 @@ class Rows:
             low, high = (end + 1, high) if name < dart else (low, start)
         return None
 
-    def names(self) -> Iterator[int]:
-        """The names of all darts."""
-        return (int(found[1]) for found in NAME.finditer(self.text, self.begin))
+    def names(self) -> Whole:
+        """The names of all darts, ascending. Where the last one is one less than their number, none is left out."""
+        if self.last() == self.count - 1:
+            return np.arange(self.count, dtype=np.int64)
+        text = np.frombuffer(self.text.encode("ascii"), np.uint8)
+        at = np.flatnonzero(text[self.begin:] == LINE_END)[:self.count] + self.begin + 1
+        names = np.zeros(len(at), np.int64)
+        while (is_digit := text[at] != SPACE).any():
+            names = np.where(is_digit, 10 * names + text[at] - ZERO, names)
+            at = at + is_digit
+        return names
 
     def last(self) -> int:
-        """The greatest name."""
+        """The greatest name, or -1 where there is none."""
         at = self.text.rstrip().rfind("\n")
-        return int(self.text[at + 1:].split(" ", 1)[0])
-
-
-class Names(list[int]):
-    """The names of a map's darts, ascending, taken from the text when they are needed."""
-
-    def __init__(self, rows: Rows) -> None:
-        super().__init__()
-        self.rows = rows
-
-    def __len__(self) -> int:
-        return self.rows.count
-
-    def __iter__(self) -> Iterator[int]:
-        return self.rows.names()
-
-    @overload
-    def __getitem__(self, at: SupportsIndex) -> int: ...
-
-    @overload
-    def __getitem__(self, at: slice) -> list[int]: ...
-
-    def __getitem__(self, at: SupportsIndex | slice) -> int | list[int]:
-        return self.rows.last() if at == -1 else list(self.rows.names())[at]
+        return int(self.text[at + 1:].split(" ", 1)[0]) if self.count else -1
 
 
 class Columns:
@@ -133,8 +119,7 @@ class LazyMap(Map):
         embeds = [Embed(name, tuple(sorted(map(int, labels.split()))), kind)
                   for name, labels, kind in re.findall(EMBED, head[3])]
         columns = Columns(rows, int(head[2]), embeds)
-        least = rows.last() + 1 if rows.count else 0
-        super().__init__(int(head[1]), int(head[2]), embeds, int(head[7] or least), Names(rows),
+        super().__init__(int(head[1]), int(head[2]), embeds, int(head[7] or rows.last() + 1), rows.names(),
                          [*columns.alpha], {**columns.values})
         self.rows = rows
 

@@ -1,5 +1,6 @@
 """Why a text stands for no map, and in what a map and a book differ."""
 import re
+import shlex
 from collections.abc import Iterator
 from typing import NamedTuple
 
@@ -113,24 +114,32 @@ def embed_text(embed: Embed) -> str:
     return f"embed {embed.name} <{' '.join(map(str, sorted(embed.labels)))}> {embed.kind}"
 
 
-IMPORTED = {
-    "paint": "`tools/mesh import MODEL MAP --paint R G B` makes a map with one colour in `paint`.",
-    "col": "`tools/mesh import MODEL MAP --colours` makes a map with the file's colours in `col`.",
-}
-
-
-def tell_agree(amap: Map, book: Book) -> list[str]:
-    """In what the heads of a map and a book differ."""
+def tell_agree(amap: Map, book: Book, path: str) -> list[str]:
+    """In what the heads of a map and of a book at a path differ."""
     lines = []
     if amap.dimension != book.dimension:
         lines.append(f"The map has dimension {amap.dimension}, and the book is for dimension {book.dimension}.")
     in_map, in_book = [embed_text(embed) for embed in amap.embeds], [embed_text(embed) for embed in book.embeds]
     for whose, has, lacks in (("map", in_map, in_book), ("book", in_book, in_map)):
         lines += [f"Only the {whose} has `{line}`." for line in has if line not in lacks]
-    lines += [IMPORTED[name] for name in IMPORTED for line in in_book
-              if line not in in_map and line.startswith(f"embed {name} ")]
     if not lines:
         lines.append("The embeddings stand in another order: in the map "
                      f"{', '.join(embed.name for embed in amap.embeds)}, in the book "
                      f"{', '.join(embed.name for embed in book.embeds)}.")
-    return lines + ["A run needs one dimension and the same embeddings in one order, with the same labels and kinds."]
+    lines.append("A run needs one dimension and the same embeddings in one order, with the same labels and kinds.")
+    return lines + (tell_import(book, path) if amap.dimension == book.dimension in (2, 3) else [])
+
+
+def tell_import(book: Book, path: str) -> list[str]:
+    """How the map of a mesh comes to have the embeddings of a book: those of the book whatever they are, or, where the
+    points come first, each by an option of its own."""
+    command = "tools/mesh import MODEL MAP"
+    lines = [f"Of a mesh, `{command} --for {shlex.quote(path)}` makes a map with just the embeddings of the book."]
+    points = Embed("pos", tuple(range(1, book.dimension + 1)), "vec3")
+    paint = Embed("paint", tuple(range(book.dimension)), "rgb")
+    if book.embeds[:1] == [points] and book.embeds[1:]:
+        options = ["--paint R G B" if embed == paint and at == 0 else f"--embed '{embed_text(embed)[len('embed '):]}'"
+                   for at, embed in enumerate(book.embeds[1:])]
+        lines.append(f"So does `{command} {' '.join(options)}`"
+                     + (", in the colour R G B." if options[0][2] == "p" else ", each 0 everywhere."))
+    return lines

@@ -9,7 +9,7 @@ from gmr.why.counterexample import Found, search
 from gmr.why.example import script_text, text_after
 from gmr.why.picture import draw
 from gmr.why.rules import tell_rule
-from gmr.why.verdict import has_map, tell_search
+from gmr.why.verdict import has_map, tell_no_map, tell_search
 from gmr.why.ways import find_ways, tell_way
 
 MOST_WAYS = 4     # that are offered
@@ -40,9 +40,9 @@ def tell_ways(book: Book, rule: Rule, fault: str) -> list[str]:
 
 
 def tell_example(book: Book, rule: Rule, fault: str, folder: Path | None) -> list[str]:
-    """Which map a refused rule would break, if it says what it makes of one."""
+    """Which map a refused rule would break, or why there is none."""
     if not has_map(fault):
-        return []
+        return [tell_no_map(fault)]
     found = search(rule, book.dimension, book.embeds, fault)
     lines = tell_search(rule, book.dimension, fault, found)
     if found.found and folder:

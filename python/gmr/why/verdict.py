@@ -42,6 +42,14 @@ def has_map(fault: str) -> bool:
     return fault.split()[0] in OF_NEIGHBOURS | OF_VALUES
 
 
+def tell_no_map(fault: str) -> str:
+    """Why a fault that is none of neighbours or values taken over shows in no map."""
+    if fault.startswith("set-twice"):
+        return ("Of the two, the unfolding takes the assignment of the least instance, by node and then by position; so "
+                "no map breaks, but the rule says two values.")
+    return "As long as that is so, the rule doesn't say what it makes of a map; so there is none that it would break."
+
+
 def tell_steps(steps: Steps) -> str:
     """Steps that follow from a left side."""
     return ", ".join(f"{name} {tell_step(name, label, step)}" for (name, label), step in steps.items())
