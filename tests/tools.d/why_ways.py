@@ -111,6 +111,10 @@ def test_files_and_numbers_that_are_others() -> None:
     """A book where a map is needed, and a decimal point."""
     said = tell_text("MAP", "a.gbook", "book 1 dim 1", 0)
     assert said[-1] == "a.gbook is a book, and a map is needed here: the files go MAP BOOK SCRIPT.", said
+    assert tell_text("SCRIPT", "a", "gmap 1", 0)[-1].startswith("a is a map, and a script is needed here"), said
+    assert tell_text("BOOK", "a", "apply r 0", 0)[-1].startswith("a is a script, and a book is needed here"), said
+    said = tell_text("MAP", "a.obj", "# a cube\nv 0 0 0", 9)
+    assert said[-1] == "If it is a mesh, `tools/mesh import a.obj MAP` makes a map of it.", said
     text = "apply lift 0 with 1.5"
     assert "A decimal point stands here, and numbers are whole" in tell_text("SCRIPT", "a", text, text.index("."))[-1]
 

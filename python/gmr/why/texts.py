@@ -1,4 +1,5 @@
 """Why no text goes on at a place, or which limit is passed there, for maps, books and scripts alike."""
+import shlex
 import tempfile
 from pathlib import Path
 
@@ -94,6 +95,8 @@ def tell_text(role: str, path: str, text: str, place: int) -> list[str]:
     if may:
         said += f", where the text goes on with {' or '.join([', '.join(may[:-1]), may[-1]] if may[1:] else may)}"
     lines.append(said + ".")
+    if role == "MAP" and token and place <= end_of_blank(text, 0):
+        lines.append(f"If it is a mesh, `tools/mesh import {shlex.quote(path)} MAP` makes a map of it.")
     if token and token.word in RESERVED and "a name" in may:
         lines.append(f"`{token.word}` is a keyword, and no name.")
     if token and token.word == "hook" and role == "BOOK" and not is_second_version(text, place):
