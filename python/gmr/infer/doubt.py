@@ -41,8 +41,8 @@ class Difference(NamedTuple):
 
 
 def constants_in(text: str) -> int:
-    """How many numbers an expression has of its own: neither labels nor factors nor divisors. The one by which all parts
-    of a colour change counts once."""
+    """How many numbers an expression has of its own: neither labels nor factors nor divisors. The one by which all
+    parts of a colour change counts once."""
     return len(NUMBER.findall(FACTOR.sub("", READ.sub("", SHADE.sub(r"\1 \2", text)))))
 
 

@@ -45,8 +45,8 @@ def has_map(fault: str) -> bool:
 def tell_no_map(fault: str) -> str:
     """Why a fault that is none of neighbours or values taken over shows in no map."""
     if fault.startswith("set-twice"):
-        return ("Of the two, the unfolding takes the assignment of the least instance, by node and then by position; so "
-                "no map breaks, but the rule says two values.")
+        return ("Of the two, the unfolding takes the assignment of the least instance, by node and then by position; "
+                "so no map breaks, but the rule says two values.")
     return "As long as that is so, the rule doesn't say what it makes of a map; so there is none that it would break."
 
 
