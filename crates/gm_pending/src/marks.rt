@@ -17,6 +17,12 @@ use std::marker::Model;
 /// So many darts are searched one after another, since that is faster than any index.
 const FEW: usize = 16;
 
+/// An index that was made with less room than for one in so many slots has no table of them.
+const SLOTS_A_DART: usize = 8;
+
+/// It is made again with one where a walk reaches one in so many.
+const SLOTS_REACHED: usize = 32;
+
 /// The darts that are reached, in the order in which they were found. None comes twice.
 #[derive(Drop)]
 pub(crate) struct Marks {
@@ -27,7 +33,8 @@ pub(crate) struct Marks {
     index: Option<Box<Index>>,
     /// The bits of all marked darts. A dart whose bit isn't set is not marked, and needs no search.
     bits: u64,
-    /// The index is made with room for so many darts.
+    /// The index is made with room for so many darts, and for as many as there are slots where more
+    /// come.
     room: usize,
     /// And for an arena of so many slots.
     slots: usize,
@@ -290,7 +297,7 @@ impl Marks {
             self.alloc,
             self.index.take(),
             &self.reached,
-            self.room,
+            &mut self.room,
             self.slots,
         )?;
         let had = index.put(at.key(), instance)?;
@@ -331,12 +338,14 @@ fn make_room<T>(entries: &mut Vec<T>, room: usize) -> Result<(), OutOfMemory>
 }
 
 /// The index of the deciding instance of each dart: the one that there is, or a new one with room for
-/// so many darts of an arena with so many slots.
+/// so many darts of an arena with so many slots. Where one was made with less room and many darts are
+/// reached, it is made again with a place for each slot, so that a walk of a large orbit takes no longer
+/// where the rule touches little of it.
 fn index(
     alloc: Global,
     index: Option<Box<Index>>,
     reached: &[Mark],
-    room: usize,
+    room: &mut usize,
     slots: usize,
 ) -> Result<Box<Index>, OutOfMemory>
     requires distinct { HasDistinctKeys reached.now }
@@ -344,9 +353,12 @@ fn index(
     ensures { IfOk result (λ index. IsIndex reached.now (index_at index.value)) }
 {
     if let Some(index) = index {
-        return Ok(index);
+        if *room >= slots / SLOTS_A_DART || reached.len() < slots / SLOTS_REACHED {
+            return Ok(index);
+        }
+        *room = slots;
     }
-    let mut index = Index::build(alloc, room, slots)?;
+    let mut index = Index::build(alloc, *room, slots)?;
     for entry in reached {
         index.put(entry.at.key(), entry.instance)?;
     }

@@ -27,8 +27,8 @@ loop-entry-preserved c =
     subst (λ xs. IsIndex xs (index_at c.put.new.self)) (sym (take_more reached i entry c.loop-entry-test.true ∙ ap (λ e. take i reached ++ e ∷ []) (sym c.entry-item.is)))
     (put_fresh (take i reached) (index_at c.loop-entry.index) (index_at c.put.new.self) c.loop-entry.invariant entry c.in_ok-put.field-0 (rw c.key.ensures at c.in_ok-put.ensures.had) (rw c.key.ensures at c.in_ok-put.ensures.put) absent)
 
-pub returns-in-Some : goal.returns-in-Some
-returns-in-Some c = rw c.in-Some.is at c.requires.index
+pub returns-then-room-slots : goal.returns-then-room-slots
+returns-then-room-slots c = rw c.in-Some.is at c.requires.index
 
 pub returns-in_err-index : goal.returns-in_err-index
 returns-in_err-index c = unless_ok _ c.from_residual.result c.from_residual.ensures.0
