@@ -1,7 +1,6 @@
 """Maps as numpy's arrays: their text is read and printed at once, for what looks at all darts of large maps."""
 import os
 import re
-import warnings
 from collections.abc import Sequence
 from dataclasses import dataclass
 
@@ -20,6 +19,9 @@ LEAST, MOST = -(2**63), 2**63 - 1
 SPACED_MINUS = re.compile(rb"-[ \t\r\n]+")
 BARE_MINUS = re.compile(rb"-(?![0-9])")
 CHUNK = 65_536  # rows that are printed at once
+PIECE = 1 << 18  # bytes that are read at once
+EIGHT, SURE = 8, 18  # letters of a word of 64 bits; digits that fit in one, whichever they are
+ZERO, MINUS = 48, 45
 
 
 @dataclass
@@ -101,7 +103,7 @@ def read_arrays(text: bytes) -> Arrays:
     """The map that a text stands for, as maps.read_map takes it; ValueError with one plain line where it is none."""
     behind = text.find(b"\n", text.rfind(b"#")) if b"#" in text else 0
     behind = len(text) if behind < 0 else behind
-    bare = re.sub(rb"#[^\n]*", b" ", text[:behind]) + text[behind:]
+    bare = re.sub(rb"#[^\n]*", b" ", text[:behind]) + text[behind:] if behind else text
     head = HEAD_BYTES.match(bare)
     if not head:
         raise ValueError("this is no text of a map: it doesn't open with gmap, dim and darts")
@@ -125,22 +127,63 @@ def read_numbers(body: bytes, width: int, count: int) -> Whole:
     """The numbers of the darts' lines: count x width."""
     if body.translate(None, IN_ROWS):
         raise ValueError("after 'darts' stands something other than numbers and parentheses")
-    plain = body.translate(bytes.maketrans(b"()", b"  "))
-    if b"-" in plain:
-        plain = SPACED_MINUS.sub(b"-", plain).replace(b"-", b" -")
-        if BARE_MINUS.search(plain):
+    if b"-" in body:
+        body = SPACED_MINUS.sub(b"-", body)
+        if BARE_MINUS.search(body):
             raise ValueError("a sign stands after 'darts' with no number after it")
-    with warnings.catch_warnings():
-        warnings.simplefilter("ignore", DeprecationWarning)  # at what is no number; then the count differs
-        numbers = numpy.fromstring(plain, dtype=numpy.int64, sep=" ") if plain.strip() else numpy.empty(0, numpy.int64)
+    numbers = scan_numbers(body)
     if len(numbers) != width * count:
         raise ValueError(f"there are {len(numbers)} numbers after 'darts', and not {width} for each of {count} darts")
-    # What passes 64 bits is read as the last number within.
-    is_last = len(numbers) > 0 and (numbers.max() == MOST or numbers.min() == LEAST)
-    if is_last and any(not LEAST <= int(word) <= MOST for word in plain.split() if len(word) > 18):
-        raise ValueError("a number doesn't fit in 64 bits")
-    rows: Whole = numbers.reshape(count, width)
-    return rows
+    return numbers.reshape(count, width)
+
+
+def scan_numbers(text: bytes) -> Whole:
+    """The numbers of a text of digits, signs right before them, and blanks or parentheses between; ValueError at one
+    that doesn't fit in 64 bits."""
+    letters = numpy.frombuffer(b" " * EIGHT + text + b" ", numpy.uint8)
+    eights = numpy.ndarray((len(letters) - EIGHT + 1,), "<u8", letters, strides=(1,))   # eight letters from each one on
+    is_signed = b"-" in text
+    parts, begin = [numpy.empty(0, numpy.int64)], EIGHT
+    while begin < len(letters):
+        end = min(begin + PIECE, len(letters) - 1)
+        while letters[end] >= ZERO:
+            end += 1
+        is_digit = letters[begin - 1: end + 1] >= ZERO
+        edges = numpy.flatnonzero(is_digit[1:] != is_digit[:-1])
+        edges += begin
+        begins, ends = edges[::2], edges[1::2]
+        numbers = join_digits(eights, ends - EIGHT, ends - begins)
+        if is_signed:
+            numpy.negative(numbers, out=numbers, where=letters[begins - 1] == MINUS)
+        for at in numpy.flatnonzero(ends - begins > SURE).tolist():
+            sign = -1 if letters[begins[at] - 1] == MINUS else 1
+            number = sign * int(letters[begins[at]: ends[at]].tobytes())
+            if not LEAST <= number <= MOST:
+                raise ValueError("a number doesn't fit in 64 bits")
+            numbers[at] = number
+        parts.append(numbers)
+        begin = end + 1
+    return numpy.concatenate(parts)
+
+
+def join_digits(eights: NDArray[numpy.uint64], places: Whole, sizes: Whole) -> Whole:
+    """The numbers that end behind the eight letters from these places on, and have so many digits. Digits are joined by
+    twos, fours and eights within words of 64 bits; the first letter is the lowest byte of its word."""
+    found = eights[places]
+    before = ((EIGHT - numpy.minimum(sizes, EIGHT)) * EIGHT).astype(numpy.uint64)
+    found >>= before
+    found <<= before
+    found &= numpy.uint64(0x0F0F0F0F0F0F0F0F)
+    for times, bits, mask in ((10, 8, 0x00FF00FF00FF00FF), (100, 16, 0x0000FFFF0000FFFF), (10_000, 32, 0xFFFFFFFF)):
+        lower = found >> numpy.uint64(bits)
+        found *= numpy.uint64(times)
+        found += lower
+        found &= numpy.uint64(mask)
+    joined: Whole = found.view(numpy.int64)
+    longer = numpy.flatnonzero(sizes > EIGHT)
+    if len(longer):
+        joined[longer] += 10**EIGHT * join_digits(eights, places[longer] - EIGHT, sizes[longer] - EIGHT)
+    return joined
 
 
 def join_rows(version: int, dimension: int, embeds: list[Embed], stated: bytes | None, rows: Whole) -> Arrays:

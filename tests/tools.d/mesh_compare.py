@@ -1,4 +1,5 @@
 """Tests of the certificate of tools/mesh: it finds what is planted, in maps and in files."""
+import ast
 import struct
 from collections.abc import Callable
 from fractions import Fraction
@@ -7,13 +8,14 @@ from pathlib import Path
 import numpy as np
 
 from gmr.arrays import read_arrays
-from gmr.mesh.compare import Claims, compare
+from gmr.mesh.checks import Claims
+from gmr.mesh.compare import compare
 from gmr.mesh.convert import Options, compare_written, convert_mesh, take_mesh, write_import
 from gmr.mesh.formats import VOLUME_FORMATS, write_mesh
 from gmr.mesh.model import Surface, Unfit
 from gmr.mesh.scale import Frame
 from gmr.mesh.surface import Wish
-from mesh import HOUSE_COLOURS, HOUSE_FACES, HOUSE_POINTS, block, house, scratch
+from mesh import ROOT, HOUSE_COLOURS, HOUSE_FACES, HOUSE_POINTS, block, house, scratch
 
 SCALE = Fraction(100)
 UNCHECKED = Options(is_checked=False)
@@ -42,6 +44,20 @@ def obj(points: list[tuple], faces: list[tuple]) -> str:
     """A text in OBJ."""
     lines = [f"v {' '.join(map(str, point))}" for point in points]
     return "\n".join(lines + [f"f {' '.join(str(corner + 1) for corner in face)}" for face in faces]) + "\n"
+
+
+def test_the_certificate_is_short_and_stands_alone():
+    lines = (ROOT / "python" / "gmr" / "mesh" / "compare.py").read_text().split("\n")
+    assert len(lines) - 1 <= 150, len(lines)
+    known = {"gmr.arrays", "gmr.mesh.checks", "gmr.mesh.formats"}
+    for name in ("compare", "checks"):
+        tree = ast.parse((ROOT / "python" / "gmr" / "mesh" / f"{name}.py").read_text())
+        taken = {node.module: {one.name for one in node.names} for node in ast.walk(tree)
+                 if isinstance(node, ast.ImportFrom) and (node.module or "").startswith("gmr")}
+        assert set(taken) <= known and taken.get("gmr.mesh.formats", set()) <= {"read_mesh"}, (name, taken)
+        assert not any(one.name.startswith("gmr") for node in ast.walk(tree) if isinstance(node, ast.Import)
+                       for one in node.names), name
+        assert taken.get("gmr.arrays", set()) <= {"Arrays", "read_arrays"}, taken
 
 
 def test_what_is_the_same_passes():
@@ -148,12 +164,12 @@ def write_and_plant(path: Path, plant: Callable[[Surface], None]) -> str:
     model = path.parent / "model.obj"
     write_mesh(model, house(face_colours=HOUSE_COLOURS))
     made = convert_mesh(model, Options())
-    text = made.map.text()
-    taken = take_mesh(read_arrays(text), made.frame, path.suffix in VOLUME_FORMATS)
+    given = read_arrays(made.map.text())
+    taken = take_mesh(given, made.frame, path.suffix in VOLUME_FORMATS)
     plant(taken.mesh)
     write_mesh(path, taken.mesh)
     try:
-        compare_written(path, text, made.frame, taken)
+        compare_written(path, given, made.frame, taken)
     except Unfit as unfit:
         return str(unfit)
     return ""

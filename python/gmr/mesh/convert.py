@@ -1,7 +1,6 @@
 """Files of meshes become files of maps, and back: what `tools/mesh` does."""
 from __future__ import annotations
 
-import tempfile
 from collections.abc import Sequence
 from dataclasses import dataclass, field
 from fractions import Fraction
@@ -13,7 +12,8 @@ import numpy as np
 from gmr import program
 from gmr.arrays import Arrays, read_arrays
 from gmr.files import check_apart, write_beside
-from gmr.mesh.compare import Claims, compare
+from gmr.mesh.checks import Claims
+from gmr.mesh.compare import compare
 from gmr.mesh.decimals import Whole
 from gmr.mesh.embeds import Colours, Wanted, embed_for_book, embed_plainly
 from gmr.mesh.fans import compare_fans
@@ -203,18 +203,18 @@ def export_map(path: Path, out: Path, frame: Frame | None, is_compared: bool = T
     program.find_program()
     text = program.put_or_refuse("show", path).encode()
     known = frame or read_frame(path)
-    told = write_map(read_arrays(text), text, out, known or ONE, is_compared)
+    told = write_map(read_arrays(text), out, known or ONE, is_compared)
     how = f" scale {(known or ONE).scale}"
     return f"exported {told}{how}" + ("" if known else ", as no file tells one: --scale or --scale-of gives it")
 
 
-def write_map(given: Arrays, text: bytes, out: Path, frame: Frame, is_compared: bool) -> str:
+def write_map(given: Arrays, out: Path, frame: Frame, is_compared: bool) -> str:
     """Writes the mesh of a map, and tells what it has."""
     taken = take_mesh(given, frame, writes_volumes(out))
     with write_beside(out) as written:
         write_mesh(written, taken.mesh)
         if is_compared:
-            compare_written(written, text, frame, taken)
+            compare_written(written, given, frame, taken)
     told = f"points {len(taken.mesh.places)} {tell_elements(taken.mesh)}"
     if out.suffix.lower() in TRIANGLES and isinstance(taken.mesh, Surface):
         floats = taken.mesh.places.floats()
@@ -224,20 +224,17 @@ def write_map(given: Arrays, text: bytes, out: Path, frame: Frame, is_compared: 
     return told
 
 
-def compare_written(written: Path, text: bytes, frame: Frame, taken: Taken) -> None:
+def compare_written(written: Path, given: Arrays, frame: Frame, taken: Taken) -> None:
     """Unfit where the certificate finds that a written mesh isn't that of the map."""
     starts = taken.starts
     if isinstance(taken.mesh, Volume) and count_untyped(taken.mesh.cells):
         if written.suffix.lower() != ".vtu":
             return
         starts = order_polyhedra(taken.mesh, starts)
-    with tempfile.TemporaryDirectory() as scratch:
-        gmap = Path(scratch) / "map.gmap"
-        gmap.write_bytes(text)
-        if written.suffix.lower() in TRIANGLES:
-            fault = compare_fans(written, gmap, frame.scale, frame.origin, starts)
-        else:
-            fault = compare(written, gmap, frame.scale, frame.origin, Claims(starts))
+    if written.suffix.lower() in TRIANGLES:
+        fault = compare_fans(written, given, frame.scale, frame.origin, starts)
+    else:
+        fault = compare(written, given, frame.scale, frame.origin, Claims(starts))
     if fault:
         raise Unfit(f"{UNLIKE}: {fault}")
 

@@ -46,7 +46,7 @@ def run_mesh(inputs: Sequence[Path], out: Path, options: Options) -> tuple[int, 
 def write_left(text: bytes, out: Path, frame: Frame, is_compared: bool) -> str:
     """Writes what a run left, as a map or as a mesh, and tells what it has."""
     if out.suffix.lower() != MAP:
-        return f"{write_map(read_arrays(text), text, out, frame, is_compared)} scale {frame.scale}"
+        return f"{write_map(read_arrays(text), out, frame, is_compared)} scale {frame.scale}"
     write_whole(out, text)
     write_whole(beside(out), "".join(f"{line}\n" for line in frame.lines()))
     return f"{out} scale {frame.scale}"

@@ -4,7 +4,7 @@ A number is `digits` times ten to the power of `powers`. Where a file has more t
 are kept. What is no finite number has the power NONE."""
 from __future__ import annotations
 
-from collections.abc import Sequence
+from collections.abc import Callable, Sequence
 from dataclasses import dataclass
 from fractions import Fraction
 from typing import Any
@@ -81,20 +81,64 @@ def parse_words(words: Sequence[bytes] | NDArray[np.bytes_]) -> tuple[Decimals, 
 
     Words as `nan` and `inf`, and digits of other scripts or with a line between them, are none.
     """
-    if not len(words):
-        return Decimals(np.empty(0, np.int64), np.empty(0, np.int64)), np.empty(0, bool)
     packed = np.array(words, dtype=np.bytes_)
-    width = packed.dtype.itemsize
-    columns = np.ascontiguousarray(packed.view(np.uint8).reshape(len(packed), width).T)
-    lengths = np.char.str_len(packed)
-    digits, powers, is_wrong, is_long = scan_columns(columns)
-    is_wrong |= (lengths == 0) | (lengths != np.fromiter(map(len, words), np.int64, len(words)))
-    is_exact = True
-    for index in np.nonzero(is_long & ~is_wrong)[0].tolist():
-        digits[index], powers[index], is_kept = parse_long(words[index])
-        is_exact &= is_kept
-    digits[is_wrong], powers[is_wrong] = 0, NONE
+    letters = np.ascontiguousarray(packed).view(np.uint8).reshape(len(packed), packed.dtype.itemsize).T
+    return parse_letters(np.ascontiguousarray(letters), np.fromiter(map(len, words), np.int64, len(words)),
+                         lambda index: words[index])
+
+
+def parse_letters(
+    letters: NDArray[np.uint8], sizes: Whole, word: Callable[[int], bytes]
+) -> tuple[Decimals, NDArray[np.bool_]]:
+    """The same of the letters of words, a row for each place in a word with zeros behind its end, and how many each
+    has; `word` tells one of them."""
+    digits, powers, is_plain = scan_plain(letters, sizes)
+    is_wrong, is_exact = np.zeros(len(sizes), bool), True
+    others = np.flatnonzero(~is_plain)
+    if len(others):
+        columns = np.ascontiguousarray(letters[:, others])
+        digits[others], powers[others], wrong, is_long = scan_columns(columns)
+        wrong |= (sizes[others] == 0) | ((columns != 0).sum(axis=0) != sizes[others])
+        is_wrong[others] = wrong
+        for index in others[is_long & ~wrong].tolist():
+            digits[index], powers[index], is_kept = parse_long(word(index))
+            is_exact &= is_kept
+        digits[is_wrong], powers[is_wrong] = 0, NONE
     return trim(digits, powers, is_exact), is_wrong
+
+
+def scan_plain(letters: NDArray[np.uint8], sizes: Whole) -> tuple[Whole, Whole, NDArray[np.bool_]]:
+    """Reads words of a sign, some digits and a point: digits, powers, and which words are such."""
+    values = letters - np.uint8(ord("0"))
+    is_digit = values <= 9
+    is_point = letters == ord(".")
+    minus = letters[0] == ord("-") if len(letters) else np.zeros(len(sizes), bool)
+    is_signed = minus | (letters[0] == ord("+")) if len(letters) else minus
+    counts, points = is_digit.sum(axis=0, dtype=np.int64), is_point.sum(axis=0, dtype=np.int64)
+    is_plain = (counts + points + is_signed == sizes) & (points <= 1) & (counts > 0) & (counts <= MOST_DIGITS)
+    digits, powers = np.zeros(len(sizes), np.int64), np.zeros(len(sizes), np.int64)
+    behind = np.zeros(len(sizes), bool)
+    for row in range(len(letters)):
+        digits *= np.where(is_digit[row], 10, 1)
+        digits += values[row] * is_digit[row]
+        powers -= is_digit[row] & behind
+        behind |= is_point[row]
+    return np.where(minus, -digits, digits), powers, is_plain
+
+
+def whole_letters(letters: NDArray[np.uint8], sizes: Whole) -> Whole | None:
+    """The whole numbers that the letters of words are, where all are digits alone, and not many; else None."""
+    if len(letters) > MOST_DIGITS or not len(letters):
+        return None
+    values = letters - np.uint8(ord("0"))
+    is_digit = values <= 9
+    if (is_digit.sum(axis=0) != sizes).any() or not sizes.all():
+        return None
+    digits = values[0].astype(np.int64)
+    for value, is_one in zip(values[1:], is_digit[1:]):
+        digits *= np.where(is_one, 10, 1)
+        digits += value * is_one
+    return digits
 
 
 def scan_columns(columns: NDArray[np.uint8]) -> tuple[Whole, Whole, NDArray[np.bool_], NDArray[np.bool_]]:

@@ -8,17 +8,18 @@ from pathlib import Path
 
 import numpy as np
 
-from gmr.mesh.reread import SINGLE, Array, reread_map
+from gmr.arrays import Arrays
+from gmr.mesh.checks import Array
+from gmr.mesh.compare import SINGLE, points_of
 
 STL_HEAD, STL_FACET = 84, 50
 
 
-def compare_fans(written: Path, gmap: Path, scale: Fraction, origin: Sequence[Fraction] | None, starts: Array
+def compare_fans(written: Path, given: Arrays, scale: Fraction, origin: Sequence[Fraction] | None, starts: Array
                  ) -> str | None:
     """Why the triangles of a file aren't those of a map's faces, from the dart on at which each begins; None where
     they are. A point may be off by half a unit, and by what 32 bits round."""
-    alpha, places = reread_map(gmap)
-    wanted = places[list_fans(alpha, starts)].astype(np.float64)
+    wanted = points_of(given)[list_fans(given.alpha, starts)].astype(np.float64)
     found = read_triangles(written)
     if found.shape != wanted.shape:
         return f"the file has {len(found)} triangles, and the map's faces {len(wanted)}"

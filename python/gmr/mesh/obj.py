@@ -1,17 +1,15 @@
 """Meshes in Wavefront's OBJ: read with their polygons, and written."""
-from collections import Counter
-from itertools import chain
 from pathlib import Path
 
 import numpy as np
 
 from gmr.mesh.decimals import Whole, parse_words
-from gmr.mesh.model import Surface, Unfit, mix_colours, sizes_of
+from gmr.mesh.model import Surface, Unfit, mix_colours
 from gmr.mesh.printed import print_faces, print_points
-from gmr.mesh.texts import number_words, parse_places, parse_whole, read_bytes, show_word, split_lines
+from gmr.mesh.texts import STROKE, Words, read_bytes, show_word, spread
 
 WHITE = (255, 255, 255)
-PASSED = {b"l": "lines", b"p": "points"}
+PASSED = {"l": "lines", "p": "points"}
 WORDS = set(
     b"v vn vt vp f fo l p g o s mg usemtl mtllib usemap maplib cstype deg bmat step curv curv2 surf parm trim hole "
     b"scrv sp end con bevel c_interp d_interp lod shadow_obj trace_obj ctech stech call csh".split()
@@ -21,115 +19,96 @@ WORDS = set(
 def read_obj(path: Path) -> Surface:
     """The surface of a file. Points and faces are counted from 1; groups and curves are passed over, and so are lines
     and points, which are counted."""
-    statements, numbers = list_statements(read_bytes(path))
-    if not any(words[0] in WORDS for words in statements):
+    words = Words(read_bytes(path), goes_on=True)
+    heads = words.heads()
+    vertices, polygons = np.flatnonzero(heads == ord("v")), np.flatnonzero(heads == ord("f"))
+    if not len(vertices) and not len(polygons) and not any(words.word(place) in WORDS for place in words.rows.tolist()):
         raise Unfit("this is no OBJ: no line of it begins as one of OBJ does")
-    at: dict[bytes, list[int]] = {}
-    for index, words in enumerate(statements):
-        at.setdefault(words[0], []).append(index)
-    vertices, polygons = at.get(b"v", []), at.get(b"f", [])
-    lines = [numbers[index] for index in vertices]
-    places = parse_places([statements[index][1:4] for index in vertices], [f"line {line}: a point" for line in lines])
-    faces = [statements[index][1:] for index in polygons]
-    before = np.searchsorted(np.array(vertices, np.int64), np.array(polygons, np.int64))
-    face_lines = [numbers[index] for index in polygons]
-    surface = Surface(
-        places=places,
-        corners=read_corners(faces, before, face_lines),
-        sizes=sizes_of(faces),
+    passed = {name: int((heads == ord(head)).sum()) for head, name in PASSED.items()}
+    return Surface(
+        places=words.points(vertices, 1, lambda index: f"line {words.lines[vertices[index]]}: a point"),
+        corners=read_corners(words, polygons, np.searchsorted(vertices, polygons)),
+        sizes=words.sizes[polygons] - 1,
         first=1,
-        lines=face_lines,
-        point_lines=lines,
-        passed=dict(Counter({name: len(at[head]) for head, name in PASSED.items() if head in at})),
+        lines=words.lines[polygons],
+        point_lines=words.lines[vertices],
+        passed={name: count for name, count in passed.items() if count},
+        point_colours=read_point_colours(words, vertices),
+        face_colours=read_paints(words, polygons, path.parent) if b"mtllib" in words.data else None,
     )
-    surface.point_colours = read_point_colours([statements[index] for index in vertices])
-    surface.face_colours = read_paints(statements, path.parent) if b"mtllib" in at else None
-    return surface
 
 
-def list_statements(data: bytes) -> tuple[list[list[bytes]], list[int]]:
-    """The words of each statement, and the number of its line. A line that ends with a backslash goes on."""
-    lines = split_lines(data)
-    if b"\\" not in data:
-        return number_words(lines)
-    statements: list[list[bytes]] = []
-    numbers: list[int] = []
-    begun: list[bytes] = []
-    first = 0
-    for number, line in enumerate(lines, 1):
-        words = line.split()
-        goes_on = bool(words) and words[-1].endswith(b"\\")
-        first = first or number
-        begun += [*words[:-1], *filter(None, [words[-1][:-1]])] if goes_on else words
-        if not goes_on or number == len(lines):
-            statements += [begun] if begun else []
-            numbers += [first] if begun else []
-            begun, first = [], 0
-    return statements, numbers
-
-
-def read_corners(faces: list[list[bytes]], before: Whole, lines: list[int]) -> Whole:
+def read_corners(words: Words, polygons: Whole, before: Whole) -> Whole:
     """The corners of the statements `f`: each is a point's number, whatever stands after a stroke; negative ones count
     back from the last point before it."""
-    words = list(chain.from_iterable(faces))
-    if any(b"/" in word for word in words):
-        words = [word.partition(b"/")[0] for word in words]
-    sizes = sizes_of(faces)
-    whole, wrong = parse_whole(words)
+    sizes = words.sizes[polygons] - 1
+    places = spread(words.rows[polygons] + 1, sizes)
+    ends = words.ends[places]
+    strokes = np.append(np.flatnonzero(words.letters == STROKE), len(words.letters))
+    if len(strokes) > 1:
+        ends = np.minimum(ends, strokes[np.searchsorted(strokes, words.begins[places])])
+    whole, wrong = words.whole(places, ends)
     if wrong is not None:
-        face = int(np.searchsorted(np.cumsum(sizes), wrong, side="right"))
-        told = show_word(list(chain.from_iterable(faces))[wrong])
-        raise Unfit(f"line {lines[face]}: face {face + 1} has a corner {told}, which is no number of a point")
+        told = f"has a corner {show_word(words.word(places[wrong]))}, which is no number of a point"
+        raise Unfit(tell_corner(words, polygons, wrong, told))
     corners = np.where(whole > 0, whole - 1, np.repeat(before, sizes) + whole)
     is_wrong = (whole == 0) | (corners < 0)
     if is_wrong.any():
         worst = int(np.argmax(is_wrong))
-        face = int(np.searchsorted(np.cumsum(sizes), worst, side="right"))
-        raise Unfit(f"line {lines[face]}: face {face + 1} has the corner {whole[worst]}, and there is no such point")
+        raise Unfit(tell_corner(words, polygons, worst, f"has the corner {whole[worst]}, and there is no such point"))
     return corners
 
 
-def read_point_colours(statements: list[list[bytes]]) -> Whole | None:
+def tell_corner(words: Words, polygons: Whole, corner: int, told: str) -> str:
+    """The line for a corner of a face."""
+    face = int(np.searchsorted(np.cumsum(words.sizes[polygons] - 1), corner, side="right"))
+    return f"line {words.lines[polygons[face]]}: face {face + 1} {told}"
+
+
+def read_point_colours(words: Words, vertices: Whole) -> Whole | None:
     """The colours that stand after points, white where one has none; None where no point has one."""
-    coloured = [index for index, words in enumerate(statements) if len(words) >= 7]
-    if not coloured:
+    coloured = np.flatnonzero(words.sizes[vertices] >= 7)
+    if not len(coloured):
         return None
-    parts, is_wrong = parse_words(list(chain.from_iterable(statements[index][4:7] for index in coloured)))
+    parts, is_wrong = words.decimals((words.rows[vertices[coloured]][:, None] + np.arange(4, 7)).ravel())
     if is_wrong.any():
         raise Unfit(f"point {coloured[int(np.argmax(is_wrong)) // 3] + 1} has a colour that isn't three numbers")
-    found = np.full((len(statements), 3), 255, np.int64)
+    found = np.full((len(vertices), 3), 255, np.int64)
     found[coloured] = mix_colours(parts.floats().reshape(-1, 3))
     return found
 
 
-def read_paints(statements: list[list[bytes]], folder: Path) -> Whole | None:
+def read_paints(words: Words, polygons: Whole, folder: Path) -> Whole | None:
     """The colours that materials give to faces, white where none does; None where no face has one."""
     palette: dict[bytes, tuple[int, ...]] = {}
-    paints: list[tuple[int, ...] | None] = []
-    paint = None
-    for words in statements:
-        if words[0] == b"mtllib":
-            palette.update(read_materials(folder / b" ".join(words[1:]).decode("utf-8", "replace")))
-        elif words[0] == b"usemtl":
-            paint = b" ".join(words[1:])
-        elif words[0] == b"f":
-            paints.append(palette.get(paint) if paint is not None else None)
-    return np.array([one or WHITE for one in paints], np.int64).reshape(-1, 3) if any(paints) else None
+    used: list[tuple[int, bytes]] = [(-1, b"")]
+    lengths = words.ends[words.rows] - words.begins[words.rows]
+    for row in np.flatnonzero(lengths == len(b"mtllib")).tolist():
+        head, *name = words.row(row)
+        if head == b"mtllib":
+            palette.update(read_materials(folder / b" ".join(name).decode("utf-8", "replace")))
+        elif head == b"usemtl":
+            used.append((row, b" ".join(name)))
+    paints = [palette.get(name) for _, name in used]
+    at = np.searchsorted([row for row, _ in used], polygons) - 1
+    if not any(paints[one] for one in np.unique(at).tolist()):
+        return None
+    return np.array([one or WHITE for one in paints], np.int64)[at]
 
 
 def read_materials(path: Path) -> dict[bytes, tuple[int, ...]]:
     """The diffuse colour of each material of a library; none where the library isn't there."""
     try:
-        statements, _ = number_words(split_lines(read_bytes(path)))
+        words = Words(read_bytes(path))
     except (OSError, ValueError):
         return {}
     found: dict[bytes, tuple[int, ...]] = {}
     name = b""
-    for words in statements:
-        if words[0] == b"newmtl":
-            name = b" ".join(words[1:])
-        elif words[0] == b"Kd" and len(words) == 4:
-            parts, is_wrong = parse_words(words[1:])
+    for head, *rest in map(words.row, range(len(words))):
+        if head == b"newmtl":
+            name = b" ".join(rest)
+        elif head == b"Kd" and len(rest) == 3:
+            parts, is_wrong = parse_words(rest)
             if not is_wrong.any():
                 found[name] = tuple(mix_colours(parts.floats()).tolist())
     return found

@@ -1,5 +1,4 @@
 """Meshes in the Stanford format, PLY, as text or binary: read with their colours, and written as text."""
-from itertools import chain
 from pathlib import Path
 from typing import NamedTuple
 
@@ -9,7 +8,7 @@ from gmr.mesh.decimals import Decimals, Whole, parse_words, shorten, stack
 from gmr.mesh.model import Surface, Unfit, mix_colours
 from gmr.mesh.ply_rows import Column, Element, Property, read_binary_table
 from gmr.mesh.printed import print_faces, print_points
-from gmr.mesh.texts import number_words, parse_whole, show_words, split_lines
+from gmr.mesh.texts import Words, parse_whole, show_words, spread
 
 TYPES = {
     "char": "i1", "int8": "i1", "uchar": "u1", "uint8": "u1", "short": "i2", "int16": "i2", "ushort": "u2",
@@ -28,6 +27,7 @@ class Head(NamedTuple):
     order: str
     elements: list[Element]
     lines: int
+    remarks: int  # lines before its elements that are none of PLY, as where the word comment is left out
 
 
 def read_ply(path: Path) -> Surface:
@@ -44,7 +44,8 @@ def read_ply(path: Path) -> Surface:
     if lines:
         surface.lines, surface.point_lines = lines.get("face"), lines.get("vertex")
     edges = next((element.rows for element in head.elements if element.name == "edge"), 0)
-    surface.passed = {"lines": edges} if edges else {}
+    passed = {"lines": edges, "remarks": head.remarks}
+    surface.passed = {name: count for name, count in passed.items() if count}
     return surface
 
 
@@ -63,6 +64,7 @@ def read_head(text: str) -> Head:
     """What the head of a file tells."""
     order: str | None = None
     elements: list[Element] = []
+    remarks = 0
     lines = text.replace("\r\n", "\n").replace("\r", "\n").split("\n")
     for words in filter(None, map(str.split, lines[1:])):
         try:
@@ -75,14 +77,16 @@ def read_head(text: str) -> Head:
             elif words[0] == "property":
                 elements[-1].properties.append(Property(words[2], TYPES[words[1]], None))
             elif words[0] not in ("comment", "obj_info"):
-                raise KeyError
+                if elements or order is None:
+                    raise KeyError
+                remarks += 1
             if words[0] == "element" and (elements[-1].rows < 0 or "_" in words[2]):
                 raise KeyError
         except (IndexError, KeyError, ValueError):
             raise Unfit(f"PLY has a line in its head that isn't understood: {' '.join(words)}") from None
     if order is None:
         raise Unfit("this is no PLY: its head doesn't tell its format")
-    return Head(order, elements, len(lines))
+    return Head(order, elements, len(lines), remarks)
 
 
 def check_head(elements: list[Element]) -> None:
@@ -95,81 +99,86 @@ def check_head(elements: list[Element]) -> None:
         raise Unfit("PLY has no faces with the points at their corners")
 
 
-def read_text(body: bytes, head: Head) -> tuple[dict[str, Table], dict[str, list[int]]]:
+def read_text(body: bytes, head: Head) -> tuple[dict[str, Table], dict[str, Whole]]:
     """The columns of each element of a text, and the lines on which its rows stand."""
-    rows, numbers = number_words(split_lines(body, b""))
+    words = Words(body, b"")
+    words.lines += head.lines
     tables: dict[str, Table] = {}
-    lines: dict[str, list[int]] = {}
+    lines: dict[str, Whole] = {}
     place = 0
     for element in head.elements:
         behind = place + (element.rows if element.properties else 0)
-        if behind > len(rows):
-            raise Unfit(f"PLY tells of {element.rows} elements {element.name} and has {len(rows) - place}: "
+        if behind > len(words):
+            raise Unfit(f"PLY tells of {element.rows} elements {element.name} and has {len(words) - place}: "
                         "it is cut off")
-        lines[element.name] = [number + head.lines for number in numbers[place:behind]]
-        tables[element.name] = read_text_table(rows[place:behind], element, lines[element.name])
+        lines[element.name] = words.lines[place:behind]
+        tables[element.name] = read_text_table(words, np.arange(place, behind), element)
         place = behind
-    if place < len(rows):
-        line = f"on line {numbers[place] + head.lines}: {show_words(rows[place][:8])}"
+    if place < len(words):
+        line = f"on line {words.lines[place]}: {show_words(words.row(place)[:8])}"
         raise Unfit(f"PLY has more after the last element that its head tells of, {line}")
     return tables, lines
 
 
-def read_text_table(rows: list[list[bytes]], element: Element, lines: list[int]) -> Table:
+def read_text_table(words: Words, rows: Whole, element: Element) -> Table:
     """The columns of an element: of numbers, or of lists of them."""
     table: Table = {}
-    at = [0] * len(rows)
-    has_lists = False
+    at = words.rows[rows]
+    ends = at + words.sizes[rows]
     try:
         for item in element.properties:
+            check_places(at, ends)
             if item.length is None:
-                words = [row[place] for row, place in zip(rows, at)] if has_lists else [row[at[0]] for row in rows]
-                table[item.name] = Column(cast_words(words, item), None)
-                at = [place + 1 for place in at] if has_lists or not rows else [at[0] + 1] * len(rows)
+                table[item.name] = Column(cast_words(words, at, item), None)
+                at = at + 1
             else:
-                has_lists = True
-                sizes, wrong = parse_whole([row[place] for row, place in zip(rows, at)])
+                sizes, wrong = words.whole(at)
                 if wrong is not None or (sizes < 0).any():
-                    raise ValueError(wrong or 0)
-                ends = [place + 1 + size for place, size in zip(at, sizes.tolist())]
-                parts = [row[place + 1: end] for row, place, end in zip(rows, at, ends)]
-                table[item.name] = Column(cast_words(list(chain.from_iterable(parts)), item), sizes)
-                at = ends
-        short = next((index for index, (row, end) in enumerate(zip(rows, at)) if len(row) != end), None)
-        if short is not None:
-            raise ValueError(short)
-    except (IndexError, ValueError):
-        raise Unfit(tell_wrong_row(rows, element, lines)) from None
+                    raise ValueError
+                check_places(at + sizes, ends)
+                table[item.name] = Column(cast_words(words, spread(at + 1, sizes), item), sizes)
+                at = at + 1 + sizes
+        if (at != ends).any():
+            raise ValueError
+    except ValueError:
+        raise Unfit(tell_wrong_row(words, rows, element)) from None
     return table
 
 
-def tell_wrong_row(rows: list[list[bytes]], element: Element, lines: list[int]) -> str:
+def check_places(places: Whole, ends: Whole) -> None:
+    """ValueError where a word isn't in its row."""
+    if (places >= ends).any():
+        raise ValueError
+
+
+def tell_wrong_row(words: Words, rows: Whole, element: Element) -> str:
     """The line for the first row that isn't as the head tells."""
-    for index, row in enumerate(rows):
-        place = 0
+    for index, number in enumerate(rows.tolist()):
+        row, line, place = words.row(number), words.lines[number], 0
         for item in element.properties:
             count = 1
             if item.length:
                 size, wrong = parse_whole(row[place: place + 1])
                 count = int(size[0]) if wrong is None and len(size) else -1
                 place += 1
-            _, is_wrong = parse_words(row[place: place + max(count, 0)])
-            if count < 0 or place + count > len(row) or is_wrong.any():
-                return f"{element.name} {index} (line {lines[index]}) isn't as the head tells: {show_words(row[:8])}"
+            part = row[place: place + max(count, 0)]
+            is_wrong = not item.code.startswith("f") and parse_whole(part)[1] is not None
+            if is_wrong or count < 0 or place + count > len(row) or parse_words(part)[1].any():
+                return f"{element.name} {index} (line {line}) isn't as the head tells: {show_words(row[:8])}"
             place += count
         if place != len(row):
-            return f"{element.name} {index} (line {lines[index]}) has {len(row)} numbers, and not {place}"
+            return f"{element.name} {index} (line {line}) has {len(row)} numbers, and not {place}"
     return f"{element.name} has a number that isn't as the head tells"
 
 
-def cast_words(words: list[bytes], item: Property) -> Decimals | Whole:
+def cast_words(words: Words, places: Whole, item: Property) -> Decimals | Whole:
     """The numbers of words: decimals where the property has fractions, and whole ones else."""
     if item.code.startswith("f"):
-        numbers, is_wrong = parse_words(words)
+        numbers, is_wrong = words.decimals(places)
         if is_wrong.any():
             raise ValueError
         return numbers
-    whole, wrong = parse_whole(words)
+    whole, wrong = words.whole(places)
     if wrong is not None:
         raise ValueError
     return whole

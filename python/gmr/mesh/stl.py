@@ -69,8 +69,8 @@ def read_text(data: bytes) -> Surface:
             facet += place == 0
     if is_open or place:
         raise Unfit(f"STL ends within a solid, after {facet} facets: it is cut off")
-    where = [f"facet {at // 3} (line {lines[at // 3]}): a vertex" for at in range(len(words))]
-    return make_triangles(parse_places(words, where), lines)
+    places = parse_places(words, lambda at: f"facet {at // 3} (line {lines[at // 3]}): a vertex")
+    return make_triangles(places, lines)
 
 
 def write_stl(path: Path, surface: Surface) -> None:
