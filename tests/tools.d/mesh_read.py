@@ -60,6 +60,39 @@ def test_ply_binary():
         )
 
 
+AC3D = """AC3Db
+MATERIAL "" rgb 1 1 1 amb 0.2 0.2 0.2 emis 0 0 0 spec 0.5 0.5 0.5 shi 10 trans 0
+OBJECT world
+kids 1
+OBJECT poly
+numvert 3
+0 0 0
+1 0 0
+0 1.5 0
+numsurf 1
+SURF 0x0
+mat 0
+refs 3
+0 0 0
+1 0 0
+2 0 0
+kids 0
+"""
+
+
+def test_texts_in_utf_16_are_read_by_assimp_too():
+    for order in ("utf-16", "utf-8"):
+        found = read_written("a.ac", AC3D.encode(order))
+        assert len(found.faces) == 1 and (0, 1.5, 0) in found.points, order
+
+
+def test_a_remark_in_the_head_of_a_ply_is_passed_over_and_counted():
+    head = "ply\nformat ascii 1.0\nCreated by hand, source file:\nelement vertex 3\nproperty float x\nproperty float y\n"
+    tail = "property float z\nelement face 1\nproperty list uchar int vertex_indices\nend_header\n0 0 0\n1 0 0\n0 1 0\n"
+    found = read_written("a.ply", f"{head}{tail}3 0 1 2\n")
+    assert found.faces == [(0, 1, 2)] and found.passed == {"remarks": 1} and found.point_lines.tolist() == [11, 12, 13]
+
+
 def test_polygons_of_a_volume_are_passed_over():
     text = (
         "$MeshFormat\n2.2 0 8\n$EndMeshFormat\n$Nodes\n4\n1 0 0 0\n2 1 0 0\n3 0 1 0\n4 0 0 1\n$EndNodes\n$Elements\n3\n"

@@ -1,4 +1,5 @@
 """Meshes in the formats that Assimp's program reads: it turns them to PLY, which keeps their polygons."""
+import re
 import shutil
 import subprocess
 import tempfile
@@ -11,6 +12,8 @@ from gmr.mesh.model import Surface, Unfit
 from gmr.mesh.obj import read_obj
 from gmr.mesh.ply import read_ply
 
+UTF16 = (b"\xff\xfe", b"\xfe\xff")
+ENCODING = re.compile(r"""\A(.{0,100}?\bencoding\s*=\s*["'])utf-16(["'])""", re.IGNORECASE)
 LINE_ENDS = 2  # corners of what is no face, but a line or a point
 
 
@@ -44,11 +47,29 @@ def read_by_assimp(path: Path) -> Surface:
 def turn(path: Path, folder: Path, form: str, name: str) -> Path:
     """The file that Assimp makes of a mesh in this form; Unfit where it can't read the mesh."""
     turned = folder / name
-    words: list[str | Path] = [find_assimp(), "export", path.absolute(), turned, f"-f{form}"]
+    words: list[str | Path] = [find_assimp(), "export", as_utf8(path, folder).absolute(), turned, f"-f{form}"]
     done = subprocess.run(words, capture_output=True, check=False, stdin=subprocess.DEVNULL)
     if done.returncode != 0 or not turned.exists():
         raise Unfit(f"Assimp can't read it: {last_line(done.stdout + done.stderr, done.returncode)}")
     return turned
+
+
+def as_utf8(path: Path, folder: Path) -> Path:
+    """The file, or where it is a text in UTF-16, which Assimp misreads in some formats, a copy in UTF-8; that one has
+    the files beside it at its side, whose names it may tell."""
+    with path.open("rb") as file:
+        mark = file.read(2)
+    if mark not in UTF16:
+        return path
+    copy = folder / "copied" / path.name
+    copy.parent.mkdir(exist_ok=True)
+    text = path.read_bytes().decode("utf-16", "replace")
+    copy.write_text(ENCODING.sub(r"\1utf-8\2", text, count=1), encoding="utf-8", newline="")
+    for other in path.absolute().parent.iterdir():
+        beside = copy.parent / other.name
+        if not beside.exists():
+            beside.symlink_to(other)
+    return copy
 
 
 def pass_over_lines(surface: Surface) -> Surface:
