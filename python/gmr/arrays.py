@@ -70,7 +70,7 @@ def print_rows(names: Whole, alpha: Whole, columns: list[tuple[Whole, Whole]]) -
         line = [piece for one in pieces for piece in (numpy.broadcast_to(blank, (count, 1)), one)][1:]
         ends = numpy.full((count, 1), 10, numpy.uint8)
         flat = numpy.concatenate([*line, ends], axis=1).ravel()
-        printed.append(flat[flat != 0].tobytes())
+        printed.append(flat.compress(flat != 0).tobytes())
     return b"".join(printed)
 
 
@@ -213,7 +213,7 @@ def join_rows(version: int, dimension: int, embeds: list[Embed], stated: bytes |
 
 def load_arrays(path: str | os.PathLike[str]) -> Arrays:
     """The map of a file, judged by the program first: what it refuses is passed on as program.Refused."""
-    return read_arrays(program.put_of_file("show", path).encode())
+    return read_arrays(program.bytes_of_file("show", path))
 
 
 def least_of_orbits(steps: "Sequence[Whole]", count: int) -> "Whole":

@@ -44,7 +44,7 @@ def is_unproved() -> bool:
     return record.is_file() and record.read_text(encoding="utf-8").startswith("built UNPROVED\n")
 
 
-def answer(*words: str | os.PathLike[str]) -> tuple[int, str]:
+def ask(*words: str | os.PathLike[str]) -> tuple[int, bytes]:
     """Runs the program with the words: its status, and what it printed.
 
     Raises Refused where there is no program to run, or where it ended by a signal.
@@ -56,27 +56,43 @@ def answer(*words: str | os.PathLike[str]) -> tuple[int, str]:
         raise Refused(f"{command[0]} can't be run: {error.strerror}", UNRUN) from error
     if done.returncode < 0:
         raise Refused(f"{command[0]} was ended by signal {-done.returncode}", UNRUN)
-    return done.returncode, done.stdout.decode("utf-8", "replace")
+    return done.returncode, done.stdout
+
+
+def answer(*words: str | os.PathLike[str]) -> tuple[int, str]:
+    """The same as text."""
+    status, put = ask(*words)
+    return status, put.decode("utf-8", "replace")
+
+
+def bytes_or_refuse(*words: str | os.PathLike[str]) -> bytes:
+    """What the program prints for the words; Refused with its own first line where its status isn't 0."""
+    status, put = ask(*words)
+    if status:
+        raise refusal_of(status, put.decode("utf-8", "replace"))
+    return put
 
 
 def put_or_refuse(*words: str | os.PathLike[str]) -> str:
-    """What the program prints for the words; Refused with its own first line where its status isn't 0."""
-    status, text = answer(*words)
-    if status:
-        raise refusal_of(status, text)
-    return text
+    """The same as text."""
+    return bytes_or_refuse(*words).decode("utf-8", "replace")
 
 
-def put_of_file(command: str, path: str | os.PathLike[str]) -> str:
+def bytes_of_file(command: str, path: str | os.PathLike[str]) -> bytes:
     """What the program prints for a command over a file; Refused with its line and the file's name, or OSError where
     the file can't be read."""
     with told_with(path):
         try:
-            return put_or_refuse(command, path)
+            return bytes_or_refuse(command, path)
         except Refused as refused:
             if refused.status == UNREAD:
                 open(path, "rb").close()    # which says why
             raise
+
+
+def put_of_file(command: str, path: str | os.PathLike[str]) -> str:
+    """The same as text."""
+    return bytes_of_file(command, path).decode("utf-8", "replace")
 
 
 def refusal_of(status: int, text: str) -> Refused:

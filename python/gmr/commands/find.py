@@ -1,5 +1,6 @@
 """Finds darts of a map, so that a script can be written: at a place, of a cell, of an orbit, or of all cells."""
 import argparse
+import gc
 import json
 import re
 import string
@@ -14,6 +15,7 @@ from gmr.find.finder import CELLS, Finder, Found, Spot
 from gmr.maps import Value
 from gmr.progress import tell
 
+MANY_MADE = 1_000_000   # what is made before the collector looks, which would go over long lists again and again
 EXAMPLES = """examples:
   tools/find MAP --at 0 0 1                      the vertex at this point, or the nearest one
   tools/find MAP --at 0 0 1 --cell 2             the face on which this point lies, or the nearest one
@@ -119,12 +121,20 @@ def spell(value: Value) -> str:
     return f"({' '.join(map(str, value))})" if isinstance(value, tuple) else str(value)
 
 
+class Spelled(dict[Value, str]):
+    """Values as they stand in a script, each spelled when it is first met."""
+
+    def __missing__(self, value: Value) -> str:
+        self[value] = spell(value)
+        return self[value]
+
+
 def for_people(found: list[Found]) -> str:
     """A line for each that was found."""
-    lines = []
+    lines, spelled = [], Spelled()
     for one in found:
         apart = [] if one.distance is None else [f"{one.distance:g} away" if one.distance > 1e-9 else "at the place"]
-        values = [f"{name} {' '.join(map(spell, values))}" for name, values in one.values.items()]
+        values = [f"{name} {' '.join(map(spelled.__getitem__, values))}" for name, values in one.values.items()]
         parts = [*apart, f"darts {' '.join(map(str, one.darts))}", *(f"{k} {n}" for k, n in one.sizes.items()), *values]
         lines.append(f"{one.name}: {', '.join(parts)}\n")
     return "".join(lines)
@@ -153,6 +163,7 @@ def for_scripts(finder: Finder, found: list[Found], form: str) -> str:
 def main(words: Sequence[str]) -> int:
     """Finds and prints; 1 where nothing is found."""
     asked = parse(words)
+    gc.set_threshold(MANY_MADE)
     tell(f"reading {asked.map}")
     finder = Finder(load_arrays(asked.map), asked.points, asked.free)
     tell("looking for it")

@@ -1,5 +1,6 @@
 """Meshes in, meshes out: files of surfaces and volumes become maps, and maps such files."""
 import argparse
+import gc
 from collections.abc import Sequence
 from fractions import Fraction
 from pathlib import Path
@@ -15,6 +16,7 @@ from gmr.mesh.scale import Frame, parse_origin, parse_scale, read_frame
 from gmr.mesh.surface import Wish
 from gmr.progress import tell
 
+MANY_MADE = 1_000_000   # what is made before the collector looks, which would go over long lists again and again
 NOTES = """\
 examples
   tools/mesh import model.obj model.gmap
@@ -132,6 +134,7 @@ def parse_distance(word: str) -> Fraction:
 def main(given: Sequence[str]) -> int:
     """Does what the command line asks for, and tells of it: the status, 1 where lines of a script were refused."""
     words = read_words(given)
+    gc.set_threshold(MANY_MADE)
     source = words.map if words.command in ("export", "scale") else words.model
     with told_with(source):
         if words.command == "run":

@@ -2,6 +2,7 @@
 from __future__ import annotations
 
 from collections.abc import Iterable, Iterator, Sequence
+from itertools import chain, repeat
 from typing import NamedTuple, cast
 
 import numpy as np
@@ -10,7 +11,8 @@ from numpy.typing import NDArray
 from gmr.arrays import Arrays, least_of_orbits, read_arrays
 from gmr.distances import Place, distance_to, place_of, rim_of
 from gmr.find.bounds import far_from_segments, list_near
-from gmr.maps import Map, Value, walk
+from gmr.find.walks import first_of_each, walk_orbits, walk_rims
+from gmr.maps import Embed, Map, Value, walk
 
 CELLS = ("vertex", "edge", "face", "volume")
 MANY = ("vertices", "edges", "faces", "volumes")
@@ -47,8 +49,8 @@ def name_of(cell: int, count: int = 1) -> str:
 class Walked:
     """A map's neighbours by rows of darts, as what measures distances walks them."""
 
-    def __init__(self, alpha: list[list[int]]) -> None:
-        self.alpha = alpha
+    def __init__(self, alpha: Rows) -> None:
+        self.alpha = list(map(memoryview, np.ascontiguousarray(alpha)))  # type: ignore[arg-type]
 
     def orbit(self, labels: Iterable[int], row: int) -> list[int]:
         """The rows of an orbit, in the order of a walk."""
@@ -85,9 +87,9 @@ class Finder:
     def __init__(self, it: Map | Arrays, points: str | None = None, free: int | None = None) -> None:
         self.map = it if isinstance(it, Arrays) else read_arrays(it.text().encode())
         self.points_name, self.free = points, free
-        self.names: list[int] = self.map.names.tolist()
-        self.walked = Walked(self.map.alpha.tolist())
-        self._least: dict[tuple[int, ...], list[int]] = {}
+        self.names: Sequence[int] = memoryview(np.ascontiguousarray(self.map.names))
+        self.walked = Walked(self.map.alpha)
+        self._least: dict[tuple[int, ...], Rows] = {}
         self._values: dict[str, list[Value]] = {}
         self.check_label(free or 0)
 
@@ -124,12 +126,12 @@ class Finder:
         """The point of each dart."""
         return {dart: place_of(point) for dart, point in zip(self.names, self.point_rows().tolist())}
 
-    def least(self, labels: Iterable[int]) -> list[int]:
+    def least(self, labels: Iterable[int]) -> Rows:
         """For each row the least one of its orbit over the labels."""
         key = tuple(labels)
         if key not in self._least:
             steps = [self.map.alpha[label] for label in key]
-            self._least[key] = least_of_orbits(steps, len(self.names)).tolist()
+            self._least[key] = least_of_orbits(steps, len(self.names))
         return self._least[key]
 
     def least_of(self, labels: Iterable[int], rows: Sequence[int]) -> list[int]:
@@ -145,8 +147,7 @@ class Finder:
                     break
             else:
                 return [known[row] for row in rows]
-        least = self.least(key)
-        return [least[row] for row in rows]
+        return self.least(key)[list(rows)].tolist()  # type: ignore[no-any-return]
 
     def walk_some(self, labels: Sequence[int], row: int) -> list[int]:
         """The rows of an orbit, or more than are walked one by one."""
@@ -193,7 +194,7 @@ class Finder:
         count = len(self.names)
         if self.free is None:
             return np.ones(count, bool)
-        least = np.array(self.least(labels), np.int64)
+        least = self.least(labels)
         has_free = np.zeros(count, bool)
         has_free[least[self.map.alpha[self.free] == np.arange(count)]] = True
         return has_free[least]
@@ -223,29 +224,65 @@ class Finder:
         name = f"orbit <{' '.join(map(str, sorted(labels)))}> of dart {dart}"
         return [self.describe(name, rows)] if any(map(self.is_free, rows)) else []
 
-    def firsts(self, labels: tuple[int, ...]) -> Iterator[int]:
-        """The least rows of all orbits over the labels that have a dart that counts, ascending."""
-        least = np.array(self.least(labels), np.int64)
-        return iter(np.nonzero((least == np.arange(len(least))) & self.counted(labels))[0].tolist())
-
-    def prepare(self) -> None:
-        """Looks at all orbits and values at once, as one who lists all cells needs them."""
-        for cell in range(self.map.dimension + 1):
-            self.least(self.around(cell))
-        for embed in self.map.embeds:
-            self.least(embed.labels)
-            self.values_of(embed.name)
-
     def all_of(self, cell: int) -> list[Found]:
-        """All cells of a dimension, in the order of their least darts."""
-        self.prepare()
-        walks = (self.walk(cell, first) for first in self.firsts(self.around(cell)))
-        return [self.describe(f"{name_of(cell)} of dart {self.names[rows[0]]}", rows) for rows in walks]
+        """All cells of a dimension, in the order of their least darts, each as one alone is found."""
+        labels = self.around(cell)
+        least = self.least(labels)
+        firsts = np.flatnonzero((least == np.arange(len(least))) & self.counted(labels))
+        rows, sizes = self.walk_all(cell, firsts)
+        names, ends = self.map.names[rows].tolist(), np.cumsum(sizes).tolist()
+        owners = np.repeat(np.arange(len(firsts)), sizes)
+        counts = {name_of(number, 2): np.bincount(owners[self.firsts_in(owners, rows, self.around(number))],
+                                                  minlength=len(firsts)).tolist()
+                  for number in range(self.map.dimension + 1)}
+        values = {embed.name: self.values_in(owners, rows, embed) for embed in self.map.embeds}
+        leads = self.leads_in(rows, sizes)
+        what = name_of(cell)
+        return [
+            Found(f"{what} of dart {names[begin]}", lead, names[begin:end], dict(zip(counts, met)),
+                  dict(zip(values, had)), None)
+            for begin, end, lead, met, had in zip(
+                [0, *ends], ends, leads, zip(*counts.values()), zip(*values.values()) if values else repeat(()))
+        ]
+
+    def walk_all(self, cell: int, firsts: Rows) -> tuple[Rows, Rows]:
+        """The rows of cells from their first ones on, each as `walk` goes, and how many each has."""
+        along, around = self.map.alpha[:2]
+        rows = np.arange(len(along))
+        if cell != 2:
+            return walk_orbits([self.map.alpha[label] for label in self.around(cell)], firsts)
+        if self.map.dimension == 2 and (along != rows).all() and (around != rows).all():
+            return walk_rims(along, around, firsts)
+        walks = [self.walk(cell, first) for first in firsts.tolist()]
+        sizes = np.fromiter(map(len, walks), np.int64, len(walks))
+        return np.fromiter(chain.from_iterable(walks), np.int64, int(sizes.sum())), sizes
+
+    def firsts_in(self, owners: Rows, rows: Rows, labels: Sequence[int]) -> Bools:
+        """Which rows of cells are the first ones there of an orbit over the labels."""
+        return first_of_each(owners, self.least(labels)[rows])
+
+    def values_in(self, owners: Rows, rows: Rows, embed: Embed) -> Iterator[list[Value]]:
+        """The values of an embedding of each cell, each once an orbit, in the order in which they are met."""
+        is_first = self.firsts_in(owners, rows, embed.labels)
+        leads, at = np.unique(self.least(embed.labels)[rows[is_first]], return_inverse=True)
+        table = self.map.values[embed.name][leads].tolist()
+        known: list[Value] = [one[0] if len(one) == 1 else tuple(one) for one in table]
+        met = [known[place] for place in at.tolist()]
+        ends = np.cumsum(np.bincount(owners[is_first], minlength=1)).tolist() if len(owners) else []
+        return (met[begin:end] for begin, end in zip([0, *ends], ends))
+
+    def leads_in(self, rows: Rows, sizes: Rows) -> list[int]:
+        """The dart of each cell to give for a hook: the least one that counts."""
+        if not len(rows):
+            return []
+        asked = rows if self.free is None else np.where(self.map.alpha[self.free][rows] == rows, rows, len(self.names))
+        lead = np.minimum.reduceat(asked, np.cumsum(sizes) - sizes)
+        return self.map.names[lead].tolist()  # type: ignore[no-any-return]
 
     def parts(self) -> list[Found]:
         """The parts of the map that hang together, in the order of their least darts."""
         labels = tuple(range(self.map.dimension + 1))
-        least = np.array(self.least(labels), np.int64)
+        least = self.least(labels)
         counted = np.nonzero(self.counted(labels))[0]
         order = counted[np.argsort(least[counted], kind="stable")]
         begins = np.nonzero(np.diff(least[order]))[0] + 1
@@ -280,7 +317,7 @@ class Finder:
             ends = self.map.alpha[0][counted] if spot.cell else counted
             far = far_from_segments(padded[counted], padded[ends], place)
             return counted[far <= far.min() * (1 + 1e-6) + 1e-6].tolist()  # type: ignore[no-any-return]
-        least = np.array(self.least(labels), np.int64)[counted]
+        least = self.least(labels)[counted]
         return list_near(padded[counted], least, place).tolist()  # type: ignore[no-any-return]
 
     def common(self, spots: Sequence[Spot], within: float | None = None) -> list[Found]:

@@ -6,6 +6,8 @@ from typing import Any, NamedTuple
 
 import numpy as np
 
+from gmr.arrays import Arrays
+
 Array = Any  # of numpy
 EXACT = 2.0**48  # below it, sums of numbers of 64 bits are exact enough to tell half a unit
 
@@ -20,6 +22,23 @@ class Claims(NamedTuple):
     leaders: Array = None
     distance: float = 0.0
     cut: bool = False
+
+
+class Read(NamedTuple):
+    """What a file has: points, and the words or decimals that they are; how far these may be apart, as a part of them;
+    the corners of faces behind each other, how many each has, and of a volume the cell of each face."""
+
+    points: Array
+    words: Any
+    blur: float
+    corners: Array
+    sizes: Array
+    cells: Array = None
+
+    def exact(self, row: int, axis: int) -> Fraction:
+        """A coordinate of a point as the file has it."""
+        word = self.words[row][axis] if isinstance(self.words, list) else self.words.fraction((row, axis))
+        return Fraction(word.decode() if isinstance(word, bytes) else word)
 
 
 class Different(Exception):
@@ -37,7 +56,7 @@ def least(steps: Array) -> Array:
     return found
 
 
-def lay(read: Any, alpha: Array, starts: Array, is_import: bool) -> Array:
+def lay(read: Read, alpha: Array, starts: Array, is_import: bool) -> Array:
     """The point of the file at which each dart lies, when its faces are laid on the map's, each from a dart on."""
     if len(starts) != len(read.sizes):
         raise Different(f"the map has {len(starts)} faces, and the file {len(read.sizes)}")
@@ -62,6 +81,13 @@ def lay(read: Any, alpha: Array, starts: Array, is_import: bool) -> Array:
     return point
 
 
+def points_of(given: Arrays) -> Array:
+    """The points of a map's darts in space, None where it has none."""
+    over = tuple(range(1, given.dimension + 1)), "vec"
+    found = [given.values[one.name] for one in given.embeds if (one.labels, one.kind[:3]) == over]
+    return np.pad(found[0], ((0, 0), (0, 3 - found[0].shape[1]))) if found else None
+
+
 def check_leaders(claims: Claims, spots: Array, scale: float) -> Array:
     """For each point the one that it became; Different where that isn't near. `spots` are in units of the map."""
     if claims.leaders is None:
@@ -73,7 +99,7 @@ def check_leaders(claims: Claims, spots: Array, scale: float) -> Array:
     return leaders
 
 
-def leave_out(read: Any, kept: Array, leaders: Array, spots: Array) -> Any:
+def leave_out(read: Read, kept: Array, leaders: Array, spots: Array) -> Read:
     """What was read of a file with the faces or cells alone that are kept, without doubled corners and spikes;
     Different where a face that is left out isn't degenerate."""
     element = np.arange(len(read.sizes)) if read.cells is None else read.cells
@@ -125,7 +151,7 @@ def check_places(spots: Array, blur: float, point: Array, places: Array,
         raise Different(f"point {point[dart]} lies elsewhere in the map: dart {dart} at {places[dart].tolist()}")
 
 
-def check_joins(read: Any, point: Array, alpha: Array, face: Array, is_cut: bool) -> None:
+def check_joins(read: Read, point: Array, alpha: Array, face: Array, is_cut: bool) -> None:
     """Different where faces are joined otherwise than they share edges, or cells otherwise than they share faces."""
     number = np.searchsorted(np.flatnonzero(face == np.arange(len(face))), face)
     if read.cells is None:

@@ -7,13 +7,13 @@ from collections.abc import Sequence
 from fractions import Fraction
 from itertools import chain, islice
 from pathlib import Path
-from typing import Any, NamedTuple
+from typing import Any
 
 import numpy as np
 
 from gmr.arrays import Arrays, read_arrays
 from gmr.mesh.checks import (
-    Array, Claims, Different, check_joins, check_leaders, check_places, lay, least, leave_out,
+    Claims, Different, Read, check_joins, check_leaders, check_places, lay, least, leave_out, points_of,
 )
 from gmr.mesh.formats import read_mesh  # the parsers of other formats
 
@@ -21,23 +21,6 @@ CODES = dict(zip(b"char uchar short ushort int uint float double".split(), "bBhH
 CODES |= dict(zip(b"int8 uint8 int16 uint16 int32 uint32 float32 float64".split(), "bBhHiIfd"))
 ORDERS = {b"ascii": "", b"binary_little_endian": "<", b"binary_big_endian": ">"}
 SINGLE = 2.0**-24  # how far a number of 32 bits may be from the decimal that stands for it
-
-
-class Read(NamedTuple):
-    """What a file has: points, and the words or decimals that they are; how far these may be apart, as a part of them;
-    the corners of faces behind each other, how many each has, and of a volume the cell of each face."""
-
-    points: Array
-    words: Any
-    blur: float
-    corners: Array
-    sizes: Array
-    cells: Array = None
-
-    def exact(self, row: int, axis: int) -> Fraction:
-        """A coordinate of a point as the file has it."""
-        word = self.words[row][axis] if isinstance(self.words, list) else self.words.fraction((row, axis))
-        return Fraction(word.decode() if isinstance(word, bytes) else word)
 
 
 def compare(model: Path, gmap: Path | Arrays, scale: Fraction, origin: Sequence[Fraction] | None = None,
@@ -72,13 +55,6 @@ def check(read: Read, given: Arrays, scale: Fraction, origin: Sequence[Fraction]
         raise Different("the points of the file aren't the vertices of the map")
 
 
-def points_of(given: Arrays) -> Array:
-    """The points of a map's darts in space, None where it has none."""
-    over = tuple(range(1, given.dimension + 1)), "vec"
-    found = [given.values[one.name] for one in given.embeds if (one.labels, one.kind[:3]) == over]
-    return np.pad(found[0], ((0, 0), (0, 3 - found[0].shape[1]))) if found else None
-
-
 def read_file(path: Path, parsed: Any) -> Read:
     """What a file has: of other formats than OBJ, OFF and PLY what the parser reads, or has read."""
     suffix, text = path.suffix.lower(), path.read_bytes()
@@ -86,7 +62,8 @@ def read_file(path: Path, parsed: Any) -> Read:
         return read_ply(text)
     if suffix in (".obj", ".off"):
         text = text.decode("utf-16", "replace").encode() if text[:2] in (b"\xff\xfe", b"\xfe\xff") else text
-        text = re.sub(rb"\A\xef\xbb\xbf|#[^\n]*|\\[ \t]*\n+", b" ", text.replace(b"\r", b"\n"))
+        text = re.sub(rb"#[^\n]*", b"", text.removeprefix(b"\xef\xbb\xbf").replace(b"\r", b"\n"))
+        text = re.sub(rb"\\[ \t]*\n+", b" ", text)
         rows = [row for row in map(bytes.split, text.split(b"\n")) if row]
         return read_obj(rows, b"/" in text) if suffix == ".obj" else read_off(rows)
     mesh = parsed or read_mesh(path, drops=True)
@@ -109,7 +86,8 @@ def read_obj(rows: list[list[bytes]], has_strokes: bool) -> Read:
     faces = [row[1:] for row in rows if row[0] == b"f"]
     faces = [[word.partition(b"/")[0] for word in face] for face in faces] if has_strokes else faces
     read = gather([row[1:4] for row in rows if row[0] == b"v"], faces)
-    above = np.cumsum([row[0] == b"v" for row in rows])[[row[0] == b"f" for row in rows]].repeat(read.sizes)
+    above = 0 if read.corners.min(initial=0) >= 0 else \
+        np.cumsum([row[0] == b"v" for row in rows])[[row[0] == b"f" for row in rows]].repeat(read.sizes)
     return read._replace(corners=np.where(read.corners < 0, above + read.corners, read.corners - 1))
 
 
@@ -122,29 +100,46 @@ def read_off(rows: list[list[bytes]]) -> Read:
 
 
 def read_ply(data: bytes) -> Read:
-    """The elements vertex and face, word by word of a text, and else number by number."""
+    """The elements vertex and face, line by line of a text, and else number by number."""
     head, body = re.split(rb"end_header(?:\r\n|\r|[^\n]*\n)", data, maxsplit=1)
     order = ORDERS[head.split(b"format", 1)[1].split()[0]]
-    stream, words = io.BytesIO(body), iter(() if order else body.split())
-
-    def take(code: str, count: int) -> Sequence[Any]:
-        """So many numbers more."""
-        form = f"{order}{count}{code}"
-        return struct.unpack(form, stream.read(struct.calcsize(form))) if order else list(islice(words, count))
-
+    stream, lines = io.BytesIO(body), iter([] if order else filter(None, map(bytes.split, re.split(rb"[\r\n]", body))))
     found, blur = {}, 0.0
     for element in re.split(rb"^element", head.replace(b"\r", b"\n"), flags=re.MULTILINE)[1:]:
         (name, count), *told = [line.split() for line in element.split(b"\n") if line.strip()]
         props = [line[1:] for line in told if line[0] == b"property"]
-        codes, names = [CODES[prop[-2]] for prop in props], [prop[-1] for prop in props]
-        if b"list" in [prop[0] for prop in props] or order:
-            lengths = [CODES[prop[1]] if prop[0] == b"list" else "" for prop in props]
-            rows = [[take(code, int(take(length, 1)[0])) if length else take(code, 1)[0]
-                     for code, length in zip(codes, lengths)] for _ in range(int(count) if props else 0)]
+        rows: Any = range(int(count)) if props else ()
+        if order:
+            rows = [unpack(stream, props, order) for _ in rows]
         else:
-            rows = list(zip(*[iter(take("", int(count) * len(props)))] * len(props)))
+            rows = list(islice(lines, len(rows)))
+            rows = [split(row, props) for row in rows] if b"list" in [prop[0] for prop in props] else rows
+        names = [prop[-1] for prop in props]
         wanted = (b"x", b"y", b"z") if name == b"vertex" else (b"vertex_indices", b"vertex_index")
         at = [names.index(one) for one in wanted if one in names]
-        found[name] = [[row[place] for place in at] for row in rows]
-        blur = SINGLE if order and name == b"vertex" and codes[at[0]] == "f" else blur
+        found[name] = [[row[place] for place in at] for row in rows] if at else []
+        blur = SINGLE if order and name == b"vertex" and CODES[props[at[0]][0]] == "f" else blur
     return gather(found[b"vertex"], [row[0] for row in found[b"face"]], blur)
+
+
+def unpack(stream: io.BytesIO, props: list[list[bytes]], order: str) -> list[Any]:
+    """The numbers of a row of a binary file by its properties, those of a list together."""
+    row: list[Any] = []
+    for kind, *codes, _ in props:
+        forms = [order + CODES[code] for code in codes or [kind]]
+        count = struct.unpack(forms[0], stream.read(struct.calcsize(forms[0])))[0] if codes else 1
+        form = f"{order}{count}{forms[-1][-1]}"
+        numbers = struct.unpack(form, stream.read(struct.calcsize(form)))
+        row.append(numbers if codes else numbers[0])
+    return row
+
+
+def split(row: list[bytes], props: list[list[bytes]]) -> list[Any]:
+    """The same of a row of a text."""
+    found: list[Any] = []
+    at = 0
+    for kind, *codes, _ in props:
+        count = int(row[at]) if codes else 0
+        found.append(row[at + 1: at + 1 + count] if codes else row[at])
+        at += 1 + count
+    return found

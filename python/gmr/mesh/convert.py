@@ -97,7 +97,7 @@ def write_import(model: Path, out: Path, options: Options) -> Imported:
 def check_map(out: Path, written: Path, text: bytes) -> None:
     """Refused where the program can't be asked, or reads another map from what was written than this text's."""
     try:
-        if program.put_or_refuse("show", written).encode() != text:
+        if program.bytes_or_refuse("show", written) != text:
             raise program.Refused("another map", 0)
     except program.Refused as refusal:
         if refusal.status in PROGRAM_FAILED:
@@ -201,9 +201,9 @@ def export_map(path: Path, out: Path, frame: Frame | None, is_compared: bool = T
     check_written(out)
     check_apart(out, [path])
     program.find_program()
-    text = program.put_or_refuse("show", path).encode()
+    given = read_arrays(program.bytes_or_refuse("show", path))
     known = frame or read_frame(path)
-    told = write_map(read_arrays(text), out, known or ONE, is_compared)
+    told = write_map(given, out, known or ONE, is_compared)
     how = f" scale {(known or ONE).scale}"
     return f"exported {told}{how}" + ("" if known else ", as no file tells one: --scale or --scale-of gives it")
 

@@ -9,8 +9,8 @@ from pathlib import Path
 import numpy as np
 
 from gmr.arrays import Arrays
-from gmr.mesh.checks import Array
-from gmr.mesh.compare import SINGLE, points_of
+from gmr.mesh.checks import Array, points_of
+from gmr.mesh.compare import SINGLE
 
 STL_HEAD, STL_FACET = 84, 50
 
