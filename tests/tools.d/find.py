@@ -79,6 +79,17 @@ def test_every_list_has_each_dart_once():
         equal([one.dart for one in found], [orbit[0] for orbit in it.cells(cell)])
 
 
+def test_a_list_has_each_cell_as_it_is_found_alone():
+    for name in (SQUARE, HEXAHEDRA, "examples/squares.gmap"):
+        it = read(name)
+        for free in (None, 2):
+            finder = Finder(it, None, free)
+            for cell in range(it.dimension + 1):
+                alone = [one for orbit in it.cells(cell) for one in Finder(it, None, free).cell_of(cell, orbit[0])]
+                equal(finder.all_of(cell), alone)
+                assert all(type(dart) is int for one in alone for dart in one.darts)
+
+
 def test_an_orbit_goes_as_the_program_walks():
     status, put, _ = find(SQUARE, "--orbit", "0 1", "3", "--json")
     equal((status, json.loads(put)[0]["darts"]), (0, [3, 2, 4, 1, 5, 0, 6, 7]))

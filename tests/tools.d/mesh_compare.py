@@ -10,12 +10,12 @@ import numpy as np
 from gmr.arrays import read_arrays
 from gmr.mesh.checks import Claims
 from gmr.mesh.compare import compare
-from gmr.mesh.convert import Options, compare_written, convert_mesh, take_mesh, write_import
+from gmr.mesh.convert import Options, compare_written, convert_mesh, take_mesh, write_import, write_map
 from gmr.mesh.formats import VOLUME_FORMATS, write_mesh
-from gmr.mesh.model import Surface, Unfit
+from gmr.mesh.model import Surface, Unfit, Volume, make_polyhedron
 from gmr.mesh.scale import Frame
 from gmr.mesh.surface import Wish
-from mesh import ROOT, HOUSE_COLOURS, HOUSE_FACES, HOUSE_POINTS, block, house, scratch
+from mesh import HOUSE_COLOURS, HOUSE_FACES, HOUSE_POINTS, ONE, ROOT, block, house, make_map, scratch
 
 SCALE = Fraction(100)
 UNCHECKED = Options(is_checked=False)
@@ -193,6 +193,18 @@ def test_what_is_written_is_compared():
             assert write_and_plant(folder / f"a{suffix}", lambda mesh: None) == "", suffix
             for plant in (turn_face, exchange, move, part):
                 assert write_and_plant(folder / f"a{suffix}", plant), (suffix, plant.__name__)
+
+
+def test_what_is_rounded_or_not_compared_is_told():
+    roofed = Volume.of(points=house().points, cells=[make_polyhedron([*HOUSE_FACES, (0, 1, 2, 3)])])
+    far = Surface.of(points=[(1e18, 0, 0), (0, 1e18, 0), (0, 0, 1)], faces=[(0, 1, 2)])
+    with scratch() as folder:
+        given = read_arrays(make_map(roofed, SCALE).text().encode())
+        assert write_map(given, folder / "a.vtk", Frame(SCALE), True) == "points 10 cells 1 untyped 1 uncompared"
+        assert write_map(given, folder / "a.vtu", Frame(SCALE), True) == "points 10 cells 1 untyped 1"
+        given = read_arrays(make_map(far, ONE).text().replace(str(10**18), str(10**18 + 7)).encode())
+        assert write_map(given, folder / "a.vtk", Frame(ONE), True) == "points 3 faces 1 rounding 7"
+        assert write_map(given, folder / "a.ply", Frame(ONE), True) == "points 3 faces 1"
 
 
 def test_binary_files_are_read_again():

@@ -87,8 +87,8 @@ def test_texts_in_utf_16_are_read_by_assimp_too():
 
 
 def test_a_remark_in_the_head_of_a_ply_is_passed_over_and_counted():
-    head = "ply\nformat ascii 1.0\nCreated by hand, source file:\nelement vertex 3\nproperty float x\nproperty float y\n"
-    tail = "property float z\nelement face 1\nproperty list uchar int vertex_indices\nend_header\n0 0 0\n1 0 0\n0 1 0\n"
+    head = "ply\nformat ascii 1.0\nCreated by hand, source file:\nelement vertex 3\nproperty float x\n"
+    tail = "property float y\nproperty float z\nelement face 1\nproperty list uchar int vertex_indices\nend_header\n0 0 0\n1 0 0\n0 1 0\n"
     found = read_written("a.ply", f"{head}{tail}3 0 1 2\n")
     assert found.faces == [(0, 1, 2)] and found.passed == {"remarks": 1} and found.point_lines.tolist() == [11, 12, 13]
 

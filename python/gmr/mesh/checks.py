@@ -168,8 +168,12 @@ def check_pairs(point: Array, alpha: Array, label: int, element: Array, is_cut: 
     """Different where two darts that have their ends and an element alike aren't neighbours, or others are."""
     step, end = alpha[label], point[alpha[0]]
     key = (element * (int(point.max()) + 1) + point) * (int(point.max()) + 1) + end
+    is_free = step == np.arange(len(step))
+    kinds = 1 + np.count_nonzero(np.diff(np.sort(key)))
+    if (key[step] == key).all() and 2 * kinds == len(key) + is_free.sum():
+        return  # neighbours are alike, and there are as many pairs and free darts as kinds
     _, group, counts = np.unique(key, return_inverse=True, return_counts=True)
-    count, is_free = counts[group], step == np.arange(len(step))
+    count = counts[group]
     wrong = (key[step] != key) | (is_free == (count == 2)) | ((count > 2) & (not is_cut))
     if is_cut and label == 3:
         wrong &= ~is_free

@@ -20,7 +20,7 @@ from gmr.mesh.formats import read_mesh  # the parsers of other formats
 CODES = dict(zip(b"char uchar short ushort int uint float double".split(), "bBhHiIfd"))
 CODES |= dict(zip(b"int8 uint8 int16 uint16 int32 uint32 float32 float64".split(), "bBhHiIfd"))
 ORDERS = {b"ascii": "", b"binary_little_endian": "<", b"binary_big_endian": ">"}
-SINGLE = 2.0**-24  # how far a number of 32 bits may be from the decimal that stands for it
+SINGLE, DOUBLE = 2.0**-24, 2.0**-53  # how far numbers of 32 and 64 bits may be from the decimals that stand for them
 
 
 def compare(model: Path, gmap: Path | Arrays, scale: Fraction, origin: Sequence[Fraction] | None = None,
@@ -68,7 +68,7 @@ def read_file(path: Path, parsed: Any) -> Read:
         return read_obj(rows, b"/" in text) if suffix == ".obj" else read_off(rows)
     mesh = parsed or read_mesh(path, drops=True)
     cells = getattr(mesh, "cells", ())
-    read = gather([], [face for cell in cells for face in cell.faces])
+    read = gather([], [face for cell in cells for face in cell.faces], 0 if parsed else DOUBLE)
     read = read._replace(points=mesh.places.floats(), words=mesh.places)
     owners = [number for number, cell in enumerate(cells) for _ in cell.faces]
     return read._replace(cells=np.array(owners)) if cells else read._replace(corners=mesh.corners, sizes=mesh.sizes)

@@ -209,11 +209,12 @@ def export_map(path: Path, out: Path, frame: Frame | None, is_compared: bool = T
 
 
 def write_map(given: Arrays, out: Path, frame: Frame, is_compared: bool) -> str:
-    """Writes the mesh of a map, and tells what it has."""
+    """Writes the mesh of a map, and tells what it has, and what of it was rounded or isn't compared."""
     taken = take_mesh(given, frame, writes_volumes(out))
+    is_uncompared = is_compared and not can_compare(out, taken)
     with write_beside(out) as written:
         write_mesh(written, taken.mesh)
-        if is_compared:
+        if is_compared and not is_uncompared:
             compare_written(written, given, frame, taken)
     told = f"points {len(taken.mesh.places)} {tell_elements(taken.mesh)}"
     if out.suffix.lower() in TRIANGLES and isinstance(taken.mesh, Surface):
@@ -221,15 +222,22 @@ def write_map(given: Arrays, out: Path, frame: Frame, is_compared: bool) -> str:
         off = float(np.abs(floats.astype(np.float32).astype(np.float64) - floats).max(initial=0))
         triangles = int((taken.mesh.sizes - 2).sum())
         told += f" triangles {triangles} rounding {tell_rounding(off)}"
-    return told
+    elif writes_volumes(out):
+        off = taken.mesh.places.rounding()
+        told += f" rounding {tell_rounding(off)}" if off else ""
+    return told + (" uncompared" if is_uncompared else "")
+
+
+def can_compare(out: Path, taken: Taken) -> bool:
+    """Whether the certificate can look at a written mesh: not where cells without a type stand as their faces."""
+    is_whole = isinstance(taken.mesh, Surface) or not count_untyped(taken.mesh.cells)
+    return is_whole or out.suffix.lower() == ".vtu"
 
 
 def compare_written(written: Path, given: Arrays, frame: Frame, taken: Taken) -> None:
     """Unfit where the certificate finds that a written mesh isn't that of the map."""
     starts = taken.starts
     if isinstance(taken.mesh, Volume) and count_untyped(taken.mesh.cells):
-        if written.suffix.lower() != ".vtu":
-            return
         starts = order_polyhedra(taken.mesh, starts)
     if written.suffix.lower() in TRIANGLES:
         fault = compare_fans(written, given, frame.scale, frame.origin, starts)

@@ -58,6 +58,12 @@ class Decimals:
         """The least power of ten at which all are whole when they are multiplied by it: 0 or more."""
         return max(0, -int(self.powers[self.is_number].min(initial=0)))
 
+    def rounding(self) -> float:
+        """How far the numbers of 64 bits are from these at most, in their units."""
+        floats, long = self.floats(), np.argwhere((np.abs(self.digits) > 2**53) & self.is_number)
+        off = (abs(Fraction(floats[at]) - self.fraction(at)) for at in map(tuple, long.tolist()))
+        return float(max(off, default=0))
+
     def fraction(self, index: tuple[int, ...]) -> Fraction:
         """One of the numbers."""
         return Fraction(int(self.digits[index])) * Fraction(10) ** int(self.powers[index])
