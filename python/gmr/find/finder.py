@@ -314,8 +314,9 @@ class Finder:
         padded[:, : points.shape[1]] = points
         place = np.array(spot.place)
         if spot.cell < 2:
-            ends = self.map.alpha[0][counted] if spot.cell else counted
-            far = far_from_segments(padded[counted], padded[ends], place)
+            ends = self.map.alpha[0][counted]
+            far = (far_from_segments(padded[counted], padded[ends], place) if spot.cell
+                   else np.linalg.norm(padded[counted] - place, axis=1))
             return counted[far <= far.min() * (1 + 1e-6) + 1e-6].tolist()  # type: ignore[no-any-return]
         least = self.least(labels)[counted]
         return list_near(padded[counted], least, place).tolist()  # type: ignore[no-any-return]
