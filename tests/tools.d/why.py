@@ -176,6 +176,26 @@ def test_the_line_that_removed_a_dart() -> None:
     assert "and the map is empty" in said and "Line 1 removed it." in said, said
 
 
+def test_few_prefixes_are_run() -> None:
+    """Of the lines before a refused one those that removed nothing aren't looked at, and nothing is run for the map at
+    the start: so one line that could have removed a dart is found by the one run to where it is missing."""
+    book = ("book 1 dim 1 rule drop left a <0> hook a -1- a right "
+            "rule cut left a <> hook b <> a -0- b right a <> b <> a -0- a b -0- b")
+    edges = "gmap 1 dim 1 darts 6 0 1 0 1 0 1 2 3 2 3 2 3 4 5 4 5 4 5"
+    with tempfile.TemporaryDirectory() as folder:
+        files = {role: str(Path(folder, role)) for role in ("MAP", "BOOK", "SCRIPT")}
+        texts = edges, book, "apply cut 0 apply cut 4 apply drop 2 apply drop 2 apply drop 7 apply drop 3"
+        for path, text in zip(files.values(), texts):
+            Path(path).write_text(text, encoding="ascii")
+        run = Run(files, answer("run", *files.values(), Path(folder, "out"))[1], Path(folder))
+        runs: list[str] = []
+        before = run.prefixes.run
+        run.prefixes.run = lambda text: (runs.append(text), before(text))[1]    # type: ignore[method-assign]
+        said = {at: run.tell(at, 1)[0] for at in run.refused()}
+    assert said[3][-1] == said[5][-1] == "Line 3 removed it." and "next name is 6" in said[4][-1], said
+    assert len(runs) == 3, runs
+
+
 def check_if_known(script: str, parts: list[str]) -> None:
     """Looks for the parts in what is said of a script, unless the program doesn't know a statement of it."""
     said = why(EDGE, SPLIT + " rule free left a <> hook a -1- a right a <> a -1- a", script)[1]

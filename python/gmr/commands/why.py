@@ -106,7 +106,7 @@ class Run:
         """What the lines around an application have to do with its refusal."""
         statements, lines = self.prefixes.statements, []
         if cause[0] == "no-dart":
-            line = self.prefixes.removing_line(at, statements[at].hooks[int(cause[2])])
+            line = self.prefixes.removing_line(at, statements[at].hooks[int(cause[2])], self.outcomes)
             lines += [f"Line {line + 1} removed it." if line is not None else ""]
         if is_in_group(statements, at):
             lines.append("It stands in a group: what is left of the group is skipped, and its `end` takes back what "

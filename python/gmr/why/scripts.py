@@ -7,7 +7,7 @@ from gmr.expressions import show
 from gmr.maps import WIDTHS, Map, Value
 from gmr.places import tell_place
 from gmr.program import answer
-from gmr.scripts import Statement, read_script, text_before
+from gmr.scripts import Outcome, Statement, read_script, text_before
 from gmr.why.lazy import LazyMap
 
 
@@ -67,6 +67,7 @@ class Prefixes:
         self.kept: tuple[int, LazyMap] | None = None
         self.start = folder / "start.gmap"
         answer("migrate", amap, self.start)     # the second version keeps the next name
+        self.first: LazyMap | None = None
 
     def run(self, text: str) -> tuple[list[str], LazyMap]:
         """The report of a script's text, and the map that it leaves, of which rows are read when they are asked for."""
@@ -76,7 +77,11 @@ class Prefixes:
         return said.splitlines(), LazyMap(out.read_text(encoding="ascii"))
 
     def before(self, at: int) -> LazyMap:
-        """The map that a statement meets. The lines before it are run once, as long as no other is asked for."""
+        """The map that a statement meets. The lines before it are run once, as long as no other but the first is asked
+        for."""
+        if at == 0:
+            self.first = self.first or LazyMap(self.start.read_text(encoding="ascii"))
+            return self.first
         if self.kept is None or self.kept[0] != at:
             self.kept = at, self.run(text_before(self.text, self.statements, at))[1]
         return self.kept[1]
@@ -93,15 +98,21 @@ class Prefixes:
         return len(refused), [(leads[place], said[place][3:], self.run(before + "".join(lines[:place]))[1])
                               for place in refused[:most]]
 
-    def removing_line(self, at: int, dart: int) -> int | None:
+    def removing_line(self, at: int, dart: int, outcomes: list[Outcome]) -> int | None:
         """The line, from 0, that removed a dart which was there at the start and isn't there at a statement."""
-        least, greatest = 0, at
         if dart not in self.before(0).alpha[0] or dart in self.before(at).alpha[0]:
             return None
-        while greatest - least > 1:
+        lines = [line for line in range(at) if may_remove(self.statements[line], outcomes[line])]
+        least, greatest = 0, len(lines) - 1
+        while least < greatest:
             middle = (least + greatest) // 2
-            if dart in self.before(middle).alpha[0]:
-                least = middle
+            if dart in self.before(lines[middle] + 1).alpha[0]:
+                least = middle + 1
             else:
                 greatest = middle
-        return least
+        return lines[least]
+
+
+def may_remove(statement: Statement, outcome: Outcome) -> bool:
+    """Whether darts may have gone by a statement: by an application that says so, or by what isn't one."""
+    return statement.word != "apply" or outcome.word == "done" and outcome.rest.split()[-1] != "0"
