@@ -96,12 +96,15 @@ def test_random_rules() -> None:
     these 25 are accepted once what follows from their left sides is written on both sides, and of the rest 3 lie over
     some orbits alone."""
     tally: Counter[tuple[str, str]] = Counter()
+    darts = 0
     for name in ("refused2a.gbook", "refused2b.gbook", "refused3.gbook"):
         for book, rule, fault in rules_of(name):
             found = search(rule, book.dimension, book.embeds, fault)
             tally[fault[:3], verdict(book, rule, fault, found)] += 1
+            darts += len(found.found.candidate.map.darts) if found.found else 0
     assert tally == {("arc", "breaks"): 250, ("arc", "nowhere"): 5, ("arc", "implied"): 2, ("squ", "breaks"): 99,
                      ("squ", "nowhere"): 9, ("squ", "implied"): 23, ("squ", "bound"): 3, ("squ", "safe"): 9}, tally
+    assert darts == 1038, darts     # of all these maps, each as small as it was found
 
 
 def verdict(book: Book, rule: Rule, fault: str, found: Search) -> str:

@@ -247,13 +247,26 @@ def search_by(ways: Ways, rule: Rule, dimension: int, embeds: list[Embed]) -> Se
             continue
         if best:
             pattern.part.most = len(best.candidate.map.darts) - 1
-        budget = Budget(MOST_CHOICES)
         fits = next(pattern.part.close(Budget(MOST_CHOICES)), pattern) is None
-        pattern = laid_again(pattern) if fits else pattern
         fitting += fits
-        best = next(ways(pattern, embeds, budget), best)
-        is_whole &= not budget.is_short
+        found, is_short = smallest_over(laid_again(pattern) if fits else pattern, embeds, ways)
+        best, is_whole = found or best, is_whole and not is_short
     return Search(best, fitting, clashing, is_whole, clash)
+
+
+def smallest_over(pattern: Pattern, embeds: list[Embed], ways: Ways) -> tuple[Found | None, bool]:
+    """The counterexample over an orbit with the fewest darts, and whether choices were left out: whenever there is one,
+    a smaller one is looked for."""
+    best = None
+    while True:
+        budget = Budget(MOST_CHOICES)
+        found = next(ways(pattern, embeds, budget), None)
+        if found is None:
+            return best, budget.is_short
+        best, pattern = found, laid_again(pattern)
+        pattern.part.most = len(found.candidate.map.darts) - 1
+        if len(pattern.part.near) > pattern.part.most:
+            return best, False
 
 
 def laid_again(pattern: Pattern) -> Pattern:
