@@ -20,10 +20,12 @@ MOST_KEPT_BYTES = 256 * 2**20   # of maps that are kept, before every second one
 
 
 class Piece(NamedTuple):
-    """Lines that were tried behind a script: what the report says of each, and the file of the map that they leave."""
+    """Lines that were tried behind a script: what the report says of each, the file of the map that they leave, and
+    what the report says behind them."""
 
     report: list[str]
     map: Path
+    rest: list[str] = []
 
 
 class Session:
@@ -69,7 +71,7 @@ class Session:
         base = self._base(len(self.lines), words.count("undo"), words.count("redo"))
         before = self.lines[base:]
         piece = self._run(self._files[base], [*before, *lines])
-        return Piece(piece.report[len(before):], piece.map)
+        return piece._replace(report=piece.report[len(before):])
 
     def take(self, lines: Sequence[str], dids: Sequence[bool]) -> None:
         """Takes lines that were tried into the script, as one step, with whether each did something. The map behind
@@ -86,7 +88,7 @@ class Session:
 
     def judge(self, text: str) -> None:
         """Refused where a text, alone, is no script of the book."""
-        self._run_text(self._files[self._places[-1]], text)
+        self.run_text(self._files[self._places[-1]], text).map.unlink()
 
     def change_book(self, book: Path) -> None:
         """Goes on with another book; Refused where the lines so far don't give the same map under it."""
@@ -111,18 +113,19 @@ class Session:
 
     def _run(self, start: Path, lines: Sequence[str]) -> Piece:
         """Runs lines over a map's file by the program."""
-        report, out = self._run_text(start, "".join(f"{line}\n" for line in lines))
-        return Piece(report[: len(lines)], out)
+        said, out, _ = self.run_text(start, "".join(f"{line}\n" for line in lines))
+        return Piece(said[:len(lines)], out, said[len(lines):])
 
-    def _run_text(self, start: Path, text: str) -> Piece:
-        """Runs a script's text over a map's file by the program."""
+    def run_text(self, start: Path, text: str) -> Piece:
+        """Runs a script's text over a map's file by the program: all that it says, and the file of the map that is
+        left, which nobody keeps. Refused where the text is no script of the book."""
         folder = Path(self._folder.name)
         script, out = folder / "piece.gscript", folder / f"{next(self._numbers)}.gmap"
         script.write_bytes(text.encode("utf-8"))
         status, said = answer("run", start, self.book, script, out)
         if status > 1:
             raise program.refusal_of(status, said)
-        return Piece(said.split("\n"), out)
+        return Piece(said.splitlines(), out)
 
     def _keep(self, place: int, file: Path) -> None:
         """Keeps the map at a place. Where the kept ones are too large together, every second one goes, but not the
