@@ -11,6 +11,8 @@ from pathlib import Path
 from typing import Any
 from urllib.parse import urlparse
 
+from gmr.studio.wire import read_text
+
 CHECKOUT = Path(__file__).resolve().parents[2]
 BOOK = CHECKOUT / "examples" / "operations" / "values2.gbook"
 CUBE = CHECKOUT / "examples" / "cube.obj"
@@ -24,6 +26,7 @@ class Site:
 
     def __init__(self, folder: Path, *words: str) -> None:
         self.folder = folder
+        self.steps: list[Json] = []     # as far as they were told
         command = [CHECKOUT / "tools" / "studio", *(words or ("cube.obj", "values2.gbook", "--scale", "100")),
                    "--no-browser"]
         self.process = subprocess.Popen(command, cwd=folder, stdout=subprocess.PIPE, text=True)
@@ -45,7 +48,9 @@ class Site:
         """Asks for an action, which has to be taken."""
         status, data = self.send(action, json.dumps(fields).encode("utf-8"))
         assert status == 200, f"{action} was answered {status}: {data[:200]!r}"
-        answer: Json = json.loads(data)
+        answer: Json = json.loads(data) if data.startswith(b"{") else read_text(data)
+        if "state" in answer:
+            self.steps = answer["state"]["steps"] = self.steps[:answer["state"]["kept"]] + answer["state"]["steps"]
         return answer
 
     def fault(self, action: str, **fields: Any) -> str:

@@ -26,7 +26,7 @@ PAGE = """<!doctype html><meta charset="utf-8"><style>html, body, div {margin: 0
 <script>const viewer = new gmr.Viewer(document.getElementById('room'), {theme: 'light'});</script>"""
 OUTSIDE = """const {viewer} = gmr.page, {clientWidth, clientHeight} = viewer.renderer.domElement;
 viewer.drawNow();   // where a dart lies in the picture is known when that is drawn
-return Array.from(viewer.state.names).filter((dart) => {
+return Array.from(viewer.state.taken(), (slot) => viewer.state.names[slot]).filter((dart) => {
   const {x, y} = viewer.pixelOf(dart);
   return !(x > 0 && y > 0 && x < clientWidth && y < clientHeight);
 });"""
@@ -147,8 +147,8 @@ def check_darts_that_are_pointed_at(driver: Any) -> None:
 def check_changes(driver: Any) -> None:
     """Changes lead from a map to the next, and those that an update gives lead back."""
     before, after = (load(f"operations/dimension2/triangulate_face_2d/{name}.gmap") for name in ("before", "after"))
-    ask = ("return [Array.from(viewer.state.names), viewer.state.alpha.map((step) => "
-           "Array.from(step, (at) => viewer.state.names[at]))];")
+    ask = ("const {state} = viewer, all = Array.from(state.inOrder()), named = (slots) => slots.map((slot) => state.names[slot]);"
+           "return [named(all), state.alpha.map((step) => named(all.map((slot) => step[slot])))];")
     show(driver, before)
     driver.execute_script("window.found = viewer.update(arguments[0]);", changes_between(before, after))
     assert driver.execute_script(ask) == rows(after)

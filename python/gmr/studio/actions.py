@@ -12,7 +12,8 @@ from gmr.studio.answers import book_of, told, whole
 from gmr.studio.fits import find_fitting, ranges_of
 from gmr.studio.requests import Unclear, name_in, number_in, numbers_in, text_in, values_in, write_value
 from gmr.studio.rulebook import Text, describe_text
-from gmr.studio.session import Done, Session, group_text
+from gmr.studio.group import group_text
+from gmr.studio.session import Done, Session
 
 Json = dict[str, Any]
 ZEROS = {"int": "0", "bool": "false", "vec2": "(0 0)", "vec3": "(0 0 0)", "rgb": "(0 0 0)"}
@@ -165,5 +166,6 @@ ACTIONS: dict[str, Callable[[Session, Json], Json]] = {
     "files": files.list_files, "open": files.open_file, "save": files.save, "import": files.import_file,
     "export": files.export_file, "restore": files.restore, "forget": files.forget,
 }
-CHANGING = {"apply", "each", "each_chosen", "undo", "redo", "group", "script", "book", "open", "import", "restore"}
-UNLOCKED = {"check"}
+CHANGING = {"apply", "each", "each_chosen", "undo", "redo", "group", "script", "book", "open", "import", "restore",
+            "example"}
+UNLOCKED = {"check", "fits"}    # what looks at no more than a text, or the map as it is, which nothing changes

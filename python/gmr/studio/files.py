@@ -18,7 +18,6 @@ from gmr.studio.requests import Unclear, text_in
 from gmr.studio.rulebook import Text, text_of
 from gmr.studio.session import Session
 from gmr.studio.store import Store
-from gmr.studio.timeline import first_of
 
 Json = dict[str, Any]
 PAINT = (150, 175, 205)     # the colour of faces where a book wants one and the mesh has none
@@ -84,14 +83,13 @@ def save(session: Session, body: Json) -> Json:
 
 def save_map(session: Session, name: str) -> str:
     """Runs the whole script and saves the map that it leaves."""
-    ran = session.timeline.run_all(session.script(), is_original=True)
-    if ran.map is None:
-        raise program.Refused(first_of(ran), ran.status)
-    data = ran.map.read_bytes()
+    piece = session.timeline.session.run_text(session.timeline.start, session.script())
+    data = piece.map.read_bytes()
+    piece.map.unlink()
     if rows_of(data) != rows_of(session.shown.read_bytes()):
         raise program.Refused("the script, run from its start, gives another map than the one that is shown", 1)
     session.folder.write(name, data)
-    return f"{ran.lines[-1]}; saved as {name}"
+    return f"{piece.report[-1]}; saved as {name}"
 
 
 def rows_of(text: bytes) -> bytes:

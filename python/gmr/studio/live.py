@@ -1,54 +1,44 @@
 """The map as it is, kept up row by row: of a new text only the lines that the old one hasn't are read."""
-from typing import Any, NamedTuple
+from typing import NamedTuple
 
-from gmr.maps import WIDTHS, Map, read_columns, read_map
+import numpy as np
 
-Row = tuple[Any, ...]    # a dart's name, its neighbours, and its values
+from gmr.arrays import Arrays, Whole, read_arrays, read_numbers
+from gmr.maps import WIDTHS, Map
+from gmr.view.scene import rows_between
+
+BLOCK = 256         # lines that are compared at once
+MOST_READ = 4096    # lines that differ; where there are more, all of the text is read
 
 
 class Rows(NamedTuple):
-    """What differs from one map to the next: the darts that went, and the rows that are new or other ones, by names."""
-    gone: list[int]
-    rows: list[Row]
+    """What differs from one map to the next: the names of the darts that went, and the rows that are new or other ones,
+    as gmr.view.scene.rows_of has them."""
+    gone: Whole
+    rows: Whole
 
 
 class Live:
     """A map of version 2 as the program saved it, and its text's lines."""
 
     def __init__(self, text: bytes) -> None:
-        self.map: Map = read_map(text.decode("ascii"))
-        self.lines = set(split_text(text)[1])
+        self.arrays = read_arrays(text)
+        self.map = Map.of_arrays(self.arrays)
+        self.lines = split_text(text)[1]
 
     def move_to(self, text: bytes) -> Rows:
-        """Becomes the map of another text of the same dimension and embeddings, and tells what differs."""
-        head, body = split_text(text)
-        lines = set(body)
-        changed, old = lines - self.lines, self.lines - lines
-        rows = read_rows(self.map, changed)
-        names = {row[0] for row in rows}
-        gone = sorted({int(line.split(b" ", 1)[0]) for line in old} - names)
-        self.map = self._taken(rows, gone, next_of(head))
-        self.lines = lines
-        return Rows(gone, rows)
-
-    def _taken(self, rows: list[Row], gone: list[int], following: int) -> Map:
-        """The map with these rows, without darts that are gone, and with this next name. It takes over the columns of
-        the one before, which is a map no more."""
-        it = self.map
-        known = it.alpha[0]
-        is_other = bool(gone) or any(row[0] not in known for row in rows)
-        for column, place in self._columns():
-            for row in rows:
-                column[row[0]] = row[place]
-            for dart in gone:
-                del column[dart]
-        darts: list[int] = sorted(it.alpha[0]) if is_other else it.darts.tolist()
-        return Map(it.version, it.dimension, it.embeds, following, darts, list(it.alpha), dict(it.values))
-
-    def _columns(self) -> list[tuple[dict[int, Any], int]]:
-        """Each column of the map, and its place in a row."""
-        columns: list[dict[int, Any]] = [*self.map.alpha, *(self.map.values[embed.name] for embed in self.map.embeds)]
-        return list(zip(columns, range(1, len(columns) + 1)))
+        """Becomes the map of another text of the same dimension and embeddings, and tells what differs. The map that
+        was there before stays as it is."""
+        head, lines = split_text(text)
+        differing = find_differing(self.lines, lines)
+        if differing is None:
+            arrays = read_arrays(text)
+            rows = Rows(*rows_between(self.arrays, arrays))
+        else:
+            rows = Rows(np.array(differing[0], np.int64), read_rows(self.arrays, differing[1]))
+            arrays = taken(self.arrays, rows, next_of(head))
+        self.arrays, self.lines, self.map = arrays, lines, Map.of_arrays(arrays)
+        return rows
 
 
 def split_text(text: bytes) -> tuple[bytes, list[bytes]]:
@@ -62,14 +52,67 @@ def next_of(head: bytes) -> int:
     return int(head.rsplit(b"\nnext ", 1)[1].split(b"\n", 1)[0])
 
 
-def read_rows(it: Map, lines: set[bytes]) -> list[Row]:
-    """The rows of lines of darts, by names."""
-    width = it.dimension + 2
-    wide = width + sum(WIDTHS[embed.kind] for embed in it.embeds)
-    columns = read_columns(b"\n".join(lines).decode("ascii"), wide, len(lines))
-    joined: list[Any] = list(columns[:width])
+def name_of(line: bytes) -> int:
+    """The name of the dart of a line."""
+    return int(line.split(b" ", 1)[0])
+
+
+def find_differing(old: list[bytes], new: list[bytes]) -> tuple[list[int], list[bytes]] | None:
+    """The names of the darts that have a line among the old ones alone, and the lines of the new ones that the old ones
+    haven't; None where there are many. Both are sorted by the names of their darts."""
+    gone: list[int] = []
+    lines: list[bytes] = []
+    here = there = 0
+    while here < len(old) and there < len(new) and len(gone) + len(lines) <= MOST_READ:
+        if old[here:here + BLOCK] == new[there:there + BLOCK]:
+            here, there = here + BLOCK, there + BLOCK
+            continue
+        for _ in range(BLOCK):
+            if here == len(old) or there == len(new):
+                break
+            if old[here] != new[there]:
+                left, right = name_of(old[here]), name_of(new[there])
+                if left < right:
+                    gone.append(left)
+                    here += 1
+                    continue
+                lines.append(new[there])
+                if left > right:
+                    there += 1
+                    continue
+            here, there = here + 1, there + 1
+    gone += map(name_of, old[here:])
+    lines += new[there:]
+    return None if len(gone) + len(lines) > MOST_READ else (gone, lines)
+
+
+def read_rows(it: Arrays, lines: list[bytes]) -> Whole:
+    """The numbers of lines of darts."""
+    wide = it.dimension + 2 + sum(WIDTHS[embed.kind] for embed in it.embeds)
+    return read_numbers(b"\n".join(lines), wide, len(lines))
+
+
+def taken(it: Arrays, found: Rows, following: int) -> Arrays:
+    """The map with rows, without the darts that are gone, and with this next name."""
+    gone, rows = found
+    kept = np.arange(len(it.names))
+    if len(gone):
+        kept = np.flatnonzero(np.isin(it.names, gone, invert=True, assume_unique=True))
+    fresh = np.setdiff1d(rows[:, 0], it.names, assume_unique=True)
+    names = it.names[kept]
+    if len(fresh):
+        names = np.insert(names, np.searchsorted(names, fresh), fresh)
+    moved = np.searchsorted(names, it.names) if len(gone) or len(fresh) else np.arange(len(names))
+    at = np.searchsorted(names, rows[:, 0])
+    alpha = np.empty((it.dimension + 1, len(names)), np.int64)
+    values, place = {}, it.dimension + 2
+    for label, step in enumerate(it.alpha):
+        alpha[label, moved[kept]] = moved[step[kept]]
+        alpha[label, at] = np.searchsorted(names, rows[:, 1 + label])
     for embed in it.embeds:
-        parts = columns[width:width + WIDTHS[embed.kind]]
-        joined.append(list(zip(*parts)) if len(parts) > 1 else parts[0])
-        width += len(parts)
-    return sorted(zip(*joined))
+        table = np.empty((len(names), WIDTHS[embed.kind]), np.int64)
+        table[moved[kept]] = it.values[embed.name][kept]
+        table[at] = rows[:, place:place + WIDTHS[embed.kind]]
+        values[embed.name] = table
+        place += WIDTHS[embed.kind]
+    return Arrays(it.version, it.dimension, it.embeds, following, names, alpha, values)

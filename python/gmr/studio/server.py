@@ -1,5 +1,4 @@
 """The studio's server: it listens on the loopback address alone, and hands to actions what the guard lets in."""
-import json
 import secrets
 import socketserver
 import sys
@@ -13,6 +12,7 @@ from wsgiref.simple_server import WSGIRequestHandler, WSGIServer, make_server
 import bottle  # type: ignore
 
 from gmr.errors import Fault, Refused
+from gmr.studio import wire
 from gmr.studio.actions import ACTIONS, CHANGING, UNLOCKED
 from gmr.studio.folder import Outside
 from gmr.studio.guard import HEADERS, Environ, Guard
@@ -140,9 +140,10 @@ def read_data(environ: Environ) -> bytes:
 
 
 def send(status: int, answer: dict[str, Any]) -> Any:
-    """An answer as JSON."""
-    text = json.dumps(answer, ensure_ascii=False, separators=(",", ":")).encode("utf-8", "replace")
-    return bottle.HTTPResponse(text, status, {"Content-Type": "application/json; charset=utf-8"})
+    """An answer as JSON, with columns of numbers behind it."""
+    data, has_columns = wire.to_bytes(answer)
+    kind = "application/octet-stream" if has_columns else "application/json; charset=utf-8"
+    return bottle.HTTPResponse(data, status, {"Content-Type": kind})
 
 
 def say_error(error: Any) -> str:

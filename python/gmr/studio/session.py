@@ -6,13 +6,15 @@ from typing import Any, NamedTuple
 from gmr import program
 from gmr.books import Rule, read_book, split_book
 from gmr.maps import Map
+from gmr.model.session import Piece
 from gmr.studio.folder import Folder
+from gmr.studio.group import Group, group_text
 from gmr.studio.live import Live, Rows
 from gmr.studio.reasons import tell_refusal
 from gmr.studio.requests import Unclear
 from gmr.studio.rulebook import Text, describe_book, text_of
 from gmr.studio.store import BOOK, SCRIPT, START, Store
-from gmr.studio.timeline import Ran, Step, Timeline, came_of, first_of, split_steps
+from gmr.studio.timeline import Step, Timeline, came_of
 
 Json = dict[str, Any]
 
@@ -31,6 +33,7 @@ class Session:
         self.folder, self.store, self.names = folder, store, names
         self.version = 0
         self.example: dict[str, bytes] = {}
+        self.told: list[Json] = []      # the steps as the page knows them
         self.begin(start, text_of(book))
 
     def begin(self, start: bytes, book: Text) -> None:
@@ -44,7 +47,7 @@ class Session:
         self.live = Live(timeline.present().read_bytes())
         self.timeline = timeline
         self.unsaved: set[str] = set()      # the script, the book
-        self.group: list[str] | None = None
+        self.group: Group | None = None
         self.rest = ""
         self.example.clear()
         self._take_book(book, described)
@@ -72,7 +75,7 @@ class Session:
 
     def script(self) -> str:
         """The script so far; an open group is closed in it."""
-        return self.timeline.text() + (f"{group_text(self.group)}\n" if self.group is not None else "")
+        return self.timeline.text() + (f"{group_text(self.group.lines)}\n" if self.group else "")
 
     def write_script(self) -> None:
         """Writes the script into the session's files, with the lines that are still to be run."""
@@ -85,136 +88,131 @@ class Session:
         self.version += 1
         return self.live.move_to(made.read_bytes())
 
-    def _settle(self, step: Step, made: Path | None) -> Rows | None:
-        """Takes a step up, shows its map, and writes the script."""
+    def _settle(self, text: str, report: tuple[str, ...], made: Path) -> Rows:
+        """Takes a statement up, shows its map, and writes the script."""
+        lines = tuple(text.split("\n"))
+        self.timeline.keep([Step(text, report, came_of(lines, report), lines)], made)
         self.unsaved.add("script")
-        if made is None:
-            self.timeline.note(step)
-            rows = None
-        else:
-            self.timeline.keep(step, made)
-            rows = self._move_to(self.timeline.present())
-        self.shown = self.timeline.present()
+        rows = self._move_to(self.timeline.present())
         self.write_script()
         return rows
 
     def attempt(self, text: str) -> Done:
         """What a statement would do to the map as it is. Nothing changes."""
-        ran = self.timeline.run(self.shown, text)
-        return Done(ran.lines, self._why(text, ran), None)
+        where = self.group or self.timeline
+        try:
+            piece = where.attempt(text)
+        except program.Refused as refused:
+            return Done((refused.line,), [refused.line], None)
+        piece.map.unlink()
+        return Done(said_of(piece), self._why(text, piece), None)
 
     def do(self, text: str) -> Done:
         """Does a statement, or some that make a group; in an open group it becomes a part of it."""
-        if self.group is not None:
-            return self._do_in_group(text)
-        ran = self.timeline.run(self.shown, text)
-        word = text.split(None, 1)[0]
-        if ran.map is None or came_of(word, ran.lines[:-1]) != "done":
-            return self._refuse(text, ran)
-        why = self._why(text, ran)
-        return Done(ran.lines, why, self._settle(Step(text, ran.lines[:-1], "done"), ran.map))
-
-    def _refuse(self, text: str, ran: Ran) -> Done:
-        """Keeps what isn't done as a comment of the script, with the program's line."""
-        why = self._why(text, ran)
-        if ran.map is not None and self.group is None:
-            said = next((line for line in ran.lines if " refused " in line), ran.lines[0])
+        if self.group:
+            return self._do_in_group(self.group, text)
+        try:
+            piece = self.timeline.attempt(text)
+        except program.Refused as refused:
+            return Done((refused.line,), [refused.line], None)
+        why = self._why(text, piece)
+        if came_of(tuple(text.split("\n")), tuple(piece.report)) != "done":
+            piece.map.unlink()
+            said = next((line for line in piece.report if " refused " in line), piece.report[0])
             note = "\n".join(f"# {line}" for line in (*text.split("\n"), f"not done: {said}"))
-            self._settle(Step(note, ran.lines[:-1], "note"), None)
-        return Done(ran.lines, why, None)
+            self.timeline.note(note, tuple(piece.report))
+            self.unsaved.add("script")
+            self.write_script()
+            return Done(said_of(piece), why, None)
+        return Done(said_of(piece), why, self._settle(text, tuple(piece.report), piece.map))
 
-    def _why(self, text: str, ran: Ran) -> list[str]:
+    def _why(self, text: str, piece: Piece) -> list[str]:
         """Why something of a text is refused."""
-        if ran.status == 0:
-            return []
-        if ran.map is None:
-            return [first_of(ran)]
-        return tell_refusal(self.map, self.parsed, text, ran.lines, lambda lines: self._map_behind(lines))
+        return tell_refusal(self.map, self.parsed, text, tuple(piece.report), self._map_behind)
 
     def _map_behind(self, text: str) -> Map:
         """The map that lines would leave."""
-        ran = self.timeline.run(self.shown, text)
-        if ran.map is None:
-            return self.map
-        return Live(ran.map.read_bytes()).map
+        piece = (self.group or self.timeline).attempt(text)
+        found = Live(piece.map.read_bytes()).map
+        piece.map.unlink()
+        return found
 
-    def _do_in_group(self, text: str) -> Done:
+    def _do_in_group(self, group: Group, text: str) -> Done:
         """Adds applications to the open group, where none of them is refused."""
-        assert self.group is not None
         if text.split(None, 1)[0] not in ("apply", "group"):
             raise Unclear("in a group there are applications alone; end the group first")
         lines = [line for line in text.split("\n") if line not in ("group", "end")]
-        ran = self.timeline.run(self.timeline.present(), group_text([*self.group, *lines]))
-        if ran.map is None or not ran.lines[-2].endswith("kept"):
-            return self._refuse(text, self.timeline.run(self.shown, text))
-        self.group += lines
+        try:
+            piece = group.attempt("\n".join(lines))
+        except program.Refused as refused:
+            return Done((refused.line,), [refused.line], None)
+        if any(" refused " in line for line in piece.report):
+            piece.map.unlink()
+            return Done(said_of(piece), self._why("\n".join(lines), piece), None)
+        group.keep(lines, piece)
         self.unsaved.add("script")
-        made = ran.map.rename(self.timeline.place / f"group{len(self.group)}.gmap")
-        rows = self._move_to(made)
+        rows = self._move_to(group.present())
         self.write_script()
-        return Done(ran.lines[-2 - len(lines):-2], [], rows)
+        return Done(tuple(piece.report), [], rows)
 
     def begin_group(self) -> Done:
         """Opens a group."""
-        if self.group is not None:
+        if self.group:
             raise Unclear("a group is open already")
-        self.group = []
+        self.group = Group(self.timeline.present(), self.timeline.book)
         return Done(("group begun",), [], None)
 
     def end_group(self, is_kept: bool) -> Done:
         """Ends the open group: its lines become one step, or all of it goes."""
-        if self.group is None:
+        if not self.group:
             raise Unclear("no group is open")
-        lines, self.group = self.group, None
+        lines = self.group.lines
         if not is_kept or not lines:
+            self.group = None
             rows = self._move_to(self.timeline.present())
             self.write_script()
             return Done(("the group is left out",), [], rows)
         text = group_text(lines)
-        ran = self.timeline.run(self.timeline.present(), text)
-        if ran.map is None:
-            raise program.Refused(first_of(ran), ran.status)
-        return Done(ran.lines, [], self._settle(Step(text, ran.lines[:-1], "done"), ran.map))
+        piece = self.timeline.attempt(text)
+        self.group = None
+        return Done(said_of(piece), [], self._settle(text, tuple(piece.report), piece.map))
 
     def go(self, word: str) -> Done:
         """Undoes or does again. In an open group, `undo` takes back the group's last line."""
-        if self.group is not None:
-            return self._shorten_group(word)
-        ran = self.timeline.go(word)
-        if ran.map is None:
-            raise program.Refused(first_of(ran), ran.status)
-        line = ran.lines[-2]
+        if self.group:
+            return self._shorten_group(self.group, word)
+        piece = self.timeline.attempt(word)
+        [line] = piece.report
         if not line.endswith("done"):
+            piece.map.unlink()
             sentence = f"Nothing was done that `{word}` could take back." if word == "undo" else \
                 "Nothing was taken back that `redo` could bring again."
             return Done((line,), [sentence], None)
-        return Done((line,), [], self._settle(Step(word, (line,), word), ran.map))
+        return Done((line,), [], self._settle(word, (line,), piece.map))
 
-    def _shorten_group(self, word: str) -> Done:
-        if word == "redo" or not self.group:
+    def _shorten_group(self, group: Group, word: str) -> Done:
+        if word == "redo" or not group.lines:
             raise Unclear("the open group has nothing for that; end it or leave it out")
-        self.group.pop()
-        ran = self.timeline.run(self.timeline.present(), group_text(self.group))
-        assert ran.map is not None
-        rows = self._move_to(ran.map.rename(self.timeline.place / f"group{len(self.group)}.gmap"))
+        group.shorten()
+        rows = self._move_to(group.present())
         self.write_script()
         return Done(("the group's last line is left out",), [], rows)
 
     def run_script(self, text: str, rest: str) -> Done:
         """Takes another script in the place of the one so far, run from the start; `rest` is kept for later."""
-        ran = self.timeline.run_all(text)
-        if ran.map is None:
-            return Done(ran.lines, [first_of(ran)], None)
-        steps = split_steps(text, ran.lines[:-1])
-        rows = self._replace(steps, ran)
+        try:
+            steps, piece = self.timeline.run_all(text)
+        except program.Refused as refused:
+            return Done((refused.line,), [refused.line], None)
+        rows = self._replace(steps, piece.map)
         self.rest, self.group = rest, None
         self.write_script()
-        refused = sum(" refused " in line for line in ran.lines[:-1])
-        return Done(ran.lines, [f"{refused} lines are refused, and leave the map as it was."] * bool(refused), rows)
+        count = sum(" refused " in line for line in piece.report[:-1])
+        told = [f"{count} lines are refused, and leave the map as it was."] * bool(count)
+        return Done(tuple(piece.report), told, rows)
 
-    def _replace(self, steps: list[Step], ran: Ran) -> Rows:
-        assert ran.map is not None
-        self.timeline.replace(steps, ran.map)
+    def _replace(self, steps: list[Step], made: Path) -> Rows:
+        self.timeline.replace(steps, made)
         self.unsaved.add("script")
         return self._move_to(self.timeline.present())
 
@@ -223,17 +221,17 @@ class Session:
         described = describe_book(book, self.timeline.place)
         if described["rules"] is None:
             return Done(tuple(described["answer"]), described["faults"][0]["why"], None)
-        if self.group is not None:
+        if self.group:
             raise Unclear("end the group first")
         old = self.timeline.book.read_bytes()
         self.timeline.book.write_bytes(used_book(book, described))
-        text = self.timeline.text()
-        ran = self.timeline.run_all(text)
-        if ran.map is None:
+        try:
+            steps, piece = self.timeline.run_all(self.timeline.text())
+        except program.Refused as refused:
             self.timeline.book.write_bytes(old)
-            return Done(ran.lines, ["Under this book the script so far can't be run, so the old book stays.",
-                                    first_of(ran)], None)
-        rows = self._replace(split_steps(text, ran.lines[:-1]), ran)
+            return Done((refused.line,), ["Under this book the script so far can't be run, so the old book stays.",
+                                          refused.line], None)
+        rows = self._replace(steps, piece.map)
         self._take_book(book, described)
         self.unsaved.add("book")
         self.store.write(BOOK, book.data())
@@ -241,9 +239,9 @@ class Session:
         return Done(tuple(described["answer"]), [], rows)
 
 
-def group_text(lines: list[str]) -> str:
-    """The text of a group."""
-    return "\n".join(["group", *lines, "end"])
+def said_of(piece: Piece) -> tuple[str, ...]:
+    """All that the program said."""
+    return (*piece.report, *piece.rest)
 
 
 def used_book(book: Text, described: Json) -> bytes:

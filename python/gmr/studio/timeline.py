@@ -1,30 +1,25 @@
-"""What a session did: its statements, what the program answered to each, and the maps that it saved in between.
+"""What a session did: the statements as they stand in its script, with what the program answered to each.
 
-Each statement is done by a run of the program on the map that an earlier run saved. An `undo` is a run of the
-statement that it takes back with the `undo` behind it, so the program itself goes back."""
-import os
+The statements themselves, the maps between them and the way that `undo` and `redo` go are those of a model's session;
+here stands beside them what a reader of the script sees: comments, and what was refused, as comments too."""
 from pathlib import Path
 from typing import NamedTuple
 
 from gmr import program
+from gmr.model.queue import did_something
+from gmr.model.script import split_script
+from gmr.model.session import Piece, Session
 from gmr.scripts import Statement, read_report, read_script
-
-MOST_KEPT = 512 * 2**20     # bytes of maps between statements that are kept; what isn't there is run again
 
 
 class Step(NamedTuple):
-    """A statement, or a whole group, as it stands in the script; what the program answered; and what came of it:
-    'done', 'nothing' where no map changed, 'undo' or 'redo' where it went back or forth, 'note' for a comment."""
+    """A statement, or a whole group, as it stands in the script; what the program answered; what came of it: 'done',
+    'nothing' where no map changed, 'undo' or 'redo' where it went back or forth, 'note' for a comment; and its lines
+    without comments."""
     text: str
     report: tuple[str, ...]
     came: str
-
-
-class Ran(NamedTuple):
-    """What a run of the program gave: its status, its lines, and the file of the map that it saved, or None."""
-    status: int
     lines: tuple[str, ...]
-    map: Path | None
 
 
 class Timeline:
@@ -33,108 +28,68 @@ class Timeline:
     def __init__(self, place: Path, start: bytes, book: bytes) -> None:
         """Refused where the program takes no such map or book, or not the two together."""
         self.place = place
-        self.steps: list[Step] = []
-        self.start, self.book = place / "given.gmap", place / "used.gbook"
+        self.start, self.book, self.counted = place / "given.gmap", place / "used.gbook", place / "counted.gmap"
         self.start.write_bytes(start)
         self.book.write_bytes(book)
-        program.put_or_refuse("migrate", self.start, self._path(0))     # the second version keeps the next name
-        ran = self.run(self._path(0), "")
-        if ran.map is None:
-            raise program.Refused(first_of(ran), ran.status)
+        program.put_or_refuse("migrate", self.start, self.counted)     # the second version keeps the next name
+        self.forget()
 
-    def _path(self, count: int) -> Path:
-        return self.place / f"after{count}.gmap"
+    def forget(self) -> None:
+        """Goes back to the start map, without steps."""
+        self.session = Session(self.counted, self.book)
+        self.steps: list[Step] = []
+        self.begins: list[int] = []     # at which line of the session each step begins
 
-    def text(self, count: int | None = None) -> str:
-        """The script of the first steps, or of all."""
-        return "".join(f"{step.text}\n" for step in self.steps[:count])
-
-    def run(self, source: Path, text: str) -> Ran:
-        """Runs a script's text on a map's file. Nothing of the timeline changes; the next run takes the map's file."""
-        script, out = self.place / "line.gscript", self.place / "out.gmap"
-        script.write_text(text, encoding="utf-8")
-        out.unlink(missing_ok=True)
-        status, said = program.answer("run", source, self.book, script, out)
-        return Ran(status, tuple(said.splitlines()), out if status in (0, 1) else None)
-
-    def run_all(self, text: str, is_original: bool = False) -> Ran:
-        """Runs a script's text from the start, on the map in its own version where that is wanted."""
-        return self.run(self.start if is_original else self._path(0), text)
-
-    def map_after(self, count: int) -> Path:
-        """The file of the map after so many steps; where it isn't kept, the program makes it again."""
-        path = self._path(count)
-        if not path.exists():
-            ran = self.run_all(self.text(count))
-            if ran.map is None:
-                raise program.Refused(first_of(ran), ran.status)
-            ran.map.rename(path)
-        return path
+    def text(self) -> str:
+        """The script of the steps."""
+        return "".join(f"{step.text}\n" for step in self.steps)
 
     def present(self) -> Path:
         """The file of the map as it is."""
-        return self.map_after(len(self.steps))
+        return self.session.file_at(len(self.session.lines))
 
-    def keep(self, step: Step, made: Path) -> None:
-        """Takes up a step, and the file of the map after it."""
-        self.steps.append(step)
-        made.rename(self._path(len(self.steps)))
-        size = self._path(len(self.steps)).stat().st_size
-        for count in range(1, len(self.steps) - max(2, MOST_KEPT // max(1, size))):
-            self._path(count).unlink(missing_ok=True)
+    def attempt(self, text: str) -> Piece:
+        """What lines would do behind the steps; nothing changes. Refused where they are no script of the book."""
+        return self.session.attempt(text.split("\n"))
 
-    def note(self, step: Step) -> None:
-        """Takes up a step that is a comment: the map stays."""
-        present = self.present()
-        self.steps.append(step)
-        os.link(present, self._path(len(self.steps)))
+    def keep(self, steps: list[Step], made: Path) -> None:
+        """Takes up steps, and the file of the map behind them."""
+        for step in steps:
+            self.begins.append(len(self.session.lines))
+            self.steps.append(step)
+            if step.lines:
+                self.session.take(step.lines, [did_something(line, said.partition(" ")[2])
+                                               for line, said in zip(step.lines, step.report)])
+        self.session.keep(made)
+
+    def note(self, text: str, report: tuple[str, ...]) -> None:
+        """Takes up a comment: the map stays."""
+        self.keep([Step(text, report, "note", ())], self.present())
+
+    def taken_back(self) -> set[int]:
+        """The places of the steps that were taken back and that `redo` brings again."""
+        begins = {entry.begin for entry in self.session.history.future}
+        return {at for at, (step, begin) in enumerate(zip(self.steps, self.begins)) if step.lines and begin in begins}
+
+    def run_all(self, text: str) -> tuple[list[Step], Piece]:
+        """The steps that a script's text makes of the start map, and what came of them; nothing changes. Refused where
+        it is no script of the book."""
+        piece = self.session.run_text(self.counted, text)
+        return split_steps(text, tuple(piece.report[:-1])), piece
 
     def replace(self, steps: list[Step], made: Path) -> None:
-        """Takes other steps in the place of all, with the file of the map after them."""
-        for count in range(1, len(self.steps) + 1):
-            self._path(count).unlink(missing_ok=True)
-        self.steps = steps
-        if steps:
-            made.rename(self._path(len(steps)))
-
-    def done_and_undone(self) -> tuple[list[int], list[int]]:
-        """The places of the steps that `undo` can take back, and of those that `redo` brings again, the next last."""
-        done: list[int] = []
-        undone: list[int] = []
-        for at, step in enumerate(self.steps):
-            if step.came == "done":
-                done.append(at)
-                undone.clear()
-            elif step.came == "undo":
-                undone.append(done.pop())
-            elif step.came == "redo":
-                done.append(undone.pop())
-        return done, undone
-
-    def go(self, word: str) -> Ran:
-        """Runs `undo` or `redo` behind the step that it is about."""
-        done, undone = self.done_and_undone()
-        about = done if word == "undo" else undone
-        if not about:
-            return self.run(self.present(), word)
-        before = self.steps[about[-1]].text + ("\n" if word == "undo" else "\nundo\n")
-        return self.run(self.map_after(about[-1]), before + word)
+        """Takes other steps in the place of all, with the file of the map behind them, under the book as it is."""
+        kept = made.rename(self.place / "run.gmap")     # the files of the session go with it
+        self.forget()
+        self.keep(steps, kept)
 
 
-def first_of(ran: Ran) -> str:
-    """The line by which the program refused to run anything."""
-    return ran.lines[0] if ran.lines else f"the program ended with status {ran.status} and printed nothing"
-
-
-def came_of(word: str, lines: tuple[str, ...]) -> str:
-    """What came of a statement that begins with a word, from the report's lines about it."""
-    if word in ("undo", "redo"):
-        return word if lines[-1].endswith("done") else "nothing"
-    if word == "each":
-        return "done" if int(lines[0].rsplit(" done ", 1)[1].split()[0]) else "nothing"
-    if word == "group":
-        return "done" if lines[-1].endswith("kept") and len(lines) > 2 else "nothing"
-    return "done" if " done added " in lines[0] else "nothing"
+def came_of(lines: tuple[str, ...], report: tuple[str, ...]) -> str:
+    """What came of a statement, from the report's lines about it."""
+    said = report[-1].partition(" ")[2]
+    if not did_something(lines[0] if lines[0] != "group" else "end", said) or lines[1:] == ("end",):
+        return "nothing"
+    return lines[0] if lines[0] in ("undo", "redo") else "done"
 
 
 def split_steps(text: str, report: tuple[str, ...]) -> list[Step]:
@@ -142,15 +97,14 @@ def split_steps(text: str, report: tuple[str, ...]) -> list[Step]:
     says of it."""
     statements = read_script(text)
     steps, first, begin = [], 0, 0
-    for at, statement in enumerate(statements):
-        if statements[first].word == "group" and statement.word != "end":
-            continue
-        lines = report[first:at + 1]
-        end = line_end(text, statement.end)
-        steps.append(Step(text[begin:end].strip(), lines, came_of(statements[first].word, lines)))
-        first, begin = at + 1, end
+    for lines, _ in split_script(text) if statements else []:
+        behind = first + len(lines)
+        end = line_end(text, statements[behind - 1].end)
+        said = report[first:behind]
+        steps.append(Step(text[begin:end].strip(), said, came_of(tuple(lines), said), tuple(lines)))
+        first, begin = behind, end
     rest = text[begin:].strip()
-    return steps + [Step(rest, (), "note")] * bool(rest)
+    return steps + [Step(rest, (), "note", ())] * bool(rest)
 
 
 def line_end(text: str, place: int) -> int:

@@ -1,6 +1,7 @@
 """Scenes for the viewer: a map as JSON, and what changes from one map to the next.
 
-Columns of numbers are packed: the bytes of an array, little end first, in base64. A scene is
+Columns of numbers are packed: the bytes of an array, little end first, in base64; the studio has other bytes in their
+place, see gmr.studio.wire. A scene is
 
     {"dimension", "labels": the labels that play 0, 1 and 2, "names": packed, "alpha": [packed by label: the place of
      the neighbour among the darts], "embeds": [{"name", "labels", "kind", "values": packed, WIDTHS[kind] a dart}],
@@ -14,30 +15,45 @@ and changes are
 
 where `rows` has a row for each dart that is new or has another neighbour or value."""
 import base64
-import sys
-from array import array
-from collections.abc import Iterable, Sequence
-from itertools import chain
+from collections.abc import Callable, Sequence
 from typing import Any
 
-from gmr.maps import WIDTHS, Embed, Map, Value
+import numpy as np
+
+from gmr.arrays import Arrays, Whole
+from gmr.maps import WIDTHS, Embed, Map
 from gmr.view.places import lay_out
 
 Json = dict[str, Any]
-TYPES = (("Uint8", "B", 0, 2**8 - 1), ("Int8", "b", -(2**7), 2**7 - 1), ("Uint16", "H", 0, 2**16 - 1),
-         ("Int16", "h", -(2**15), 2**15 - 1), ("Uint32", "I", 0, 2**32 - 1), ("Int32", "i", -(2**31), 2**31 - 1),
-         ("Int64", "q", -(2**63), 2**63 - 1))
+Pack = Callable[[Whole], Json]
+TYPES = (("Uint8", "<u1"), ("Int8", "<i1"), ("Uint16", "<u2"), ("Int16", "<i2"), ("Uint32", "<u4"), ("Int32", "<i4"),
+         ("Int64", "<i8"))
 
 
-def pack(numbers: Sequence[int]) -> Json:
+def narrowed(numbers: Whole) -> tuple[str, "np.ndarray[Any, Any]"]:
+    """Whole numbers of 64 bits as the narrowest array that holds them, little end first, and the name of its type."""
+    least, most = (int(numbers.min()), int(numbers.max())) if len(numbers) else (0, 0)
+    for name, code in TYPES:
+        bounds = np.iinfo(code)
+        if bounds.min <= least and most <= bounds.max:
+            break
+    return name, numbers.astype(code)
+
+
+def run_of(numbers: Whole) -> Json | None:
+    """A run of at least three numbers in order by its first one; None where the numbers are none."""
+    if len(numbers) > 2 and (numbers[1:] - numbers[:-1] == 1).all():
+        return {"from": int(numbers[0]), "count": len(numbers)}
+    return None
+
+
+def pack(numbers: Sequence[int] | Whole) -> Json:
     """Whole numbers of 64 bits as the narrowest array that holds them; a run of numbers in order by its first one."""
-    least, most = (min(numbers), max(numbers)) if numbers else (0, 0)
-    if len(numbers) > 2 and most - least == len(numbers) - 1 and list(numbers) == list(range(least, most + 1)):
-        return {"from": least, "count": len(numbers)}
-    name, code = next((name, code) for name, code, low, high in TYPES if low <= least and most <= high)
-    held = array(code, numbers)
-    if sys.byteorder == "big":
-        held.byteswap()
+    numbers = np.asarray(numbers, np.int64)
+    run = run_of(numbers)
+    if run is not None:
+        return run
+    name, held = narrowed(numbers)
     return {"type": name, "data": base64.b64encode(held.tobytes()).decode("ascii")}
 
 
@@ -58,75 +74,79 @@ def points_of(it: Map, labels: Sequence[int]) -> Embed | None:
     return it.embed_over(range(1, it.dimension + 1), ("vec2", "vec3")) if labels[0] == 0 else None
 
 
-def scene_of(it: Map, labels: Sequence[int] | None = None) -> Json:
+def scene_of(it: Map, labels: Sequence[int] | None = None, pack: Pack = pack) -> Json:
     """The scene of a map. Where it has no points it is laid out, as `draw` does. Above dimension 3 the labels say
     which three are seen as those of a surface."""
     chosen = labels_of(it, labels)
     points = points_of(it, chosen)
-    check_involutions(it)
-    at = dict(zip(it.darts, range(len(it.darts))))
+    arrays = it.arrays()
+    check_involutions(arrays)
     return {
         "dimension": it.dimension,
         "labels": list(chosen),
-        "names": pack(it.darts.tolist()),
-        "alpha": [pack([at[step[dart]] for dart in it.darts]) for step in it.alpha],
+        "names": pack(arrays.names),
+        "alpha": [pack(step) for step in arrays.alpha],
         "embeds": [{"name": one.name, "labels": list(one.labels), "kind": one.kind,
-                    "values": pack(flat_values(map(it.values[one.name].__getitem__, it.darts), one))}
-                   for one in it.embeds],
+                    "values": pack(arrays.values[one.name].ravel())} for one in it.embeds],
         "points": points.name if points else None,
-        "places": None if points else packed_places(it, chosen),
+        "places": None if points else packed_places(it, chosen, pack),
         "next": it.next,
     }
 
 
-def check_involutions(it: Map) -> None:
+def check_involutions(it: Arrays) -> None:
     """ValueError where a neighbour doesn't point back; what else the laws of maps forbid, can be drawn."""
     for label, step in enumerate(it.alpha):
-        back = list(map(step.__getitem__, map(step.__getitem__, it.darts)))
-        if back != it.darts.tolist():
-            dart = next(dart for dart, there in zip(it.darts, back) if dart != there)
+        wrong = step[step] != np.arange(len(step))
+        if wrong.any():
+            dart = int(it.names[np.argmax(wrong)])
             raise ValueError(f"dart {dart} has no neighbour along label {label} that points back")
 
 
-def packed_places(it: Map, labels: Sequence[int]) -> Json:
+def packed_places(it: Map, labels: Sequence[int], pack: Pack) -> Json:
     """Where the darts of a map without points are laid out: see gmr.view.places. `from` and `step` say where step 0 is
     and how long a step is, and `flat` whether each dart has four places in the plane or one in space."""
     found = lay_out(it, labels)
-    return {"from": list(found.corner), "step": found.step, "at": pack(found.numbers), "outer": pack(found.outer),
-            "flat": found.is_flat}
+    return {"from": list(found.corner), "step": found.step, "at": pack(np.array(found.numbers, np.int64)),
+            "outer": pack(np.array(found.outer, np.int64)), "flat": found.is_flat}
 
 
-def flat_values(values: Iterable[Value], embed: Embed) -> list[int]:
-    """The numbers of values, one after another."""
-    return list(values) if WIDTHS[embed.kind] == 1 else list(chain.from_iterable(values))  # type: ignore[arg-type]
+def rows_of(it: Arrays) -> Whole:
+    """The rows of a map's darts: their names, those of their neighbours, and their values."""
+    tables = [it.values[embed.name] for embed in it.embeds]
+    return np.concatenate([it.names[:, None], it.names[it.alpha].T, *tables], axis=1)
 
 
-def rows_of(it: Map) -> set[tuple[Any, ...]]:
-    """The rows of a map: a dart's name, its neighbours, and its values."""
-    held: list[dict[int, Any]] = [*it.alpha, *it.values.values()]
-    columns = [map(column.__getitem__, it.darts) for column in held]
-    return set(zip(it.darts, *columns))
+def rows_between(before: Arrays, after: Arrays) -> tuple[Whole, Whole]:
+    """The names of the darts that are gone, and the rows that are new or other ones, from one map to another of the
+    same dimension and embeddings."""
+    gone = np.setdiff1d(before.names, after.names, assume_unique=True)
+    old, rows = rows_of(before), rows_of(after)
+    at = np.minimum(np.searchsorted(before.names, after.names), max(len(old) - 1, 0))
+    is_other = (old[at] != rows).any(axis=1) if len(old) else np.ones(len(rows), bool)
+    return gone, rows[is_other]
 
 
 def changes_between(before: Map, after: Map, labels: Sequence[int] | None = None) -> Json:
     """What changes from one map to another of the same dimension and embeddings; ValueError where these differ."""
     if (before.dimension, before.embeds) != (after.dimension, after.embeds):
         raise ValueError("maps of two dimensions, or with other embeddings, have no changes between them")
-    gone = sorted(before.alpha[0].keys() - after.alpha[0].keys())
-    return changes_of(gone, sorted(rows_of(after) - rows_of(before)), after, labels)
+    return changes_of(*rows_between(before.arrays(), after.arrays()), after, labels)
 
 
-def changes_of(gone: Sequence[int], rows: Sequence[tuple[Any, ...]], after: Map,
-               labels: Sequence[int] | None = None) -> Json:
-    """The changes that lead to a map: the darts that are gone, and the rows that are new or other ones, as `rows_of`
-    has them, both by names."""
+def changes_of(gone: Whole, rows: Whole, after: Map, labels: Sequence[int] | None = None, pack: Pack = pack) -> Json:
+    """The changes that lead to a map: the names of the darts that are gone, and the rows that are new or other ones, as
+    `rows_of` has them."""
     chosen = labels_of(after, labels)
-    columns: list[Any] = list(zip(*rows)) or [()] * (after.dimension + 2 + len(after.embeds))
-    neighbours, values = columns[1:after.dimension + 2], columns[after.dimension + 2:]
+    values, place = {}, after.dimension + 2
+    for one in after.embeds:
+        values[one.name] = pack(rows[:, place:place + WIDTHS[one.kind]].ravel())
+        place += WIDTHS[one.kind]
+    is_laid_out = points_of(after, chosen) is None and bool(len(gone) or len(rows))
     return {
         "gone": pack(gone),
-        "rows": {"names": pack(columns[0]), "alpha": list(map(pack, neighbours)),
-                 "values": {one.name: pack(flat_values(column, one)) for one, column in zip(after.embeds, values)}},
-        "places": None if points_of(after, chosen) or not (gone or rows) else packed_places(after, chosen),
+        "rows": {"names": pack(rows[:, 0]), "alpha": [pack(rows[:, 1 + label]) for label in range(after.dimension + 1)],
+                 "values": values},
+        "places": packed_places(after, chosen, pack) if is_laid_out else None,
         "next": after.next,
     }

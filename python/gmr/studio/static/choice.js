@@ -68,7 +68,7 @@
 
     lightFits() {
       const {fits} = this;
-      if (!fits || !fits.count || fits.count === studio.state.darts) return;
+      if (!fits || !fits.count || fits.count === studio.state.darts || fits.count > gmr.MOST_LIT) return;
       const darts = fits.ranges.flatMap(([first, last]) => Array.from({length: last - first + 1}, (_, at) => first + at));
       stage.light(darts, 'fits', this.kindOfHook());
     }

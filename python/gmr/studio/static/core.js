@@ -9,7 +9,7 @@
   'use strict';
 
   const listeners = {};
-  const CHANGING = new Set(['apply', 'each', 'each_chosen', 'undo', 'redo', 'group', 'script', 'book', 'open', 'import', 'restore']);
+  const CHANGING = new Set(['apply', 'each', 'each_chosen', 'undo', 'redo', 'group', 'script', 'book', 'open', 'import', 'restore', 'example']);
 
   const studio = {
     state: null,
@@ -30,10 +30,16 @@
       } catch (error) {
         throw new Error('The studio doesn\'t answer; it was ended. What was done is kept, and offered at its next start.');
       }
-      const isJson = (response.headers.get('Content-Type') || '').startsWith('application/json');
-      const answer = isJson ? await response.json() : {fault: (await response.text()).trim()};
+      const answer = await studio.read(response);
       if (!response.ok) throw new Error(answer.fault || `The studio answered ${response.status}.`);
       return answer;
+    },
+
+    // What an answer holds: JSON, with columns of numbers behind it or without, or a sentence.
+    async read(response) {
+      const kind = response.headers.get('Content-Type') || '';
+      if (kind.startsWith('application/octet-stream')) return gmr.unwired(await response.arrayBuffer());
+      return kind.startsWith('application/json') ? response.json() : {fault: (await response.text()).trim()};
     },
 
     // Asks for something that is done, and shows what came of it. Wishes wait for each other.
@@ -56,7 +62,7 @@
         studio.book = answer.book;
         studio.tell('book');
       }
-      if (answer.state) studio.state = answer.state;
+      if (answer.state) studio.state = studio.joined(answer.state);
       if (answer.scene) studio.tell('scene', answer.scene);
       if (answer.changes) studio.tell('changes', answer.changes, answer);
       if (answer.state || answer.names) studio.tell('state');
@@ -66,6 +72,12 @@
       }
     },
 
+    // A state of which the first steps are those that are known.
+    joined(state) {
+      const known = studio.state ? studio.state.steps : [];
+      return {...state, steps: [...known.slice(0, state.kept), ...state.steps]};
+    },
+
     // Shows lines of the program as they came, and sentences.
     say(lines, why, isGood) {
       studio.answers.push({lines, why, isGood});
@@ -73,6 +85,20 @@
       studio.tell('message', {lines, why, isGood});
     },
   };
+
+  // The answer that bytes are, see gmr.studio.wire: its columns are read where they lie.
+  function unwired(bytes) {
+    const length = new DataView(bytes).getUint32(0, true);
+    const answer = JSON.parse(new TextDecoder().decode(new Uint8Array(bytes, 4, length)));
+    const read = (value) => {
+      if (value === null || typeof value !== 'object') return value;
+      if (gmr.ARRAYS[value.type] && value.at !== undefined) return new gmr.ARRAYS[value.type](bytes, 4 + length + value.at, value.count);
+      for (const key of Object.keys(value)) value[key] = read(value[key]);
+      return value;
+    };
+    for (const part of ['changes', 'scene']) if (answer[part]) read(answer[part]);
+    return answer;
+  }
 
   // An element with attributes, listeners (`onclick: f`) and children; texts are set as texts, never as HTML.
   function element(name, attributes, ...children) {
@@ -88,5 +114,5 @@
 
   const byId = (id) => document.getElementById(id);
 
-  Object.assign(gmr, {studio, element, byId});
+  Object.assign(gmr, {studio, element, byId, unwired});
 }(window.gmr = window.gmr || {}));

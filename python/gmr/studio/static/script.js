@@ -4,6 +4,8 @@
 
   const {studio, element, byId} = gmr;
   let edited = null;      // the field of the whole script while it is edited
+  let list = null;        // the list of the steps, and of it the items that are as the state is
+  let items = [];
 
   const textOf = (steps) => steps.map((step) => `${step.text}\n`).join('');
 
@@ -52,19 +54,30 @@
       element('span', {hidden: true}, String(undo), String(redo)));
   }
 
-  function showSteps() {
-    const {steps, rest, group} = studio.state;
-    let line = 1;
-    const items = steps.map((step, at) => {
-      const item = stepItem(step, at, line);
+  // The items of the steps: those that the page has stay as far as the steps are the known ones.
+  function stepItems() {
+    const {steps, kept} = studio.state;
+    items = items.slice(0, list ? Math.min(kept, items.length) : 0);
+    let line = 1 + steps.slice(0, items.length).reduce((sum, step) => sum + step.text.split('\n').length, 0);
+    for (const step of steps.slice(items.length)) {
+      items.push(stepItem(step, items.length, line));
       line += step.text.split('\n').length;
-      return item;
-    });
-    const list = element('ol', {class: 'steps', id: 'steps', tabindex: '0', 'aria-label': 'The script'}, items, groupItems(group, line), restItems(rest));
+    }
+    return line;
+  }
+
+  function showSteps() {
+    const {rest, group} = studio.state;
+    const before = items;
+    const line = stepItems();
+    const behind = [...groupItems(group, line), ...restItems(rest)];
+    if (!list) list = element('ol', {class: 'steps', id: 'steps', tabindex: '0', 'aria-label': 'The script'});
+    while (list.children.length && list.lastChild !== items[list.children.length - 1]) list.lastChild.remove();
+    list.append(...items.slice(list.children.length), ...behind);
     const hint = items.length || group !== null || rest.trim() ? null : element('p', {class: 'hint'},
       'Each thing that is done stands here as a line of the script. Choose a rule at the left and click the model.');
     byId('panel-script').replaceChildren(...[bar(), hint, list].filter(Boolean));
-    list.scrollTop = list.scrollHeight;
+    if (before !== items || behind.length) list.scrollTop = list.scrollHeight;
   }
 
   // The place in a text up to the end of the line at a place.
@@ -80,6 +93,7 @@
     };
     const leave = () => {
       edited = null;
+      list = null;
       showSteps();
     };
     byId('panel-script').replaceChildren(element('div', {class: 'bar'},
@@ -89,7 +103,9 @@
     edited.focus();
   }
 
-  studio.on('state', () => { if (!edited) showSteps(); });
+  studio.on('state', () => {
+    if (edited) items = []; else showSteps();
+  });
 
   gmr.script = {edit, wholeText};
 }(window.gmr = window.gmr || {}));

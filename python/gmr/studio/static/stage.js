@@ -35,25 +35,25 @@
     }
 
     change(changes) {
-      const began = performance.now();
       const found = this.viewer.update(changes);
-      this.took = performance.now() - began;
       this.forgetGone();
-      this.keepInView();
-    const lit = found.fresh.length ? found.fresh : found.changed;
+      this.keepInView(found);
+      const lit = found.fresh.length ? found.fresh : found.changed;
       this.light(lit, 'new', 'face');
       clearTimeout(this.fading);
       this.fading = setTimeout(() => this.light([], 'new'), this.glow);
+      this.showLooks();
       this.shown();
     }
 
-    // Steps back where the map reaches out of the picture now, without turning.
-    keepInView() {
+    // Steps back where what is new or changed reaches out of the picture now, without turning.
+    keepInView({fresh, changed}) {
       const {viewer} = this;
       const {camera, controls} = viewer;
+      if (!this.isOutside(fresh) && !this.isOutside(changed)) return;
       const {middle, far} = viewer.reach();
       const way = camera.position.clone().sub(controls.target);
-      if (!this.isOutside() || way.length() > 1.6 * far) return;
+      if (way.length() > 1.6 * far) return;
       controls.target.copy(middle);
       camera.position.copy(middle).addScaledVector(way.normalize(), far);
       camera.far = Math.max(camera.far, far * 40);
@@ -62,16 +62,15 @@
       viewer.draw();
     }
 
-    // Whether a corner of the map is drawn outside the picture.
-    isOutside() {
-      const {shape, camera} = this.viewer;
+    // Whether a corner of some darts is drawn outside the picture.
+    isOutside(darts) {
+      const {shape, camera, state} = this.viewer;
       camera.updateMatrixWorld();
       const place = new THREE.Vector3();
-      for (let dart = 0; dart < shape.count; dart += 1) {
-        place.set(...shape.place(shape.vertex, dart)).project(camera);
-        if (Math.max(Math.abs(place.x), Math.abs(place.y)) > 0.99) return true;
-      }
-      return false;
+      return darts.some((dart) => {
+        place.fromArray(shape.vertex, 3 * state.indexOf(dart)).project(camera);
+        return Math.max(Math.abs(place.x), Math.abs(place.y)) > 0.99;
+      });
     }
 
     shown() { studio.tell('shown'); }
@@ -123,7 +122,7 @@
       const orbits = state.orbits(labels);
       if (!orbits.sizes) {
         orbits.sizes = new Int32Array(orbits.count);
-        for (const orbit of orbits.of) orbits.sizes[orbit] += 1;
+        for (const orbit of orbits.of) if (orbit >= 0) orbits.sizes[orbit] += 1;
       }
       const at = state.indexOf(dart);
       if (orbits.sizes[orbits.of[at]] > MOST_LIT) return [dart];
@@ -189,8 +188,8 @@
       const {state} = this.viewer;
       if (!state.count) return;
       const at = this.cursor === null ? -1 : state.indexOf(this.cursor);
-      const next = at < 0 ? 0 : label === null ? (at + 1) % state.count : state.alpha[label] ? state.alpha[label][at] : at;
-      const dart = state.names[next];
+      const dart = at < 0 ? state.nameBehind(-1) : label === null ? state.nameBehind(this.cursor)
+        : state.names[state.alpha[label] ? state.alpha[label][at] : at];
       this.cursor = dart;
       const pixel = this.viewer.pixelOf(dart);
       this.hover({dart, kind: 'dart', pixel, isKey: true});
@@ -255,5 +254,5 @@
     }
   }
 
-  Object.assign(gmr, {Stage, stage: new Stage(), KINDS_OF_CLICKS: KINDS});
+  Object.assign(gmr, {Stage, stage: new Stage(), MOST_LIT, KINDS_OF_CLICKS: KINDS});
 }(window.gmr = window.gmr || {}));

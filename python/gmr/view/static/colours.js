@@ -41,33 +41,63 @@
     });
   }
 
-  // The colour of each dart: `by` is null for none, the name of an embedding, or the labels of orbits.
-  function dartColours(state, by) {
-    if (by === null || by === undefined || by === 'plain') return null;
-    const made = new Uint8Array(state.count * 3);
-    if (Array.isArray(by)) {
-      const orbits = state.orbits(by);
-      const colours = Array.from({length: orbits.count}, (_, number) => orbitColour(number));
-      for (let dart = 0; dart < state.count; dart += 1) made.set(colours[orbits.of[dart]], 3 * dart);
-      return made;
+  const FINE = 1000;
+  const SHADES = Uint8Array.from(Array.from({length: FINE + 1}, (_, at) => shade(at / FINE)).flat());
+
+  // The colours of darts: by an embedding, by the orbits over labels, or one for all.
+  class Tints {
+    constructor(state, by, plain) {
+      Object.assign(this, {state, by, plain: parse(plain)});
+      this.embed = typeof by === 'string' ? state.embed(by) : null;
+      if (Array.isArray(by)) this.findOrbits();
+      else if (this.embed && this.embed.kind !== 'rgb') [this.least, this.most] = this.reach();
     }
-    const embed = state.embed(by);
-    if (!embed) return null;
-    const sizes = new Float64Array(state.count);
-    for (let dart = 0; dart < state.count; dart += 1) {
-      for (let part = 0; part < embed.width; part += 1) {
-        const value = Number(embed.values[dart * embed.width + part]);
-        sizes[dart] += value;
-        if (embed.kind === 'rgb') made[3 * dart + part] = value;
+
+    // Whether the darts have one colour all.
+    get isPlain() { return !this.embed && !this.orbits; }
+
+    // A part, from 0 to 255, of a dart's colour.
+    of(dart, part) {
+      const {embed} = this;
+      if (this.orbits) return this.colours[3 * this.orbits.of[dart] + part];
+      if (!embed) return this.plain[part];
+      if (embed.kind === 'rgb') return Number(embed.values[3 * dart + part]);
+      return SHADES[3 * Math.round((this.size(dart) - this.least) / (this.most - this.least || 1) * FINE) + part];
+    }
+
+    findOrbits() {
+      this.orbits = this.state.orbits(this.by);
+      this.colours = new Uint8Array(3 * this.orbits.count);
+      for (let number = 0; number < this.orbits.count; number += 1) this.colours.set(orbitColour(number), 3 * number);
+    }
+
+    // The sum of a dart's numbers.
+    size(dart) {
+      const {width, values} = this.embed;
+      let sum = 0;
+      for (let part = 0; part < width; part += 1) sum += Number(values[dart * width + part]);
+      return sum;
+    }
+
+    reach() {
+      let [least, most] = [Infinity, -Infinity];
+      for (let slot = 0; slot < this.state.top; slot += 1) {
+        if (this.state.names[slot] < 0) continue;
+        const size = this.size(slot);
+        least = Math.min(least, size);
+        most = Math.max(most, size);
       }
+      return [least, most];
     }
-    if (embed.kind === 'rgb') return made;
-    let least = Infinity;
-    let most = -Infinity;
-    for (const size of sizes) { least = Math.min(least, size); most = Math.max(most, size); }
-    for (let dart = 0; dart < state.count; dart += 1) made.set(shade((sizes[dart] - least) / (most - least || 1)), 3 * dart);
-    return made;
+
+    // Takes up a change. Gives whether darts that didn't change have their colours still.
+    renew() {
+      if (this.orbits) return false;
+      if (!this.embed || this.embed.kind === 'rgb') return true;
+      const [least, most] = this.reach();
+      return least === this.least && most === this.most;
+    }
   }
 
-  Object.assign(gmr, {THEMES, colours: {parse, shade, orbitColour, dartColours}});
+  Object.assign(gmr, {THEMES, Tints, colours: {parse}});
 }(window.gmr = window.gmr || {}));

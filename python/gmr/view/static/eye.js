@@ -3,16 +3,18 @@
   'use strict';
 
   // What must be seen, three numbers each: the vertices of all darts, and both ends of the strokes that lie outside.
-  function placesOf({shape, options, inset}) {
-    const {vertex, count, outer} = shape;
-    const outside = shape.bends ? Array.from(outer.keys()).filter((dart) => outer[dart]) : [];
-    const found = new Float64Array(3 * count + 6 * outside.length);
+  function placesOf({state, shape, options, inset}) {
+    const {vertex, outer} = shape;
+    const all = state.taken();
+    const outside = shape.bends ? all.filter((dart) => outer[dart]) : [];
+    const found = new Float64Array(3 * all.length + 6 * outside.length);
     const moved = [0, 0, 0];
-    for (let dart = 0; dart < count; dart += 1) {
-      shape.drift(dart, vertex, 3 * dart, moved, 0);
-      for (let axis = 0; axis < 3; axis += 1) found[3 * dart + axis] = vertex[3 * dart + axis] + options.apart * moved[axis];
+    for (let at = 0; at < all.length; at += 1) {
+      const from = 3 * all[at];
+      if (options.apart) shape.drift(all[at], vertex, from, moved, 0);
+      for (let axis = 0; axis < 3; axis += 1) found[3 * at + axis] = vertex[from + axis] + options.apart * moved[axis];
     }
-    outside.forEach((dart, at) => shape.stroke(dart, inset, found, 3 * count + 6 * at));
+    outside.forEach((dart, at) => shape.stroke(dart, inset, found, 3 * all.length + 6 * at));
     return found;
   }
 
@@ -23,15 +25,15 @@
     const turned = new Float64Array(places.length);
     const [right, up, back] = [0, 1, 2].map((axis) => new THREE.Vector3().setFromMatrixColumn(camera.matrixWorld, axis));
     const [low, high] = [[Infinity, Infinity, Infinity], [-Infinity, -Infinity, -Infinity]];
-    for (let at = 0; at < places.length; at += 3) {
-      const [x, y, z] = places.subarray(at, at + 3);
-      [right, up, back].forEach((way, axis) => {
-        const part = way.x * x + way.y * y + way.z * z;
+    [right, up, back].forEach((way, axis) => {
+      const {x, y, z} = way;
+      for (let at = 0; at < places.length; at += 3) {
+        const part = x * places[at] + y * places[at + 1] + z * places[at + 2];
         turned[at + axis] = part;
         if (part < low[axis]) low[axis] = part;
         if (part > high[axis]) high[axis] = part;
-      });
-    }
+      }
+    });
     const middle = places.length ? low.map((part, axis) => (part + high[axis]) / 2) : [0, 0, 0];
     const tall = Math.tan(camera.fov * Math.PI / 360);
     const wide = tall * camera.aspect;
@@ -44,5 +46,5 @@
     return {middle: centre, far};
   }
 
-  gmr.reachOf = reachOf;
+  Object.assign(gmr, {placesOf, reachOf});
 }(window.gmr = window.gmr || {}));

@@ -1,98 +1,99 @@
-// The layer of faces: their triangles, in one buffer.
+// The layer of faces: their triangles, in one buffer, a block for each face.
 (function (gmr) {
   'use strict';
 
-  const {FAN, ROUND, EARS} = gmr;
-
-  // How each face is cut, and how many corners all triangles have.
-  function plan(shape, polygons) {
-    const kinds = new Uint8Array(polygons.count);
-    const ears = new Map();
-    let corners = 0;
-    for (let face = 0; face < polygons.count; face += 1) {
-      const size = polygons.begins[face + 1] - polygons.begins[face];
-      if (shape.outer[polygons.firsts[face]]) continue;
-      kinds[face] = polygons.kindOf(face);
-      if (kinds[face] === EARS) ears.set(face, polygons.ears(face));
-      corners += 3 * (kinds[face] === ROUND ? size : kinds[face] === EARS ? ears.get(face).length : Math.max(0, size - 2));
-    }
-    return {kinds, ears, corners};
-  }
-
-  // The mean of the colours of a face's corners.
-  function meanColour(colours, polygons, face) {
-    const [begin, end] = [polygons.begins[face], polygons.begins[face + 1]];
-    const sum = [0, 0, 0];
-    for (let at = begin; at < end; at += 1) {
-      for (let part = 0; part < 3; part += 1) sum[part] += colours[3 * polygons.darts[at] + part];
-    }
-    return sum.map((part) => part / (end - begin));
-  }
-
   class Faces {
-    constructor(shape, colours, theme) {
+    constructor(shape, tints) {
       this.shape = shape;
-      this.colours = colours;
-      this.polygons = shape.polygons();
-      const {kinds, ears, corners} = plan(shape, this.polygons);
-      this.plain = gmr.colours.parse(theme.face);
-      this.position = new Float32Array(3 * corners);
-      this.normal = new Float32Array(3 * corners);
-      this.drift = new Float32Array(3 * corners);
-      this.colour = new Uint8Array(3 * corners);
-      this.id = new Float32Array(corners);
-      this.top = 0;
-      for (let face = 0; face < this.polygons.count; face += 1) {
-        if (shape.outer[this.polygons.firsts[face]]) continue;
-        if (kinds[face] === FAN) this.fan(face);
-        else if (kinds[face] === ROUND) this.round(face);
-        else ears.get(face).forEach((cut) => cut.forEach((corner) => this.corner(face, this.polygons.begins[face] + corner)));
+      this.tints = tints;
+      this.polygon = new gmr.Polygon();
+      this.layout = {position: [3, Float32Array], normal: [3, Float32Array], colour: [3, Uint8Array, true], id: [1, Float32Array]};
+      if (shape.isSpread) this.layout.drift = [3, Float32Array];
+      this.pool = new gmr.Pool(this.layout);
+    }
+
+    // Makes all blocks anew, or those of the faces of groups; what the darts that went led is taken away.
+    renew(gone, groups) {
+      for (const slot of gone) this.pool.drop(slot);
+      const {list, begins, count} = groups;
+      for (const slot of list) this.pool.drop(slot);
+      for (let group = 0; group < count; group += 1) this.write(list[begins[group]]);
+    }
+
+    write(lead) {
+      if (this.shape.outer[lead]) return;
+      const polygon = this.polygon.read(this.shape, lead);
+      const {size} = polygon;
+      const isPlane = size < 4 || polygon.isPlane();
+      if (!isPlane) this.round(lead);
+      else if (size < 4 || polygon.isConvex()) this.fan(lead);
+      else this.cut(lead);
+    }
+
+    // Triangles from the first corner.
+    fan(lead) {
+      const {size} = this.polygon;
+      if (size < 3) return;
+      let to = this.pool.put(lead, 3 * (size - 2));
+      for (let at = 1; at + 1 < size; at += 1) {
+        this.corner(to, lead, 0);
+        this.corner(to + 1, lead, at);
+        this.corner(to + 2, lead, at + 1);
+        to += 3;
       }
     }
 
-    fan(face) {
-      const [begin, end] = [this.polygons.begins[face], this.polygons.begins[face + 1]];
-      for (let at = begin + 1; at + 1 < end; at += 1) {
-        this.corner(face, begin);
-        this.corner(face, at);
-        this.corner(face, at + 1);
+    // Triangles round the middle, whose colour is the mean of those of the corners.
+    round(lead) {
+      const {polygon} = this;
+      const {size, darts} = polygon;
+      const middle = this.shape.middleOf(lead);
+      const tint = [0, 1, 2].map((part) => {
+        let sum = 0;
+        for (let at = 0; at < size; at += 1) sum += this.tints.of(darts[at], part);
+        return sum / size;
+      });
+      let to = this.pool.put(lead, 3 * size);
+      for (let at = 0; at < size; at += 1) {
+        this.corner(to, lead, at);
+        this.corner(to + 1, lead, at + 1 === size ? 0 : at + 1);
+        this.put(to + 2, lead, lead, ...middle);
+        for (let part = 0; part < 3; part += 1) this.pool.colour[3 * to + 6 + part] = tint[part];
+        to += 3;
       }
     }
 
-    round(face) {
-      const {begins, firsts} = this.polygons;
-      const middle = this.shape.middleOf(firsts[face]);
-      const tint = this.colours ? meanColour(this.colours, this.polygons, face) : this.plain;
-      for (let at = begins[face]; at < begins[face + 1]; at += 1) {
-        this.corner(face, at);
-        this.corner(face, at + 1 === begins[face + 1] ? begins[face] : at + 1);
-        this.put(face, firsts[face], middle, 0, tint, 0);
-      }
+    // Triangles that are cut off one by one.
+    cut(lead) {
+      const corners = this.polygon.ears().flat();
+      const to = this.pool.put(lead, corners.length);
+      corners.forEach((corner, at) => this.corner(to + at, lead, corner));
     }
 
-    corner(face, at) {
-      const dart = this.polygons.darts[at];
-      this.put(face, dart, this.polygons.places, 3 * at, this.colours || this.plain, this.colours ? 3 * dart : 0);
+    corner(to, lead, at) {
+      const {places, darts} = this.polygon;
+      const dart = darts[at];
+      this.put(to, lead, dart, places[3 * at], places[3 * at + 1], places[3 * at + 2]);
+      const {colour} = this.pool;
+      colour[3 * to] = this.tints.of(dart, 0);
+      colour[3 * to + 1] = this.tints.of(dart, 1);
+      colour[3 * to + 2] = this.tints.of(dart, 2);
     }
 
-    put(face, dart, places, from, tints, tint) {
-      const to = 3 * this.top;
-      for (let axis = 0; axis < 3; axis += 1) {
-        this.position[to + axis] = places[from + axis];
-        this.normal[to + axis] = this.polygons.normals[3 * face + axis];
-        this.colour[to + axis] = tints[tint + axis];
-      }
-      this.shape.drift(dart, this.position, to, this.drift, to);
-      this.id[this.top] = this.polygons.firsts[face];
-      this.top += 1;
+    put(to, lead, dart, x, y, z) {
+      const {position, normal, id, drift} = this.pool;
+      const {normal: way} = this.polygon;
+      const at = 3 * to;
+      position[at] = x;
+      position[at + 1] = y;
+      position[at + 2] = z;
+      normal[at] = way[0];
+      normal[at + 1] = way[1];
+      normal[at + 2] = way[2];
+      id[to] = lead;
+      if (drift) this.shape.drift(dart, position, at, drift, at);
     }
   }
 
-  // The faces of a shape: places, ways at right angles, colours by dart, and which face each corner belongs to.
-  function faceArrays(shape, colours, theme) {
-    const {position, normal, colour, id, drift} = new Faces(shape, colours, theme);
-    return {position: [position, 3], normal: [normal, 3], colour: [colour, 3, true], id: [id, 1], drift: [drift, 3]};
-  }
-
-  gmr.faceArrays = faceArrays;
+  gmr.Faces = Faces;
 }(window.gmr = window.gmr || {}));

@@ -62,7 +62,7 @@
       if (!shape || !shape.count) return null;
       this.draw(x, y);
       const hit = this.nearest();
-      if (!hit || hit.index >= shape.count) return null;
+      if (!hit || this.viewer.state.names[hit.index] === undefined || this.viewer.state.names[hit.index] < 0) return null;
       const ray = this.ray(x, y);
       if (hit.kind === 'face') return this.inFace(hit.index, ray);
       if (hit.kind === 'edge') return this.onEdge(hit.index, ray);
@@ -92,11 +92,9 @@
     // The dart of a face that is nearest to where a ray meets it.
     inFace(first, ray) {
       const {shape} = this.viewer;
-      const polygons = shape.polygons();
-      const face = shape.faces.of[first];
-      const corner = new THREE.Vector3(...this.viewer.placed(first, polygons.cornerAt(polygons.begins[face])));
-      const plane = new THREE.Plane().setFromNormalAndCoplanarPoint(
-        new THREE.Vector3(...polygons.normals.subarray(3 * face, 3 * face + 3)), corner);
+      const polygon = new gmr.Polygon().read(shape, first);
+      const corner = new THREE.Vector3(...this.viewer.placed(first, polygon.corner(0)));
+      const plane = new THREE.Plane().setFromNormalAndCoplanarPoint(new THREE.Vector3(...polygon.normal), corner);
       const point = ray.intersectPlane(plane, new THREE.Vector3()) || corner;
       let best = null;
       for (const dart of shape.rim(first)) {

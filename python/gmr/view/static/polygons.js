@@ -1,141 +1,142 @@
-// Polygons: the corners of faces, which way they look, and the triangles that fill them.
+// The polygon of a face: its corners, which way it looks, and the triangles that fill it.
 (function (gmr) {
   'use strict';
-
-  const FAN = 0; // triangles from the first corner
-  const ROUND = 1; // triangles round the middle
-  const EARS = 2; // triangles that are cut off one by one
 
   const minus = (one, two) => one.map((part, axis) => part - two[axis]);
   const dot = (one, two) => one[0] * two[0] + one[1] * two[1] + one[2] * two[2];
   const cross = (one, two) => [one[1] * two[2] - one[2] * two[1], one[2] * two[0] - one[0] * two[2], one[0] * two[1] - one[1] * two[0]];
 
-  // The polygons of all faces in arrays: where the corners of each begin, their places and darts, and for each face its
-  // first dart, its mean way at right angles, and whether it is open.
-  class Polygons {
-    constructor(shape) {
-      this.shape = shape;
-      const {count} = shape.faces;
-      this.count = count;
-      this.begins = new Int32Array(count + 1);
-      this.firsts = new Int32Array(count);
-      this.normals = new Float32Array(3 * count);
-      const most = (shape.bends ? 2 : 1) * shape.count + 3 * count;
-      this.places = new Float32Array(3 * most);
-      this.darts = new Int32Array(most);
-      this.top = 0;
-      let next = 0;
-      for (let dart = 0; dart < shape.count && next < count; dart += 1) {
-        if (shape.faces.of[dart] === next) this.write(dart, next++);
-      }
-      this.begins[count] = this.top;
+  // One polygon, which is read of one face after another: its corners' places and darts, and its mean way at right angles.
+  class Polygon {
+    constructor() {
+      this.places = new Float64Array(3 * 64);
+      this.darts = new Int32Array(64);
+      this.normal = new Float64Array(3);
+      this.size = 0;
     }
 
     // Writes a corner, if it isn't where the last one is.
-    add(array, dart, begin) {
-      const {places, top} = this;
-      const [x, y, z] = [array[3 * dart], array[3 * dart + 1], array[3 * dart + 2]];
-      const last = 3 * top - 3;
-      if (top > begin && places[last] === x && places[last + 1] === y && places[last + 2] === z) return;
-      places[3 * top] = x;
-      places[3 * top + 1] = y;
-      places[3 * top + 2] = z;
-      this.darts[top] = dart;
-      this.top = top + 1;
+    add(array, dart) {
+      const last = 3 * this.size - 3;
+      const x = array[3 * dart];
+      const y = array[3 * dart + 1];
+      const z = array[3 * dart + 2];
+      if (this.size && this.places[last] === x && this.places[last + 1] === y && this.places[last + 2] === z) return;
+      this.put(x, y, z, dart);
     }
 
-    // Writes the corners of a face: the vertices; where edges are bent their middles too; where it is open its middle.
-    write(first, face) {
-      const {shape} = this;
+    put(x, y, z, dart) {
+      if (this.size === this.darts.length) {
+        this.places = gmr.grown(this.places, 6 * this.size);
+        this.darts = gmr.grown(this.darts, 2 * this.size);
+      }
+      const at = 3 * this.size;
+      this.places[at] = x;
+      this.places[at + 1] = y;
+      this.places[at + 2] = z;
+      this.darts[this.size] = dart;
+      this.size += 1;
+    }
+
+    // Reads the corners of a dart's face: the vertices; where edges are bent their middles too; where it is open its middle.
+    read(shape, first) {
       const [zero, one] = shape.steps;
-      const begin = this.top;
-      this.begins[face] = begin;
-      this.firsts[face] = first;
+      this.size = 0;
       const {start, label} = shape.rimStart(first);
       let [dart, step, isOpen] = [start, label, false];
-      if (zero[dart] === dart && step === one) this.add(shape.edge, dart, begin);
+      if (zero[dart] === dart && step === one) this.add(shape.edge, dart);
       for (;;) {
-        this.add(shape.vertex, dart, begin);
-        if (shape.bends || zero[dart] === dart) this.add(shape.edge, dart, begin);
+        this.add(shape.vertex, dart);
+        if (shape.bends || zero[dart] === dart) this.add(shape.edge, dart);
         if (zero[dart] === dart || one[dart] === dart) isOpen = true;
         const near = step[dart];
         if (near === start || near === dart) break;
         dart = near;
         step = step === one ? zero : one;
       }
-      if (isOpen) this.addMiddle(start);
-      else if (this.top - begin > 1 && this.isSame(begin, this.top - 1)) this.top -= 1;
-      this.writeNormal(face, begin, this.top);
+      if (isOpen) this.put(...shape.middleOf(start), start);
+      else if (this.size > 1 && this.isRound()) this.size -= 1;
+      this.findNormal();
+      return this;
     }
 
-    isSame(one, two) {
-      return [0, 1, 2].every((axis) => this.places[3 * one + axis] === this.places[3 * two + axis]);
+    // Whether the last corner is where the first one is.
+    isRound() {
+      const [p, last] = [this.places, 3 * this.size - 3];
+      return p[0] === p[last] && p[1] === p[last + 1] && p[2] === p[last + 2];
     }
 
-    addMiddle(dart) {
-      this.places.set(this.shape.middleOf(dart), 3 * this.top);
-      this.darts[this.top] = dart;
-      this.top += 1;
-    }
-
-    // The mean way at right angles to a face, as long as 1.
-    writeNormal(face, begin, end) {
+    // The mean way at right angles to the polygon, as long as 1, and what it fills with the middle of all, six times.
+    findNormal() {
       const p = this.places;
-      const o = 3 * begin;
-      let [x, y, z] = [0, 0, 0];
-      for (let at = 3 * begin + 3; at + 3 < 3 * end; at += 3) {
-        const [ax, ay, az] = [p[at] - p[o], p[at + 1] - p[o + 1], p[at + 2] - p[o + 2]];
-        const [bx, by, bz] = [p[at + 3] - p[o], p[at + 4] - p[o + 1], p[at + 5] - p[o + 2]];
+      let x = 0;
+      let y = 0;
+      let z = 0;
+      for (let at = 3; at + 3 < 3 * this.size; at += 3) {
+        const ax = p[at] - p[0];
+        const ay = p[at + 1] - p[1];
+        const az = p[at + 2] - p[2];
+        const bx = p[at + 3] - p[0];
+        const by = p[at + 4] - p[1];
+        const bz = p[at + 5] - p[2];
         x += ay * bz - az * by;
         y += az * bx - ax * bz;
         z += ax * by - ay * bx;
       }
-      const length = Math.hypot(x, y, z) || 1;
-      this.normals[3 * face] = x / length;
-      this.normals[3 * face + 1] = y / length;
-      this.normals[3 * face + 2] = z / length;
+      this.filled = p[0] * x + p[1] * y + p[2] * z;
+      const length = Math.sqrt(x * x + y * y + z * z) || 1;
+      this.normal[0] = x / length;
+      this.normal[1] = y / length;
+      this.normal[2] = z / length;
     }
 
-    // How a face is cut into triangles: see FAN, ROUND and EARS.
-    kindOf(face) {
-      const [begin, end] = [this.begins[face], this.begins[face + 1]];
-      if (end - begin < 4) return FAN;
-      const [n, p] = [this.normals.subarray(3 * face, 3 * face + 3), this.places];
-      const height = (at) => p[3 * at] * n[0] + p[3 * at + 1] * n[1] + p[3 * at + 2] * n[2];
-      const level = height(begin);
-      for (let at = begin + 1; at < end; at += 1) if (Math.abs(height(at) - level) > 2e-6) return ROUND;
-      for (let at = begin; at < end; at += 1) {
-        const [before, after] = [at === begin ? end - 1 : at - 1, at + 1 === end ? begin : at + 1];
-        if (this.turn(before, at, after, n) < -1e-9) return EARS;
+    // Whether the corners lie on one plane.
+    isPlane() {
+      const [p, n] = [this.places, this.normal];
+      const level = p[0] * n[0] + p[1] * n[1] + p[2] * n[2];
+      for (let at = 3; at < 3 * this.size; at += 3) {
+        if (Math.abs(p[at] * n[0] + p[at + 1] * n[1] + p[at + 2] * n[2] - level) > 2e-6) return false;
       }
-      return FAN;
+      return true;
     }
 
-    // How much a polygon turns at a corner, below 0 where it turns against its way.
-    turn(before, at, after, n) {
+    // Whether the polygon turns against its way at no corner.
+    isConvex() {
+      for (let at = 0; at < this.size; at += 1) {
+        if (this.turn(at ? at - 1 : this.size - 1, at, at + 1 === this.size ? 0 : at + 1) < -1e-9) return false;
+      }
+      return true;
+    }
+
+    // How much the polygon turns at a corner, below 0 where it turns against its way.
+    turn(before, at, after) {
       const p = this.places;
-      const [i, j, k] = [3 * before, 3 * at, 3 * after];
-      const [ax, ay, az] = [p[j] - p[i], p[j + 1] - p[i + 1], p[j + 2] - p[i + 2]];
-      const [bx, by, bz] = [p[k] - p[j], p[k + 1] - p[j + 1], p[k + 2] - p[j + 2]];
+      const n = this.normal;
+      const i = 3 * before;
+      const j = 3 * at;
+      const k = 3 * after;
+      const ax = p[j] - p[i];
+      const ay = p[j + 1] - p[i + 1];
+      const az = p[j + 2] - p[i + 2];
+      const bx = p[k] - p[j];
+      const by = p[k + 1] - p[j + 1];
+      const bz = p[k + 2] - p[j + 2];
       return (ay * bz - az * by) * n[0] + (az * bx - ax * bz) * n[1] + (ax * by - ay * bx) * n[2];
     }
 
-    // The triangles of a face that turns both ways, as places among its corners.
-    ears(face) {
-      const normal = Array.from(this.normals.subarray(3 * face, 3 * face + 3));
+    // The triangles of a polygon that turns both ways, as places among its corners.
+    ears() {
+      const normal = Array.from(this.normal);
       const right = cross(normal, Math.abs(normal[0]) < 0.8 ? [1, 0, 0] : [0, 1, 0]);
       const up = cross(normal, right);
-      const flat = this.corners(face).map((place) => new THREE.Vector2(dot(place, right), dot(place, up)));
+      const corners = Array.from({length: this.size}, (_, at) => this.corner(at));
+      const flat = corners.map((place) => new THREE.Vector2(dot(place, right), dot(place, up)));
       const cut = THREE.ShapeUtils.triangulateShape(flat, []);
       return cut.length ? cut : flat.slice(2).map((_, at) => [0, at + 1, at + 2]);
     }
 
-    corners(face) {
-      return Array.from({length: this.begins[face + 1] - this.begins[face]}, (_, at) => this.cornerAt(this.begins[face] + at));
-    }
-
-    cornerAt(at) { return Array.from(this.places.subarray(3 * at, 3 * at + 3)); }
+    corner(at) { return Array.from(this.places.subarray(3 * at, 3 * at + 3)); }
   }
 
-  Object.assign(gmr, {Polygons, minus, dot, FAN, ROUND, EARS});
+  Object.assign(gmr, {Polygon, minus, dot});
 }(window.gmr = window.gmr || {}));

@@ -1,227 +1,232 @@
-// Where everything of a map is: the places of its darts, in units in which the whole map is about 2 wide.
+// Where everything of a map is: the places of its darts by their slots, in units in which the whole map is about 2 wide.
 (function (gmr) {
   'use strict';
 
-  // The labels of a state that play 0 to 3, where dimension 1 has no 2 and only dimension 3 has a 3.
-  function stepsOf(state) {
-    const self = new Int32Array(state.count);
-    for (let at = 0; at < self.length; at += 1) self[at] = at;
-    const roles = [...state.roles];
-    if (state.dimension === 3) roles.push([0, 1, 2, 3].find((label) => !roles.includes(label)));
-    return {steps: [0, 1, 2, 3].map((role) => (role < roles.length ? state.alpha[roles[role]] : self)), roles};
-  }
-
-  // The mean of the places over each orbit: three numbers an orbit.
-  function means(orbits, places, count) {
-    const sums = new Float64Array(orbits.count * 3);
-    const sizes = new Int32Array(orbits.count);
-    for (let dart = 0; dart < count; dart += 1) {
-      const to = orbits.of[dart];
-      sizes[to] += 1;
-      for (let axis = 0; axis < 3; axis += 1) sums[3 * to + axis] += places[3 * dart + axis];
-    }
-    for (let at = 0; at < sums.length; at += 1) sums[at] /= sizes[(at / 3) | 0];
-    return sums;
-  }
-
   // The frame in which a map is drawn: what is subtracted from places, and by what they are divided.
-  function frameOf(places) {
+  function frameOf(places, slots) {
     const low = [Infinity, Infinity, Infinity];
     const high = [-Infinity, -Infinity, -Infinity];
-    for (let at = 0; at < places.length; at += 1) {
-      const axis = at % 3;
-      if (places[at] < low[axis]) low[axis] = places[at];
-      if (places[at] > high[axis]) high[axis] = places[at];
+    for (let at = 0; at < slots.length; at += 1) {
+      for (let axis = 0; axis < 3; axis += 1) {
+        const place = places[3 * slots[at] + axis];
+        if (place < low[axis]) low[axis] = place;
+        if (place > high[axis]) high[axis] = place;
+      }
     }
-    if (!places.length) return {middle: [0, 0, 0], radius: 1};
+    if (!slots.length) return {middle: [0, 0, 0], radius: 1};
     const reach = Math.hypot(...high.map((top, axis) => top - low[axis])) / 2;
     return {middle: high.map((top, axis) => (top + low[axis]) / 2), radius: reach || 1};
   }
 
-  // The places of a map with points: of each dart its vertex, and the middle of its edge. The stub of an edge with one
-  // end leads a little way into its face.
-  function placesByPoints(state) {
-    const embed = state.embed(state.points);
-    const vertex = new Float64Array(state.count * 3);
-    for (let dart = 0; dart < state.count; dart += 1) {
-      for (let part = 0; part < embed.width; part += 1) {
-        vertex[3 * dart + part] = Number(embed.values[dart * embed.width + part]);
-      }
+  // The places of darts in the numbers of the map: of each its vertex.
+  function writePoints(state, slots, into) {
+    const {width, values} = state.embed(state.points);
+    for (let at = 0; at < slots.length; at += 1) {
+      const slot = slots[at];
+      for (let part = 0; part < width; part += 1) into[3 * slot + part] = Number(values[slot * width + part]);
     }
-    return vertex;
   }
 
-  // The places of a map that is laid out flat: four a dart, see gmr.view.places.
-  function placesLaidOut(state) {
-    const {from, step, at} = state.places;
-    const numbers = gmr.unpack(at);
-    const places = [0, 1, 2, 3].map(() => new Float64Array(state.count * 3));
-    for (let dart = 0; dart < state.count; dart += 1) {
-      for (let part = 0; part < 4; part += 1) {
-        for (let axis = 0; axis < 2; axis += 1) {
-          places[part][3 * dart + axis] = from[axis] + step * numbers[(4 * dart + part) * 2 + axis];
-        }
-      }
-    }
-    return places;
-  }
-
-  // The vertices of a large map that is laid out in space.
-  function placesInSpace(state) {
-    const made = new Float64Array(state.count * 3);
+  // The places of a map that is laid out, so many a dart by ascending names, each of so many numbers.
+  function placesLaidOut(state, slots, many, width) {
+    const made = Array.from({length: many}, () => new Float64Array(3 * state.names.length));
     if (!state.places) return made;
     const {from, step, at} = state.places;
     const numbers = gmr.unpack(at);
-    for (let place = 0; place < made.length; place += 1) made[place] = from[place % 3] + step * numbers[place];
+    for (let place = 0; place < slots.length; place += 1) {
+      for (let part = 0; part < many; part += 1) {
+        for (let axis = 0; axis < width; axis += 1) {
+          made[part][3 * slots[place] + axis] = from[axis] + step * numbers[(many * place + part) * width + axis];
+        }
+      }
+    }
     return made;
-  }
-
-  // Six times what a triangle fills with the middle of all: its corners are one, and two that follow each other.
-  function tripleOf(places, one, two) {
-    const [x, y, z] = [places[one], places[one + 1], places[one + 2]];
-    const [a, b, c, d, e, f] = places.subarray(two, two + 6);
-    return x * (b * f - c * e) + y * (c * d - a * f) + z * (a * e - b * d);
   }
 
   class Shape {
     // The shape of a state, in a frame or in its own.
     constructor(state, frame) {
       this.state = state;
-      this.count = state.count;
-      const {steps, roles} = stepsOf(state);
-      this.steps = steps;
-      this.roleLabels = roles;
       this.isLine = state.dimension === 1;
       this.deep = 0;
-      this.outer = new Uint8Array(this.count);
-      this.faces = gmr.orbitsOver(this.count, [steps[0], steps[1]]);
-      this.volumes = gmr.orbitsOver(this.count, [steps[0], steps[1], steps[2]]);
-      if (state.places && state.places.flat) this.layOut(frame); else this.stand(frame);
-      this.volumeMiddles = means(this.volumes, this.vertex, this.count);
-      this.spread();
+      this.room = 0;
+      this.makeRoom();
+      this.bends = Boolean(state.places && state.places.flat);
+      const all = state.places ? state.inOrder() : state.taken();
+      if (this.bends) this.layOut(frame, all); else this.stand(frame, all);
+      this.isFlat = this.bends || this.isLevel();
+      this.parts = 0;
+      this.joinVolumes([], all);
+      this.isSpread = this.parts > 1 && !this.bends;
+      this.middle = this.middleOfParts(all);
+    }
+
+    get count() { return this.state.count; }
+
+    // Makes room for the darts of the state, and finds its steps: the labels that play 0, 1 and 2.
+    makeRoom() {
+      const {state} = this;
+      const room = state.names.length;
+      if (room > this.room) {
+        const all = {vertex: Float32Array, edge: Float32Array, toward1: Float32Array, toward0: Float32Array, volumeMiddles: Float64Array};
+        for (const [name, Type] of Object.entries(all)) this[name] = this[name] ? gmr.grown(this[name], 3 * room) : new Type(3 * room);
+        for (const [name, Type] of [['outer', Uint8Array], ['face', Int32Array], ['volume', Int32Array], ['self', Int32Array]]) {
+          this[name] = this[name] ? gmr.grown(this[name], room) : new Type(room);
+        }
+        this.volume.fill(-1, this.room);
+        for (let at = this.room; at < room; at += 1) this.self[at] = at;
+        this.room = room;
+      }
+      this.roleLabels = [...state.roles];
+      if (state.dimension === 3) this.roleLabels.push([0, 1, 2, 3].find((label) => !state.roles.includes(label)));
+      this.steps = [0, 1, 2].map((role) => (role < state.roles.length ? state.alpha[state.roles[role]] : this.self));
+    }
+
+    // Takes up what `State.apply` found. Gives the slots of darts that went, and the faces that are other ones; null
+    // where all is to be made anew.
+    renew({slots: {gone, rows}, isSewn}) {
+      const hadSpread = this.isSpread;
+      this.ways = null;
+      this.makeRoom();
+      if (this.state.places || 2 * rows.length > this.count) return null;
+      this.writeVertices(rows);
+      if (this.isLevel() !== this.isFlat) return null;
+      const volumes = isSewn ? this.joinVolumes(gone, rows) : null;
+      this.isSpread = this.parts > 1;
+      if (this.isSpread !== hadSpread) return null;
+      const faces = gmr.gather(this.state, this.steps.slice(0, 2), volumes && this.needsVolumes() ? volumes.list : rows);
+      this.renewFaces(faces);
+      return {gone, faces};
+    }
+
+    // Whether something that is drawn moves or hides with its volume.
+    needsVolumes() { return this.isSpread || this.deep > 0 || this.hasWays; }
+
+    stand(frame, all) {
+      const {state} = this;
+      const places = state.points ? new Float64Array(3 * this.room) : placesLaidOut(state, all, 1, 3)[0];
+      if (state.points) writePoints(state, all, places);
+      this.frame = frame || frameOf(places, all);
+      this.vertex = this.framed(places);
+      this.renewFaces(gmr.gather(state, this.steps.slice(0, 2), all));
     }
 
     // Scales places into the frame.
     framed(places) {
-      const made = new Float32Array(places.length);
       const {middle, radius} = this.frame;
-      for (let at = 0; at < places.length; at += 1) made[at] = (places[at] - middle[at % 3]) / radius;
+      const made = new Float32Array(places.length);
+      for (let at = 0, axis = 0; at < places.length; at += 1, axis = axis === 2 ? 0 : axis + 1) made[at] = (places[at] - middle[axis]) / radius;
       return made;
     }
 
-    stand(frame) {
-      const points = this.state.points ? placesByPoints(this.state) : placesInSpace(this.state);
-      this.frame = frame || frameOf(points);
-      this.isFlat = points.every((number, at) => at % 3 !== 2 || number === points[2]);
-      this.vertex = this.framed(points);
-      const middles = means(this.faces, this.vertex, this.count);
-      this.edge = new Float32Array(this.count * 3);
-      this.toward1 = new Float32Array(this.count * 3);
-      this.toward0 = new Float32Array(this.count * 3);
-      this.bends = false;
-      for (let dart = 0; dart < this.count; dart += 1) {
-        const other = this.steps[0][dart];
-        const face = 3 * this.faces.of[dart];
+    writeVertices(slots) {
+      const {middle, radius} = this.frame;
+      const {width, values} = this.state.embed(this.state.points);
+      for (let at = 0; at < slots.length; at += 1) {
+        const slot = slots[at];
         for (let axis = 0; axis < 3; axis += 1) {
-          const at = 3 * dart + axis;
-          const one = this.vertex[at];
-          const stub = this.isLine ? (axis === 0 ? 0.1 : 0) : 0.3 * (middles[face + axis] - one);
-          this.edge[at] = other === dart ? one + stub : (one + this.vertex[3 * other + axis]) / 2;
-          this.toward1[at] = this.isLine ? 0 : middles[face + axis] - one;
-          this.toward0[at] = this.isLine ? 0 : middles[face + axis] - this.edge[at];
+          this.vertex[3 * slot + axis] = ((axis < width ? Number(values[slot * width + axis]) : 0) - middle[axis]) / radius;
         }
       }
     }
 
-    layOut(frame) {
-      const [vertex, edge, side1, side0] = placesLaidOut(this.state);
-      this.frame = frame || frameOf(vertex);
-      this.isFlat = this.state.places.flat;
-      [this.vertex, this.edge] = [this.framed(vertex), this.framed(edge)];
-      const way = (to, from) => to.map((number, at) => 2 * (number - from[at]) / this.frame.radius);
-      [this.toward1, this.toward0] = [Float32Array.from(way(side1, vertex)), Float32Array.from(way(side0, edge))];
-      if (this.isLine) [this.toward1, this.toward0] = [new Float32Array(vertex.length), new Float32Array(vertex.length)];
-      this.bends = true;
-      for (const dart of gmr.unpack(this.state.places.outer)) this.outer[dart] = 1;
+    // The places within faces: of each dart the middle of its edge, and the ways from there and from its vertex to the
+    // middle of its face. The stub of an edge with one end leads a little way into its face.
+    renewFaces(groups) {
+      const {list, begins, count} = groups;
+      const {vertex, edge, toward1, toward0, face} = this;
+      const zero = this.steps[0];
+      const inward = this.isLine ? 0 : 1;
+      const middle = [0, 0, 0];
+      for (let group = 0; group < count; group += 1) {
+        const [begin, end] = [begins[group], begins[group + 1]];
+        for (let axis = 0; axis < 3; axis += 1) {
+          middle[axis] = 0;
+          for (let at = begin; at < end; at += 1) middle[axis] += vertex[3 * list[at] + axis];
+          middle[axis] /= end - begin;
+        }
+        for (let at = begin; at < end; at += 1) {
+          const dart = list[at];
+          face[dart] = list[begin];
+          for (let axis = 0; axis < 3; axis += 1) {
+            const one = vertex[3 * dart + axis];
+            const stub = inward ? 0.3 * (middle[axis] - one) : axis === 0 ? 0.1 : 0;
+            const half = zero[dart] === dart ? one + stub : (one + vertex[3 * zero[dart] + axis]) / 2;
+            edge[3 * dart + axis] = half;
+            toward1[3 * dart + axis] = inward * (middle[axis] - one);
+            toward0[3 * dart + axis] = inward * (middle[axis] - half);
+          }
+        }
+      }
     }
 
-    // The middle of all volumes, from which they are pulled apart.
-    spread() {
-      this.parts = this.volumes.count;
-      this.isSpread = this.parts > 1 && !this.bends;
-      this.whole = [0, 0, 0];
-      for (let at = 0; at < this.volumeMiddles.length; at += 1) {
-        this.whole[at % 3] += this.volumeMiddles[at] / this.parts;
+    layOut(frame, all) {
+      const [vertex, edge, side1, side0] = placesLaidOut(this.state, all, 4, 2);
+      this.frame = frame || frameOf(vertex, all);
+      [this.vertex, this.edge] = [this.framed(vertex), this.framed(edge)];
+      const way = (to, from) => Float32Array.from(to, (number, at) => (this.isLine ? 0 : 2 * (number - from[at]) / this.frame.radius));
+      [this.toward1, this.toward0] = [way(side1, vertex), way(side0, edge)];
+      const {list, begins, count} = gmr.gather(this.state, this.steps.slice(0, 2), all);
+      for (let group = 0; group < count; group += 1) {
+        for (let at = begins[group]; at < begins[group + 1]; at += 1) this.face[list[at]] = list[begins[group]];
       }
+      for (const place of gmr.unpack(this.state.places.outer)) this.outer[all[place]] = 1;
+    }
+
+    // Whether all vertices lie on one level.
+    isLevel() {
+      const {names, top} = this.state;
+      let level;
+      for (let slot = 0; slot < top; slot += 1) {
+        if (names[slot] < 0) continue;
+        if (level === undefined) level = this.vertex[3 * slot + 2];
+        else if (this.vertex[3 * slot + 2] !== level) return false;
+      }
+      return true;
+    }
+
+    // Finds the volumes of darts that are new or changed, and their middles, from which they are pulled apart.
+    joinVolumes(gone, rows) {
+      const old = new Set();
+      for (const slots of [gone, rows]) {
+        for (const slot of slots) if (this.volume[slot] >= 0) old.add(this.volume[slot]);
+        for (const slot of gone) this.volume[slot] = -1;
+      }
+      const groups = gmr.gather(this.state, this.steps, rows);
+      const {list, begins, count} = groups;
+      for (let group = 0; group < count; group += 1) {
+        for (let at = begins[group]; at < begins[group + 1]; at += 1) this.volume[list[at]] = list[begins[group]];
+      }
+      gmr.means(groups, this.vertex, this.volumeMiddles);
+      this.parts += count - old.size;
+      return groups;
+    }
+
+    // The middle of all volumes, away from which they are pulled.
+    middleOfParts(all) {
+      const sum = [0, 0, 0];
+      for (const slot of all) {
+        if (this.volume[slot] !== slot) continue;
+        for (let axis = 0; axis < 3; axis += 1) sum[axis] += this.volumeMiddles[3 * slot + axis] / this.parts;
+      }
+      return sum;
     }
 
     // How far what lies at a place of a dart's volume moves as volumes are pulled apart: they get smaller, and go away
     // from the middle of all.
     drift(dart, places, from, into, to) {
       if (!this.isSpread) return;
-      const volume = 3 * this.volumes.of[dart];
+      const volume = 3 * this.volume[dart];
       for (let axis = 0; axis < 3; axis += 1) {
         const middle = this.volumeMiddles[volume + axis];
-        into[to + axis] = 0.25 * (middle - places[from + axis]) + middle - this.whole[axis];
+        into[to + axis] = 0.25 * (middle - places[from + axis]) + middle - this.middle[axis];
       }
     }
 
-    polygons() {
-      if (!this.made) this.made = new gmr.Polygons(this);
-      return this.made;
-    }
-
-    // The way outward of each face: of zeros where its volume isn't closed, or has one side.
+    // The way outward of each face, by the dart that leads it: of zeros where its volume isn't closed, or has one side.
     outward() {
-      if (this.ways) return this.ways;
-      this.ways = new Float32Array(3 * this.faces.count);
-      if (this.isLine || this.isFlat) return this.ways;
-      const {side, isClosed} = this.sides();
-      const filled = this.filled(side);
-      const {firsts, normals, count} = this.polygons();
-      for (let face = 0; face < count; face += 1) {
-        const volume = this.volumes.of[firsts[face]];
-        const sign = isClosed[volume] ? Math.sign(filled[volume]) * (side[firsts[face]] ? -1 : 1) : 0;
-        for (let axis = 0; axis < 3; axis += 1) this.ways[3 * face + axis] = sign * normals[3 * face + axis];
-      }
+      if (!this.ways) this.ways = this.isLine || this.isFlat ? new Float32Array(3 * this.room) : gmr.waysOutward(this);
       return this.ways;
-    }
-
-    // How much each volume fills, six times, below 0 where it is walked inside out.
-    filled(side) {
-      const sums = new Float64Array(this.volumes.count);
-      const {begins, firsts, places, count} = this.polygons();
-      for (let face = 0; face < count; face += 1) {
-        const sign = side[firsts[face]] ? -1 : 1;
-        const volume = this.volumes.of[firsts[face]];
-        for (let at = begins[face] + 1; at + 1 < begins[face + 1]; at += 1) {
-          sums[volume] += sign * tripleOf(places, 3 * begins[face], 3 * at);
-        }
-      }
-      return sums;
-    }
-
-    // On which side each dart lies, so that neighbours lie on different ones, and which volumes are closed and have two.
-    sides() {
-      const side = new Int8Array(this.count).fill(-1);
-      const isClosed = new Uint8Array(this.volumes.count).fill(1);
-      const waiting = [];
-      for (let start = 0; start < this.count; start += 1) {
-        if (side[start] >= 0) continue;
-        side[start] = 0;
-        waiting.push(start);
-        while (waiting.length) {
-          const dart = waiting.pop();
-          for (let label = 0; label < 3; label += 1) {
-            const near = this.steps[label][dart];
-            if (side[near] < 0) {
-              side[near] = 1 - side[dart];
-              waiting.push(near);
-            } else if (side[near] === side[dart]) isClosed[this.volumes.of[dart]] = 0;
-          }
-        }
-      }
-      return {side, isClosed};
     }
 
     // Where the way round a dart's face begins, and along which step: at the dart, or at the end of an open face.
@@ -256,20 +261,16 @@
     stroke(dart, inset, into, offset) {
       const to = into || new Float32Array(6);
       const at = offset || 0;
-      const volume = 3 * this.volumes.of[dart];
+      const volume = 3 * this.volume[dart];
       const {deep} = this;
-      const from = [0, 0, 0];
-      const end = [0, 0, 0];
       for (let axis = 0; axis < 3; axis += 1) {
         const place = 3 * dart + axis;
-        from[axis] = this.vertex[place] + inset * this.toward1[place];
-        end[axis] = this.edge[place] + inset * this.toward0[place];
-        from[axis] += deep * (this.volumeMiddles[volume + axis] - from[axis]);
-        end[axis] += deep * (this.volumeMiddles[volume + axis] - end[axis]);
-      }
-      for (let axis = 0; axis < 3; axis += 1) {
-        to[at + axis] = from[axis] + 0.1 * (end[axis] - from[axis]);
-        to[at + 3 + axis] = end[axis] - 0.1 * (end[axis] - from[axis]);
+        let from = this.vertex[place] + inset * this.toward1[place];
+        let end = this.edge[place] + inset * this.toward0[place];
+        from += deep * (this.volumeMiddles[volume + axis] - from);
+        end += deep * (this.volumeMiddles[volume + axis] - end);
+        to[at + axis] = from + 0.1 * (end - from);
+        to[at + 3 + axis] = end - 0.1 * (end - from);
       }
       return to;
     }

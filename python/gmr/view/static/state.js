@@ -1,15 +1,15 @@
-// The map that is shown: packed scenes are read, changes are applied, and orbits are found.
+// The map that is shown: packed scenes are read, changes are applied in place, and orbits are found. A dart has a slot
+// in all arrays as long as it is there; a slot that is free has the name -1, and is given to a dart that comes.
 (function (gmr) {
   'use strict';
 
-  const ARRAYS = {
-    Uint8: Uint8Array, Int8: Int8Array, Uint16: Uint16Array, Int16: Int16Array, Uint32: Uint32Array,
-    Int32: Int32Array, Int64: typeof BigInt64Array === 'undefined' ? Float64Array : BigInt64Array,
-  };
+  const ARRAYS = {Uint8: Uint8Array, Int8: Int8Array, Uint16: Uint16Array, Int16: Int16Array, Uint32: Uint32Array,
+    Int32: Int32Array, Int64: BigInt64Array};
   const WIDTHS = {int: 1, vec2: 2, vec3: 3, rgb: 3};
 
-  // The numbers of a packed column, as gmr.view.scene packs them.
+  // The numbers of a packed column, as gmr.view.scene packs them; an array is one that was read already.
   function unpack(packed) {
+    if (packed.length !== undefined) return packed;
     if (packed.from !== undefined) {
       const made = new Int32Array(packed.count);
       for (let at = 0; at < made.length; at += 1) made[at] = packed.from + at;
@@ -21,31 +21,42 @@
     return new ARRAYS[packed.type](bytes.buffer);
   }
 
-  // The first place in ascending numbers whose number isn't below the one that is sought.
-  function lowerBound(numbers, sought) {
-    let low = 0;
-    let high = numbers.length;
-    while (low < high) {
-      const middle = (low + high) >> 1;
-      if (numbers[middle] < sought) low = middle + 1; else high = middle;
-    }
-    return low;
+  // An array with room for so many numbers that begins as another one does.
+  function grown(array, length) {
+    if (array.length >= length) return array;
+    const made = new array.constructor(length);
+    made.set(array);
+    return made;
   }
 
-  // The orbits of all darts over steps: for each dart the number of its orbit, by least darts.
-  function orbitsOver(count, steps) {
+  // Numbers as they can be written in place: as 64-bit floats, or as BigInts where one wouldn't be held exactly.
+  function widened(numbers) {
+    const made = new Float64Array(numbers.length);
+    if (!(numbers instanceof BigInt64Array)) {
+      made.set(numbers);
+      return made;
+    }
+    for (let at = 0; at < made.length; at += 1) {
+      made[at] = Number(numbers[at]);
+      if (!Number.isSafeInteger(made[at])) return numbers.slice();
+    }
+    return made;
+  }
+
+  // The orbits over steps of all darts among so many slots: for each slot the number of its orbit, or -1 where it is free.
+  function orbitsOver(names, count, steps) {
     const of = new Int32Array(count).fill(-1);
     const waiting = new Int32Array(count);
     let found = 0;
     for (let first = 0; first < count; first += 1) {
-      if (of[first] >= 0) continue;
+      if (of[first] >= 0 || names[first] < 0) continue;
       let top = 0;
       waiting[top++] = first;
       of[first] = found;
       while (top > 0) {
         const dart = waiting[--top];
-        for (const step of steps) {
-          const near = step[dart];
+        for (let place = 0; place < steps.length; place += 1) {
+          const near = steps[place][dart];
           if (of[near] < 0) {
             of[near] = found;
             waiting[top++] = near;
@@ -57,49 +68,62 @@
     return {of, count: found};
   }
 
-  // What a column of values becomes when rows are taken from an old one (source >= 0) and a new one (~source).
-  function gathered(old, fresh, source, width) {
-    const isBig = typeof BigInt64Array !== 'undefined' && (old instanceof BigInt64Array || fresh instanceof BigInt64Array);
-    const made = isBig ? new BigInt64Array(source.length * width) : new Float64Array(source.length * width);
-    for (let at = 0; at < source.length; at += 1) {
-      const from = source[at] >= 0 ? old : fresh;
-      const row = source[at] >= 0 ? source[at] : ~source[at];
-      for (let part = 0; part < width; part += 1) {
-        const value = from[row * width + part];
-        made[at * width + part] = isBig ? BigInt(value) : value;
-      }
-    }
-    return made;
-  }
-
   class State {
     constructor(scene) {
       this.dimension = scene.dimension;
       this.roles = scene.labels;
-      this.names = unpack(scene.names);
+      this.names = new Int32Array(unpack(scene.names));
+      this.count = this.names.length;
+      this.top = this.count;      // slots that are or were taken
+      this.free = [];
       this.alpha = scene.alpha.map((column) => new Int32Array(unpack(column)));
-      this.embeds = scene.embeds.map((embed) => ({...embed, width: WIDTHS[embed.kind], values: unpack(embed.values)}));
+      this.embeds = scene.embeds.map((embed) => ({...embed, width: WIDTHS[embed.kind], values: widened(unpack(embed.values))}));
       this.points = scene.points;
       this.places = scene.places;
       this.next = scene.next;
+      this.slots = new Int32Array(this.next);     // by name: 1 more than the slot, or 0
+      for (let at = 0; at < this.top; at += 1) this.slots[this.names[at]] = at + 1;
       this.found = new Map();
+      this.seen = new Int32Array(this.top);
+      this.stamp = 0;
     }
 
-    get count() { return this.names.length; }
-
-    // The place of a dart among the darts, or -1.
-    indexOf(name) {
-      const at = lowerBound(this.names, name);
-      return this.names[at] === name ? at : -1;
-    }
+    // The slot of a dart, or -1.
+    indexOf(name) { return (this.slots[name] || 0) - 1; }
 
     embed(name) { return this.embeds.find((embed) => embed.name === name); }
+
+    // The slots of all darts, by ascending names.
+    inOrder() {
+      const found = this.taken();
+      return this.isInOrder ? found : found.sort((one, two) => this.names[one] - this.names[two]);
+    }
+
+    // The slots of all darts.
+    taken() {
+      const found = new Int32Array(this.count);
+      let [to, last] = [0, -1];
+      this.isInOrder = true;
+      for (let at = 0; at < this.top; at += 1) {
+        if (this.names[at] < 0) continue;
+        if (this.names[at] < last) this.isInOrder = false;
+        last = this.names[at];
+        found[to++] = at;
+      }
+      return found;
+    }
+
+    // The name of the next dart behind one, round all of them.
+    nameBehind(name) {
+      for (let at = name + 1; at < this.next; at += 1) if (this.slots[at]) return at;
+      return this.slots.findIndex((slot) => slot > 0);
+    }
 
     // The orbits over labels, found once a state.
     orbits(labels) {
       const key = labels.join(' ');
       if (!this.found.has(key)) {
-        this.found.set(key, orbitsOver(this.count, labels.map((label) => this.alpha[label])));
+        this.found.set(key, orbitsOver(this.names, this.top, labels.map((label) => this.alpha[label])));
       }
       return this.found.get(key);
     }
@@ -108,15 +132,22 @@
       return this.alpha.map((_, label) => label).filter((label) => label !== dimension);
     }
 
-    // The darts of an orbit, in the order of a walk from one of them: by place.
+    // A number that no slot was marked with, for marks in `seen`.
+    newStamp() {
+      if (this.seen.length < this.names.length) this.seen = new Int32Array(this.names.length);
+      this.stamp += 1;
+      return this.stamp;
+    }
+
+    // The slots of an orbit, in the order of a walk from one of them.
     walk(labels, first) {
-      const found = [first];
-      const seen = new Set(found);
+      const [found, stamp, {seen}] = [[first], this.newStamp(), this];
+      seen[first] = stamp;
       for (let at = 0; at < found.length; at += 1) {
         for (const label of labels) {
           const near = this.alpha[label][found[at]];
-          if (!seen.has(near)) {
-            seen.add(near);
+          if (seen[near] !== stamp) {
+            seen[near] = stamp;
             found.push(near);
           }
         }
@@ -127,69 +158,104 @@
     // The value of a dart: a number, an array of numbers, or a BigInt where a number wouldn't hold it.
     value(embed, dart) {
       const held = Array.from({length: embed.width}, (_, part) => embed.values[dart * embed.width + part])
-        .map((part) => (typeof part === 'bigint' && BigInt(Number(part)) === part && Number.isSafeInteger(Number(part))
-          ? Number(part) : part));
+        .map((part) => (typeof part === 'bigint' && Number.isSafeInteger(Number(part)) ? Number(part) : part));
       return embed.width === 1 ? held[0] : held;
     }
 
-    // The row of a dart by names: what `rows` of changes hold of it.
-    rowsOf(indices) {
-      return {
-        names: indices.map((at) => this.names[at]),
-        alpha: this.alpha.map((step) => indices.map((at) => this.names[step[at]])),
-        values: Object.fromEntries(this.embeds.map((embed) => [embed.name, gathered(embed.values, embed.values,
-          Int32Array.from(indices), embed.width)])),
-      };
-    }
-
-    // Applies changes. Gives the names that are new, gone and changed, and the changes that lead back.
-    apply(changes) {
-      const read = (column) => (column.length === undefined ? unpack(column) : column);
-      const names = read(changes.rows.names);
-      const alpha = changes.rows.alpha.map(read);
-      const gone = Array.from(read(changes.gone));
-      const isGone = new Set(gone);
-      const changed = Array.from(names).filter((name) => this.indexOf(name) >= 0);
-      const isChanged = new Set(changed);
-      const fresh = Array.from(names).filter((name) => !isChanged.has(name));
-      const undo = {gone: fresh, rows: this.rowsOf([...gone, ...changed].sort((a, b) => a - b).map((name) => this.indexOf(name))),
-        places: this.places, next: this.next};
-      const source = this.sources(names, isGone);
-      const before = this.names;
-      const stepsBefore = this.alpha;
-      this.names = Int32Array.from(source, (from) => (from >= 0 ? before[from] : names[~from]));
-      const moved = new Int32Array(before.length);
-      source.forEach((from, at) => { if (from >= 0) moved[from] = at; });
-      this.alpha = stepsBefore.map((step, label) => Int32Array.from(source, (from) => (from >= 0
-        ? this.renumbered(moved, step[from], before) : this.indexOf(alpha[label][~from]))));
+    // The rows of darts by names: what `rows` of changes hold of them.
+    rowsOf(slots) {
+      const values = {};
       for (const embed of this.embeds) {
-        embed.values = gathered(embed.values, read(changes.rows.values[embed.name]), source, embed.width);
+        const {width} = embed;
+        const made = new embed.values.constructor(slots.length * width);
+        for (let at = 0; at < slots.length; at += 1) {
+          for (let part = 0; part < width; part += 1) made[at * width + part] = embed.values[slots[at] * width + part];
+        }
+        values[embed.name] = made;
       }
-      this.places = changes.places || (this.points ? null : this.places);
+      const named = (step) => {
+        const made = new Int32Array(slots.length);
+        for (let at = 0; at < made.length; at += 1) made[at] = this.names[step ? step[slots[at]] : slots[at]];
+        return made;
+      };
+      return {names: named(null), values, alpha: this.alpha.map(named)};
+    }
+
+    // The slots of darts by their names.
+    slotsOf(names) {
+      const made = new Int32Array(names.length);
+      for (let at = 0; at < made.length; at += 1) made[at] = this.slots[names[at]] - 1;
+      return made;
+    }
+
+    // Applies changes. Gives the names that are new, gone and changed, and the changes that lead back; `slots` has
+    // those of the darts that went, and of the new and changed ones, and `isSewn` whether a neighbour is another one.
+    apply(changes) {
+      const names = unpack(changes.rows.names);
+      const gone = Array.from(unpack(changes.gone));
+      const [fresh, changed] = [[], []];
+      for (const name of names) (this.indexOf(name) < 0 ? fresh : changed).push(name);
+      const left = this.slotsOf(gone);
+      const undo = {gone: fresh, rows: this.rowsOf(this.slotsOf([...gone, ...changed])), places: this.places, next: this.next};
+      for (const slot of left) this.release(slot);
       this.next = changes.next;
+      for (const name of fresh) this.take(name);
+      const rows = this.slotsOf(names);
+      const isSewn = this.writeSteps(rows, changes.rows.alpha.map(unpack)) || gone.length > 0 || fresh.length > 0;
+      for (const embed of this.embeds) this.writeValues(embed, rows, unpack(changes.rows.values[embed.name]));
+      this.places = changes.places || (this.points ? null : this.places);
       this.found.clear();
-      return {fresh, gone, changed, undo};
+      return {fresh, gone, changed, undo, isSewn, slots: {gone: left, rows}};
     }
 
-    // The new place of an old dart that a row kept. One that was gone and is changed at once has another place.
-    renumbered(moved, old, before) {
-      const at = moved[old];
-      return this.names[at] === before[old] ? at : this.indexOf(before[old]);
+    release(slot) {
+      this.slots[this.names[slot]] = 0;
+      this.names[slot] = -1;
+      this.free.push(slot);
+      this.count -= 1;
     }
 
-    // For each dart of the next state where its row is: its old place, or ~ its place among the new rows.
-    sources(names, isGone) {
-      const source = [];
-      let row = 0;
-      for (let at = 0; at < this.count; at += 1) {
-        while (row < names.length && names[row] < this.names[at]) source.push(~row++);
-        if (row < names.length && names[row] === this.names[at]) source.push(~row++);
-        else if (!isGone.has(this.names[at])) source.push(at);
+    // Gives a dart a slot.
+    take(name) {
+      const slot = this.free.length ? this.free.pop() : this.top++;
+      if (slot >= this.names.length) this.makeRoom(Math.ceil(1.5 * slot) + 64);
+      if (name >= this.slots.length) this.slots = grown(this.slots, Math.ceil(1.5 * name) + 64);
+      this.names[slot] = name;
+      this.slots[name] = slot + 1;
+      this.count += 1;
+    }
+
+    makeRoom(room) {
+      this.names = grown(this.names, room);
+      this.alpha = this.alpha.map((step) => grown(step, room));
+      for (const embed of this.embeds) embed.values = grown(embed.values, room * embed.width);
+    }
+
+    // Writes the neighbours of rows, by names. Gives whether one is another than before.
+    writeSteps(rows, alpha) {
+      let isSewn = false;
+      alpha.forEach((column, label) => {
+        const step = this.alpha[label];
+        for (let at = 0; at < rows.length; at += 1) {
+          const near = this.slots[column[at]] - 1;
+          if (step[rows[at]] !== near) isSewn = true;
+          step[rows[at]] = near;
+        }
+      });
+      return isSewn;
+    }
+
+    writeValues(embed, rows, column) {
+      const {width} = embed;
+      let wide = widened(column);
+      if (wide instanceof BigInt64Array && !(embed.values instanceof BigInt64Array)) embed.values = BigInt64Array.from(embed.values, BigInt);
+      if (embed.values instanceof BigInt64Array && !(wide instanceof BigInt64Array)) wide = BigInt64Array.from(wide, BigInt);
+      const {values} = embed;
+      for (let at = 0; at < rows.length; at += 1) {
+        for (let part = 0; part < width; part += 1) values[rows[at] * width + part] = wide[at * width + part];
       }
-      while (row < names.length) source.push(~row++);
-      return Int32Array.from(source);
     }
   }
 
-  Object.assign(gmr, {State, unpack, lowerBound, orbitsOver});
+  Object.assign(gmr, {State, unpack, grown, orbitsOver, ARRAYS});
 }(window.gmr = window.gmr || {}));

@@ -45,7 +45,7 @@
       there.z -= lift * there.w;
       world = mix(begin + apart * drift, end + apart * drift2, share);
       along = at * reach; tint = colour; mark = id;
-      gl_Position = turnedAway(outward, world) ? vec4(2.0, 2.0, 2.0, 1.0) : there;
+      gl_Position = id < 0.0 || turnedAway(outward, world) ? vec4(2.0, 2.0, 2.0, 1.0) : there;
     }`;
   const STROKE_COLOUR = `
     uniform float dash; varying float along;
@@ -82,6 +82,7 @@
       gl_Position = placed(position, drift);
       gl_Position.z -= lift * gl_Position.w;
       gl_PointSize = width * pixels;
+      if (id < 0.0) gl_Position = vec4(2.0, 2.0, 2.0, 1.0);
       tint = colour; mark = id;
     }`;
   const POINT_COLOUR = `
@@ -125,65 +126,57 @@
       gl_FragColor = vec4(mix(rim, ink, read.r), read.a);
     }`;
 
+  // What is taken where a thing has no buffer of its own for it.
+  const ABSENT = {drift: [0, 0, 0], drift2: [0, 0, 0], outward: [0, 0, 0], id: [0]};
+
   // A material over what all share: how far apart, how large the picture is, and where it is cut.
   function material(shared, vertexShader, fragmentShader, own, options) {
     const uniforms = {lift: {value: 0}, fade: {value: 1}, kind: {value: 0}, ...shared};
     Object.entries(own || {}).forEach(([name, value]) => { uniforms[name] = {value}; });
-    return new THREE.ShaderMaterial({uniforms, vertexShader, fragmentShader, side: THREE.DoubleSide, ...options});
+    const made = new THREE.ShaderMaterial({uniforms, vertexShader, fragmentShader, side: THREE.DoubleSide, ...options});
+    made.defaultAttributeValues = ABSENT;
+    return made;
   }
 
   // The quad of a stroke and the head of its arrow: x along, y across, z 0 for the shaft, 1 the head's base, 2 its tip.
   const STROKE_CORNERS = new Float32Array([0, -1, 0, 1, -1, 0, 1, 1, 0, 0, -1, 0, 1, 1, 0, 0, 1, 0, 1, -1, 1, 1, 0, 2, 1, 1, 1]);
   const QUAD = new Float32Array([-0.5, -0.5, 0, 0.5, -0.5, 0, 0.5, 0.5, 0, -0.5, -0.5, 0, 0.5, 0.5, 0, -0.5, 0.5, 0]);
 
-  function instanced(corners, attributes) {
-    const geometry = new THREE.InstancedBufferGeometry();
-    geometry.addAttribute('position', new THREE.BufferAttribute(corners, 3));
+  // The geometry of things that are drawn once; with corners each is an instance of them.
+  function geometryOf(attributes, corners) {
+    const Attribute = corners ? THREE.InstancedBufferAttribute : THREE.BufferAttribute;
+    const geometry = corners ? new THREE.InstancedBufferGeometry() : new THREE.BufferGeometry();
+    if (corners) geometry.addAttribute('position', new THREE.BufferAttribute(corners, 3));
     Object.entries(attributes).forEach(([name, [array, width, isColour]]) => {
-      geometry.addAttribute(name, new THREE.InstancedBufferAttribute(array, width, Boolean(isColour)));
+      geometry.addAttribute(name, new Attribute(array, width, Boolean(isColour)));
     });
-    const first = Object.values(attributes)[0];
-    geometry.maxInstancedCount = first[0].length / first[1];
+    if (corners) {
+      const [array, width] = Object.values(attributes)[0];
+      geometry.maxInstancedCount = array.length / width;
+    }
     return geometry;
   }
 
-  function plain(attributes) {
-    const geometry = new THREE.BufferGeometry();
-    Object.entries(attributes).forEach(([name, [array, width, isColour]]) => {
-      geometry.addAttribute(name, new THREE.BufferAttribute(array, width, Boolean(isColour)));
-    });
-    return geometry;
-  }
+  // The materials of each kind of thing, with uniforms of their own.
+  const materials = {
+    strokes: (shared, own) => material(shared, STROKE, STROKE_COLOUR, {width: 2, head: 0, least: 1.2, dash: 0, ...own},
+      {transparent: (own.fade || 1) < 1}),
+    faces(shared, own) {
+      const isClear = own.fade !== undefined && own.fade < 1;
+      return material(shared, FACE, FACE_COLOUR, {shade: 0.6, pale: new THREE.Color('#fff'), paleness: 0, ...own}, {transparent: isClear,
+        depthWrite: !isClear, polygonOffset: true, polygonOffsetFactor: isClear ? 0 : 1.5, polygonOffsetUnits: isClear ? 0 : 4});
+    },
+    points: (shared, own) => material(shared, POINT, POINT_COLOUR, {width: 6, ...own}, {}),
+    names: (shared, own) => material(shared, NAME, NAME_COLOUR, {width: 12, ...own}, {transparent: true, depthWrite: false}),
+  };
 
-  function mesh(geometry, made, order) {
-    const found = made.isPoint ? new THREE.Points(geometry, made) : new THREE.Mesh(geometry, made);
+  // What draws a geometry as things of a kind.
+  function meshOf(kind, geometry, made, order) {
+    const found = kind === 'points' ? new THREE.Points(geometry, made) : new THREE.Mesh(geometry, made);
     found.frustumCulled = false;
     found.renderOrder = order;
     return found;
   }
-
-  const draw = {
-    strokes(shared, attributes, own, order) {
-      const made = material(shared, STROKE, STROKE_COLOUR, {width: 2, head: 0, least: 1.2, dash: 0, ...own},
-        {transparent: (own.fade || 1) < 1});
-      return mesh(instanced(STROKE_CORNERS, attributes), made, order);
-    },
-    faces(shared, attributes, own, order) {
-      const isClear = own.fade !== undefined && own.fade < 1;
-      const made = material(shared, FACE, FACE_COLOUR, {shade: 0.6, pale: new THREE.Color('#fff'), paleness: 0, ...own}, {transparent: isClear,
-        depthWrite: !isClear, polygonOffset: true, polygonOffsetFactor: isClear ? 0 : 1.5, polygonOffsetUnits: isClear ? 0 : 4});
-      return mesh(plain(attributes), made, order);
-    },
-    points(shared, attributes, own, order) {
-      const made = material(shared, POINT, POINT_COLOUR, {width: 6, ...own}, {});
-      made.isPoint = true;
-      return mesh(plain(attributes), made, order);
-    },
-    names(shared, attributes, own, order) {
-      return mesh(instanced(QUAD, attributes), material(shared, NAME, NAME_COLOUR, {width: 12, ...own},
-        {transparent: true, depthWrite: false}), order);
-    },
-  };
 
   // The picture of the ten digits: white with a rim of black, in red where ink is.
   function digitsTexture() {
@@ -208,5 +201,5 @@
     return texture;
   }
 
-  Object.assign(gmr, {draw, digitsTexture});
+  Object.assign(gmr, {materials, geometryOf, meshOf, digitsTexture, STROKE_CORNERS, QUAD});
 }(window.gmr = window.gmr || {}));

@@ -23,7 +23,8 @@
    v.pixelOf(dart)        {x, y, seen}: the pixel where the dart's stroke has its middle, and whether it is seen there
    v.info(dart)           {name, neighbours: [by label], cells: [{dimension, name, darts, sizes}], values: {embedding}}
    v.state                the map that is shown (state.js): names, alpha, embeds, walk, indexOf
-   v.calls                how many calls the last picture took, and v.triangles how many triangles
+   v.calls                how many calls the last picture took, v.triangles how many triangles, and v.sent how many bytes
+                          of buffers were sent for it
    v.destroy()            takes everything away
 
    Darts are told by their names. Keys, where the canvas has the focus: arrows turn, shift and arrows move, + and - come
@@ -62,6 +63,7 @@
       this.controls = new THREE.OrbitControls(this.camera, canvas);
       Object.assign(this.controls, {enableKeys: false, rotateSpeed: 0.8, screenSpacePanning: true});
       this.controls.addEventListener('change', () => this.draw());
+      this.picture = new gmr.Picture(this);
       this.picker = new gmr.Picker(this);
       this.pointer = new gmr.Pointer(this);
       this.resizer = new ResizeObserver(() => this.resize());
@@ -75,24 +77,38 @@
       this.state = new gmr.State(scene);
       this.marks.clear();
       this.ghosts.clear();
-      this.shape = null;
-      this.rebuild();
+      this.reshape();
       this.fit();
     }
 
     update(changes, isPassed) {
-      if (!this.shape && !isPassed) this.shape = new gmr.Shape(this.state, this.frame);
-      const gone = Array.from(changes.gone.length === undefined ? gmr.unpack(changes.gone) : changes.gone);
-      const ghosts = isPassed ? [] : gone.map((name) => [name, this.markOf(this.state.indexOf(name))]);
+      const wasEmpty = !this.state.count;
+      this.ghosts = isPassed ? new Map() : this.ghostsOf(changes);
       const found = this.state.apply(changes);
-      this.ghosts = new Map(ghosts);
       this.marks.clear();
-      this.shape = null;
+      const touched = this.shape && !isPassed && !wasEmpty ? this.shape.renew(found) : null;
+      if (touched) {
+        this.picture.renew(touched);
+        this.setCut();
+        this.drawMarks();
+        this.draw();
+      } else this.shape = null;
       if (!isPassed) this.settle();
+      if (!isPassed && wasEmpty) this.fit();
       return found;
     }
 
-    settle() { if (!this.shape) this.rebuild(this.state.points ? this.frame : undefined); }
+    // The marks of the darts that go by changes, so that they can be lit where they were.
+    ghostsOf(changes) {
+      const gone = Array.from(gmr.unpack(changes.gone));
+      const {shape} = this;
+      if (gone.length && !shape) this.shape = new gmr.Shape(this.state, this.frame);
+      const found = new Map(gone.map((name) => [name, this.markOf(this.state.indexOf(name))]));
+      this.shape = shape;
+      return found;
+    }
+
+    settle() { if (!this.shape) this.reshape(this.state.points && this.hadDarts ? this.frame : undefined); }
 
     fit() {
       const isFlat = this.shape.isFlat;
@@ -117,11 +133,15 @@
     set(options) {
       const before = {...this.options};
       Object.assign(this.options, options);
-      const isSame = Object.keys(this.options).every((name) => this.options[name] === before[name]
-        || name === 'apart' || name === 'cut');
+      const changed = (name) => this.options[name] !== before[name];
+      const {picture} = this;
       this.shared.apart.value = this.options.apart;
+      if (!this.state) return;
+      if (changed('theme')) picture.forget(() => true);
+      if (changed('colourBy')) picture.forget((name) => name === 'faces' || name === 'darts');
+      if (changed('faces')) this.deepen();
+      if (Object.keys(this.options).some((name) => name !== 'apart' && name !== 'cut' && changed(name))) this.showAll();
       this.setCut();
-      if (!isSame && this.state) this.rebuild(this.shape.frame, this.shape);
       this.draw();
     }
 
@@ -151,10 +171,11 @@
         return;
       }
       const axis = 'xyz'.indexOf(cut.axis);
+      const places = gmr.placesOf(this);
       let [low, high] = [Infinity, -Infinity];
-      for (let dart = 0; dart < this.shape.count; dart += 1) {
-        const place = this.placed(dart, this.shape.place(this.shape.vertex, dart))[axis];
-        [low, high] = [Math.min(low, place), Math.max(high, place)];
+      for (let at = axis; at < places.length; at += 3) {
+        if (places[at] < low) low = places[at];
+        if (places[at] > high) high = places[at];
       }
       const sign = cut.flip ? -1 : 1;
       const at = low + cut.at * (high - low) + sign * 1e-4;
@@ -162,81 +183,31 @@
       plane.setComponent(axis, sign);
     }
 
-    // Makes the shape, if it isn't given, and all layers that are shown.
-    rebuild(frame, shape) {
-      this.shape = shape || new gmr.Shape(this.state, frame);
+    // Makes the shape anew, in a frame or in its own, and all that is shown.
+    reshape(frame) {
+      this.shape = new gmr.Shape(this.state, frame);
       this.frame = this.shape.frame;
-      this.strokes = null;
-      this.shape.deep = this.options.faces || this.shape.isFlat ? 0 : 0.06;
-      this.clear((layer) => !layer.userData.style);
-      const shown = this.get();
-      const {theme} = this;
-      const colours = gmr.colours.dartColours(this.state, shown.colourBy);
-      const isByOrbit = Array.isArray(shown.colourBy);
-      const {layers, draw, shared} = {...gmr, shared: this.shared};
-      const add = (made, kind, pick) => this.add(made, kind, pick);
-      this.scene.background = new THREE.Color(theme.back);
-      this.renderer.setClearColor(theme.back, 1);
-      if (shown.faces && !this.shape.isLine) {
-        add(draw.faces(shared, layers.faceArrays(this.shape, colours, theme),
-          {shade: this.shape.isFlat ? 1 : theme.shade, pale: new THREE.Color(theme.back), paleness: colours && shown.darts ? 0.45 : 0}, 0), 'face', true);
-      }
-      if (shown.edges) add(draw.strokes(shared, layers.edgeArrays(this.shape, theme), {width: this.thin(1.4), lift: 6e-6}, 1), 'edge', true);
-      if (shown.points) add(draw.points(shared, layers.pointArrays(this.shape, theme), {width: this.thin(6), lift: 1e-4}, 2), 'vertex', true);
-      if (shown.links) this.addLinks(shown.links);
-      if (shown.darts) {
-        add(draw.strokes(shared, layers.dartArrays(this.shape, this.allStrokes(), isByOrbit ? colours : null, theme),
-          {width: this.thin(3.2), head: this.thin(10), lift: 1e-4}, 4), 'dart', true);
-      }
-      if (shown.names) this.addNames();
+      this.hadDarts = this.state.count > 0;
+      this.picture.take(this.shape);
+      this.deepen();
+      this.showAll();
       this.setCut();
-      this.drawMarks();
       this.draw();
     }
 
-    // A width that gets less where there are many darts.
-    thin(width) { return width * Math.max(0.55, Math.min(1, 12 / Math.sqrt(Math.sqrt(this.shape.count + 1) * 5))); }
-
-    addLinks(asked) {
-      const {theme, shape} = this;
-      const labels = Array.isArray(asked) ? asked : this.state.alpha.map((_, label) => label);
-      for (const label of labels) {
-        const arrays = gmr.layers.linkArrays(shape, this.allStrokes(), label, theme);
-        this.add(gmr.draw.strokes(this.shared, arrays, {width: this.thin(label === 3 ? 1.5 : 2.2), lift: 8e-5,
-          dash: gmr.dashOf(label), least: 3}, 3), 'link', false);
-      }
+    // Without faces strokes lie within their volumes, so that those of two volumes are told apart.
+    deepen() {
+      const deep = this.options.faces || this.shape.isFlat ? 0 : 0.06;
+      if (deep !== this.shape.deep) this.picture.forget((name) => /darts|names|link/.test(name));
+      this.shape.deep = deep;
     }
 
-    addNames() {
-      if (!this.digits) this.digits = gmr.digitsTexture();
+    showAll() {
       const {theme} = this;
-      const ink = new THREE.Color(theme.name);
-      const rim = new THREE.Color(theme.back);
-      this.add(gmr.draw.names(this.shared, gmr.layers.nameArrays(this.shape, this.allStrokes()),
-        {width: 13, digits: this.digits, ink, rim, lift: 2e-4}, 8), 'name', false);
-    }
-
-    add(made, kind, pick) {
-      Object.assign(made.userData, {kind, pick});
-      made.material.uniforms.kind.value = gmr.KINDS[kind] || 0;
-      this.scene.add(made);
-    }
-
-    clear(isChosen) {
-      for (const layer of this.scene.children.filter(isChosen)) {
-        this.scene.remove(layer);
-        layer.geometry.dispose();
-        layer.material.dispose();
-      }
-    }
-
-    // The strokes of all darts, six numbers each.
-    allStrokes() {
-      if (!this.strokes) {
-        this.strokes = new Float32Array(6 * this.shape.count);
-        for (let dart = 0; dart < this.shape.count; dart += 1) this.shape.stroke(dart, this.inset, this.strokes, 6 * dart);
-      }
-      return this.strokes;
+      this.scene.background = new THREE.Color(theme.back);
+      this.renderer.setClearColor(theme.back, 1);
+      this.picture.show();
+      this.drawMarks();
     }
 
     // A place of a dart's volume as it is drawn, pulled apart.
@@ -272,19 +243,15 @@
     }
 
     drawMarks() {
-      this.clear((layer) => layer.userData.style);
-      let order = 5;
+      const found = [];
       for (const [style, {darts, kind}] of this.marks) {
-        const found = darts.map((name) => {
+        const marks = darts.map((name) => {
           const at = this.state.indexOf(name);
           return at >= 0 ? this.markOf(at) : this.ghosts.get(name);
         }).filter(Boolean);
-        for (const made of gmr.marks.layersOf(this.shared, found, kind, this.theme.styles[style], order)) {
-          Object.assign(made.userData, {style, pick: false});
-          this.scene.add(made);
-        }
-        order += 0.1;
+        found.push({style, parts: gmr.marks.partsOf(marks, kind, this.theme.styles[style]), order: 5 + found.length / 10});
       }
+      this.picture.showMarks(found);
     }
 
     on(name, listener) {
@@ -342,9 +309,11 @@
       if (at < 0) return null;
       const cells = state.alpha.map((_, dimension) => {
         const darts = state.walk(state.labelsBut(dimension), at);
-        const sizes = Object.fromEntries(state.alpha.map((__, other) => other).filter((other) => other !== dimension)
-          .map((other) => [MANY[other] || `cells of dimension ${other}`,
-            new Set(darts.map((one) => state.orbits(state.labelsBut(other)).of[one])).size]));
+        const others = state.alpha.map((__, other) => other).filter((other) => other !== dimension);
+        const sizes = Object.fromEntries(others.map((other) => {
+          const {of} = state.orbits(state.labelsBut(other));
+          return [MANY[other] || `cells of dimension ${other}`, new Set(darts.map((one) => of[one])).size];
+        }));
         return {dimension, name: nameOfCell(dimension), darts: darts.length, sizes};
       });
       return {name: dart, neighbours: state.alpha.map((step) => state.names[step[at]]), cells,
@@ -372,6 +341,7 @@
     }
 
     drawNow() {
+      this.sent = this.picture.send();
       this.renderer.render(this.scene, this.camera);
       this.calls = this.renderer.info.render.calls;
       this.triangles = this.renderer.info.render.triangles;
@@ -382,7 +352,7 @@
       this.resizer.disconnect();
       this.pointer.destroy();
       this.controls.dispose();
-      this.clear(() => true);
+      this.picture.dispose();
       this.picker.destroy();
       this.renderer.dispose();
       this.renderer.domElement.remove();
