@@ -150,13 +150,46 @@ CRATES_WITH_OTHER_TESTS = "gm_low:\ngm_high: gm_low\ngmr: gm_high\ngm_tests: gm_
 
 
 def test_a_look_reads_no_file() -> None:
-    """Where nothing was touched, a call looks at times alone, by one process."""
+    """Where nothing was touched, a call looks at times alone."""
     with checkout() as made:
         made.run("show", "a")
         for name in ("sha256sum", "awk", "git", "sort", "mktemp", "cat"):
             put_program(made.kit / name, f"echo {name} >>'{made.kit}/called'")
         assert made.run("show", "a") == (3, "ran show a\n", "")
         assert not (made.kit / "called").exists(), (made.kit / "called").read_text()
+
+
+def test_a_look_takes_less_than_ten_milliseconds() -> None:
+    """With all files of the program's crates, the least of many calls is less than 10 ms above the program alone. Where
+    the machine has more to do than it has processors, and the calls took longer, that says nothing."""
+    with checkout() as made:
+        for name in ("crates", "crates.txt"):
+            (shutil.rmtree if name == "crates" else os.unlink)(made.folder / name)
+        shutil.copytree(ROOT / "crates", made.folder / "crates", ignore=shutil.ignore_patterns("out", "must-fail"))
+        shutil.copy(ROOT / "crates.txt", made.folder / "crates.txt")
+        program, log = made.folder / "crates/gmr/out/gmr", made.folder / "log"
+        program.parent.mkdir()
+        put_program(program, "exit 3")
+        log.write_text("rt: ok\n", encoding="utf-8")
+        assert made.run("--record", made.run("--sources")[1].strip(), str(log)) == (0, "", "")
+        assert made.run("show", "a") == (3, "", "")
+        look, until = 1.0, time.monotonic() + 30
+        while look >= 0.01 and time.monotonic() < until:
+            alone = least_of(program, 5)
+            look = min(look, least_of(made.folder / "gmr", 5) - alone)
+        is_busy = os.getloadavg()[0] > len(os.sched_getaffinity(0))
+        assert look < 0.01 or is_busy, f"a look takes {look * 1000:.1f} ms"
+        assert made.counted() == 0
+
+
+def least_of(program: Path, times: int) -> float:
+    """The least time, in seconds by the clock, of so many calls."""
+    found = []
+    for _ in range(times):
+        began = time.monotonic()
+        subprocess.run([program, "show", "a"], check=False, stdin=subprocess.DEVNULL)
+        found.append(time.monotonic() - began)
+    return min(found)
 
 
 def test_a_folder_that_cant_be_written() -> None:
