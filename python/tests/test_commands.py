@@ -9,6 +9,8 @@ from pathlib import Path
 
 import pytest
 
+from gmr.commands.frame import with_shared_first
+
 TOP = Path(__file__).resolve().parents[2]
 EXAMPLES = TOP / "examples"
 PROGRAMS = sorted(path for path in (TOP / "bench").iterdir() if path.is_file() and not path.suffix)
@@ -27,6 +29,23 @@ def test_quiet(tmp_path: Path) -> None:
     told, quiet = run(TOP / "tools" / "mesh", *words), run(TOP / "tools" / "mesh", "--quiet", *words)
     assert told.returncode == quiet.returncode == 0
     assert told.stdout and quiet.stdout == quiet.stderr == ""
+
+
+@pytest.mark.parametrize("place", range(4))
+def test_shared_options_anywhere(tmp_path: Path, place: int) -> None:
+    """--quiet and --version stand before, between and behind the words of a subcommand."""
+    words: list[str | Path] = ["import", EXAMPLES / "cube.obj", tmp_path / "cube.gmap"]
+    words[place:place] = ["--quiet"]
+    assert run(TOP / "tools" / "mesh", *words).stdout == "" and (tmp_path / "cube.gmap").exists()
+    words[place] = "--version"
+    assert run(TOP / "tools" / "mesh", *words).stdout.startswith("mesh of gmr ")
+
+
+def test_shared_options_first() -> None:
+    """What all tools share goes before all else, but for what stands behind `--`, where no word is an option."""
+    assert with_shared_first(["a", "--quiet", "-b", "--unproved"]) == ["--quiet", "--unproved", "a", "-b"]
+    assert with_shared_first(["a", "--", "--quiet"]) == ["a", "--", "--quiet"]
+    assert with_shared_first(["--version"]) == ["--version"]
 
 
 @pytest.mark.parametrize("text", ["apply", "apply split", "group apply split 0", "apply split 0 with (", "each <0"])

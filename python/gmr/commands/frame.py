@@ -6,11 +6,15 @@ import os
 import sys
 from collections.abc import Callable, Sequence
 from importlib.metadata import PackageNotFoundError, version
+from itertools import takewhile
 from typing import NoReturn
 
 from gmr.errors import INTERRUPTED, REFUSED, WRONG_WORDS, Fault
 from gmr.program import CHECKOUT, choose_unproved, is_unproved
 from gmr.progress import shown
+
+# What stands anywhere on the command line of each tool.
+SHARED = ("--version", "--quiet", "--unproved")
 
 
 class Parser(argparse.ArgumentParser):
@@ -23,13 +27,22 @@ class Parser(argparse.ArgumentParser):
 
 
 def new_parser(name: str, description: str | None, examples: str, usage: str | None = None) -> Parser:
-    """The parser of a tool's words: with examples behind its help, --version and --quiet."""
+    """The parser of a tool's words: with examples behind its help, --version, --quiet and --unproved, of which
+    `run_command` sees that they can stand anywhere."""
     parser = Parser(f"tools/{name}", usage, description, examples,
                     formatter_class=argparse.RawDescriptionHelpFormatter, allow_abbrev=False)
     parser.add_argument("--version", action="version", version=f"{name} of gmr {package_version()}")
     parser.add_argument("--quiet", action="store_true", help="nothing but what was asked for, and what goes wrong")
     parser.add_argument("--unproved", action="store_true", help="ask the program that `./gmr --unproved` keeps")
     return parser
+
+
+def with_shared_first(words: Sequence[str]) -> list[str]:
+    """The words with the options that all tools share before all else, as a subcommand knows none of them; behind `--`
+    no word is an option."""
+    end = words.index("--") if "--" in words else len(words)
+    shared = [word for word in words[:end] if word in SHARED]
+    return [*shared, *(word for word in words[:end] if word not in SHARED), *words[end:]]
 
 
 def package_version() -> str:
@@ -42,13 +55,14 @@ def package_version() -> str:
 
 def run_command(name: str, main: Callable[[Sequence[str]], int | None]) -> int:
     """Runs a command over the words that the process was given: its status, after a line for what goes wrong."""
-    words = sys.argv[1:]
+    words = with_shared_first(sys.argv[1:])
+    shared = list(takewhile(SHARED.__contains__, words))
     try:
-        if "--unproved" in words:
+        if "--unproved" in shared:
             choose_unproved()
         if is_unproved():
             say(name, "what comes is UNPROVED: the program that is asked is a build without proofs")
-        with shown(name, "--quiet" in words):
+        with shown(name, "--quiet" in shared):
             status = main(words) or 0
         sys.stdout.flush()
         return status
