@@ -22,6 +22,8 @@ CHUNK = 65_536  # rows that are printed at once
 PIECE = 1 << 18  # bytes that are read at once
 EIGHT, SURE = 8, 18  # letters of a word of 64 bits; digits that fit in one, whichever they are
 ZERO, MINUS = 48, 45
+# What leaves of eight letters the digits of the last so many: the later a letter, the higher its byte.
+LAST = numpy.array([0x0F0F0F0F0F0F0F0F >> 8 * (8 - many) << 8 * (8 - many) for many in range(9)], numpy.uint64)
 
 
 @dataclass
@@ -170,10 +172,7 @@ def join_digits(eights: NDArray[numpy.uint64], places: Whole, sizes: Whole) -> W
     """The numbers that end behind the eight letters from these places on, and have so many digits. Digits are joined by
     twos, fours and eights within words of 64 bits; the first letter is the lowest byte of its word."""
     found = eights[places]
-    before = ((EIGHT - numpy.minimum(sizes, EIGHT)) * EIGHT).astype(numpy.uint64)
-    found >>= before
-    found <<= before
-    found &= numpy.uint64(0x0F0F0F0F0F0F0F0F)
+    found &= LAST[numpy.minimum(sizes, EIGHT)]
     for times, bits, mask in ((10, 8, 0x00FF00FF00FF00FF), (100, 16, 0x0000FFFF0000FFFF), (10_000, 32, 0xFFFFFFFF)):
         lower = found >> numpy.uint64(bits)
         found *= numpy.uint64(times)

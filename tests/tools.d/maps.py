@@ -1,5 +1,6 @@
 """Tests of python/gmr/maps.py: texts of maps are read and printed, and orbits walked; and of how the program is run."""
 import os
+import random
 import shutil
 import subprocess
 import sys
@@ -8,6 +9,7 @@ import time
 from pathlib import Path
 
 from gmr import maps, program
+from gmr.arrays import PIECE, scan_numbers
 from gmr.maps import Embed, Map, read_map
 
 ROOT = Path(__file__).resolve().parents[2]
@@ -76,6 +78,23 @@ def test_texts_of_no_map_are_refused():
     assert fault("gmap 1 dim 1 darts 1 0 0") == "there are 2 numbers after 'darts', and not 3 for each of 1 darts"
     assert fault("gmap 1 dim 1 darts 2 0 0 0 0 0 0") == "two darts have one name"
     assert fault("gmap 1 dim 1 darts 1 0 0 1") == "a neighbour along label 1 is no dart"
+
+
+def test_numbers_of_all_lengths_are_read():
+    chance = random.Random(5)
+    ends = [2**63 - 1, -2**63, 0]
+    numbers = [sign * chance.randrange(10**length) for length in range(1, 19) for sign in (1, -1) for _ in range(20)]
+    numbers = ends + numbers * 40
+    text = "".join(chance.choice(("%d ", "(%d ", "%d)", "\n%d\t")) % number for number in numbers)
+    assert scan_numbers(text.encode()).tolist() == numbers and len(text) > PIECE
+    assert scan_numbers(b"000000000000000000000012 7").tolist() == [12, 7]
+    for wrong in (b"9223372036854775808", b"-9223372036854775809", b"1 " * 99 + b"9" * 30):
+        try:
+            scan_numbers(wrong)
+        except ValueError as error:
+            assert str(error) == "a number doesn't fit in 64 bits"
+        else:
+            raise AssertionError(wrong)
 
 
 def test_orbits():

@@ -84,9 +84,11 @@ def write_import(model: Path, out: Path, options: Options) -> Imported:
     made = convert_mesh(model, options)
     text = made.map.text()
     with write_beside(out) as written:
-        written.write_bytes(tell_frame(made.frame) + text)
+        with written.open("wb") as file:
+            file.writelines([tell_frame(made.frame), text])
         if options.is_checked:
             check_map(out, written, text)
+        del text    # which is as large as all that the certificate keeps
         if options.is_compared:
             fault = compare(model, written, made.frame.scale, made.frame.origin, made.claims, made.mesh)
             if fault:

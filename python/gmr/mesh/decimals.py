@@ -59,9 +59,9 @@ class Decimals:
         return max(0, -int(self.powers[self.is_number].min(initial=0)))
 
     def rounding(self) -> float:
-        """How far the numbers of 64 bits are from these at most, in their units."""
+        """How far the numbers of 64 bits are from these points at most, in their units."""
         floats, long = self.floats(), np.argwhere((np.abs(self.digits) > 2**53) & self.is_number)
-        off = (abs(Fraction(floats[at]) - self.fraction(at)) for at in map(tuple, long.tolist()))
+        off = (abs(Fraction(float(floats[row, axis])) - self.fraction((row, axis))) for row, axis in long.tolist())
         return float(max(off, default=0))
 
     def fraction(self, index: tuple[int, ...]) -> Fraction:
@@ -140,7 +140,7 @@ def whole_letters(letters: NDArray[np.uint8], sizes: Whole) -> Whole | None:
     is_digit = values <= 9
     if (is_digit.sum(axis=0) != sizes).any() or not sizes.all():
         return None
-    digits = values[0].astype(np.int64)
+    digits: Whole = values[0].astype(np.int64)
     for value, is_one in zip(values[1:], is_digit[1:]):
         digits *= np.where(is_one, 10, 1)
         digits += value * is_one

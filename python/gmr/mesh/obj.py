@@ -117,4 +117,4 @@ def read_materials(path: Path) -> dict[bytes, tuple[int, ...]]:
 def write_obj(path: Path, surface: Surface) -> None:
     """Writes the surface. OBJ has no colours of its own, so none are written."""
     points = print_points(surface.places, b"v ")
-    path.write_bytes(points + print_faces(surface.corners + 1, surface.sizes, [b"f "] * len(surface.sizes)))
+    path.write_bytes(points + print_faces(surface.corners + 1, surface.sizes, b"f "))

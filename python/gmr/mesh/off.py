@@ -100,5 +100,5 @@ def write_off(path: Path, surface: Surface) -> None:
     tails = None
     if surface.face_colours is not None:
         tails = [b" %d %d %d" % tuple(colour) for colour in surface.face_colours.tolist()]
-    heads = [b"%d " % size for size in surface.sizes.tolist()]
-    path.write_bytes(head + print_points(surface.places) + print_faces(surface.corners, surface.sizes, heads, tails))
+    faces = print_faces(surface.corners, surface.sizes, tails=tails)
+    path.write_bytes(head + print_points(surface.places) + faces)

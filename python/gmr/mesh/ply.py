@@ -241,11 +241,10 @@ def write_ply(path: Path, surface: Surface) -> None:
         + (channels if surface.face_colours is not None else "")
         + "end_header\n"
     )
-    heads = [b"%d " % size for size in surface.sizes.tolist()]
     path.write_bytes(
         head.encode()
         + print_points(surface.places, tails=tell_colours(surface.point_colours))
-        + print_faces(surface.corners, surface.sizes, heads, tell_colours(surface.face_colours))
+        + print_faces(surface.corners, surface.sizes, tails=tell_colours(surface.face_colours))
     )
 
 

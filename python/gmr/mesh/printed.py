@@ -26,18 +26,20 @@ def print_points(places: Decimals, head: bytes = b"", tails: Sequence[bytes] | N
     return b"".join(found)
 
 
-def print_faces(corners: Whole, sizes: Whole, heads: Sequence[bytes], tails: Sequence[bytes] | None = None) -> bytes:
-    """A line for each face: a head, its corners with blanks between them, and a tail."""
+def print_faces(corners: Whole, sizes: Whole, head: bytes | None = None, tails: Sequence[bytes] | None = None) -> bytes:
+    """A line for each face: a head, or how many corners it has, its corners with blanks between them, and a tail."""
     if not len(corners):
         return b""
     begins = np.cumsum(sizes) - sizes
-    lead = np.zeros((len(corners), max(map(len, heads))), np.uint8)
-    lead[begins] = as_bytes(np.array(heads, np.bytes_))
+    kinds, kind = np.unique(sizes, return_inverse=True)
+    heads = as_bytes(np.array([head or b"%d " % size for size in kinds.tolist()], np.bytes_))
+    lead = np.zeros((len(corners), heads.shape[1]), np.uint8)
+    lead[begins] = heads[kind]
     between = np.full((len(corners), 1), 32, np.uint8)
     between[begins] = 0
-    lines = [tail + b"\n" for tail in tails] if tails is not None else [b"\n"] * len(sizes)
-    ends = np.zeros((len(corners), max(map(len, lines))), np.uint8)
-    ends[begins + sizes - 1] = as_bytes(np.array(lines, np.bytes_))
+    lines = as_bytes(np.array([tail + b"\n" for tail in tails] if tails is not None else [b"\n"], np.bytes_))
+    ends = np.zeros((len(corners), lines.shape[1]), np.uint8)
+    ends[begins + sizes - 1] = lines
     return squeeze([lead, between, print_numbers(corners), ends])
 
 
