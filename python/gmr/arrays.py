@@ -3,6 +3,7 @@ import os
 import re
 from collections.abc import Sequence
 from dataclasses import dataclass
+from typing import Any
 
 import numpy
 from numpy.typing import NDArray
@@ -20,6 +21,7 @@ SPACED_MINUS = re.compile(rb"-[ \t\r\n]+")
 BARE_MINUS = re.compile(rb"-(?![0-9])")
 CHUNK = 65_536  # rows that are printed at once
 PIECE = 1 << 18  # bytes that are read at once
+TOP = 1 << 16  # bytes in which the head of a text stands, as a rule
 EIGHT, SURE = 8, 18  # letters of a word of 64 bits; digits that fit in one, whichever they are
 ZERO, MINUS = 48, 45
 # What leaves of eight letters the digits of the last so many: the later a letter, the higher its byte.
@@ -72,19 +74,21 @@ def print_rows(names: Whole, alpha: Whole, columns: list[tuple[Whole, Whole]]) -
         line = [piece for one in pieces for piece in (numpy.broadcast_to(blank, (count, 1)), one)][1:]
         ends = numpy.full((count, 1), 10, numpy.uint8)
         flat = numpy.concatenate([*line, ends], axis=1).ravel()
-        printed.append(flat.compress(flat != 0).tobytes())
+        printed.append(flat[flat != 0].tobytes())
     return b"".join(printed)
 
 
 def print_numbers(numbers: Whole) -> Bytes:
     """Whole numbers as decimals, one a row, with bytes of value 0 where a number is shorter than the longest one."""
-    rest = numpy.abs(numbers).astype(numpy.uint64)
+    rest: NDArray[Any] = numpy.abs(numbers).astype(numpy.uint64)
     width = len(str(int(rest.max()))) if len(rest) else 1
+    kind = numpy.uint32 if width < 10 else numpy.uint64    # the shorter ones are divided faster
+    rest = rest.astype(kind)
     found = numpy.zeros((len(rest), width + 1), numpy.uint8)
     for place in range(width, 0, -1):
-        is_there = (rest > 0) | (place == width)
-        found[:, place] = numpy.where(is_there, rest % numpy.uint64(10) + numpy.uint64(48), 0)
-        rest //= numpy.uint64(10)
+        quotient = rest // kind(10)
+        found[:, place] = numpy.where((rest > 0) | (place == width), rest - quotient * kind(10) + kind(48), 0)
+        rest = quotient
     found[:, 0] = numpy.where(numbers < 0, 45, 0)
     kept: Bytes = found if (numbers < 0).any() else found[:, 1:]
     return kept
@@ -105,8 +109,11 @@ def read_arrays(text: bytes) -> Arrays:
     """The map that a text stands for, as maps.read_map takes it; ValueError with one plain line where it is none."""
     behind = text.find(b"\n", text.rfind(b"#")) if b"#" in text else 0
     behind = len(text) if behind < 0 else behind
-    bare = re.sub(rb"#[^\n]*", b" ", text[:behind]) + text[behind:] if behind else text
-    head = HEAD_BYTES.match(bare)
+    bare = re.sub(rb"#[^\n]*", b" ", text[:behind])
+    head = HEAD_BYTES.match(bare + text[behind: behind + TOP])
+    if not head or not len(bare) <= head.end() < len(bare) + TOP:
+        bare, behind = bare + text[behind:], len(text)
+        head = HEAD_BYTES.match(bare)
     if not head:
         raise ValueError("this is no text of a map: it doesn't open with gmap, dim and darts")
     version, dimension, count = int(head[1]), int(head[2]), int(head[8])
@@ -121,7 +128,8 @@ def read_arrays(text: bytes) -> Arrays:
         for name, labels, kind in re.findall(EMBED, head[3].decode())
     ]
     width = dimension + 2 + sum(WIDTHS[embed.kind] for embed in embeds)
-    rows = read_numbers(bare[head.end():], width, count)
+    body = text[behind + head.end() - len(bare):] if behind < len(text) else bare[head.end():]
+    rows = read_numbers(body, width, count)
     return join_rows(version, dimension, embeds, head[7], rows)
 
 
@@ -194,11 +202,12 @@ def join_rows(version: int, dimension: int, embeds: list[Embed], stated: bytes |
         if (names[1:] == names[:-1]).any():
             raise ValueError("two darts have one name")
     alpha = numpy.ascontiguousarray(rows[:, 1:dimension + 2].T)
-    if len(names) and (names[0] != 0 or names[-1] != len(names) - 1):
-        found = numpy.minimum(numpy.searchsorted(names, alpha), len(names) - 1)
+    is_plain = bool(len(names)) and names[0] == 0 and names[-1] == len(names) - 1
+    if is_plain and alpha.min() >= 0 and alpha.max() < len(names):
+        found = alpha
     else:
-        found = numpy.clip(alpha, 0, max(len(names) - 1, 0))
-    wrong = (names[found] != alpha).any(axis=1) if len(names) else numpy.zeros(dimension + 1, bool)
+        found = numpy.minimum(numpy.searchsorted(names, alpha), max(len(names) - 1, 0))
+    wrong = (names[found] != alpha).any(axis=1) if found is not alpha and len(names) else numpy.zeros(len(alpha), bool)
     if wrong.any():
         raise ValueError(f"a neighbour along label {int(numpy.argmax(wrong))} is no dart")
     values, place = {}, dimension + 2

@@ -140,12 +140,16 @@ def check_places(spots: Array, blur: float, point: Array, places: Array,
                  exact: Callable[[int], Sequence[Fraction]]) -> None:
     """Different where a dart isn't within half a unit of its point; by fractions, which `exact` tells of a point, where
     numbers are great. Spots may be off by `blur`, as a part of them."""
-    wanted = spots[point]
-    wrong = (np.abs(wanted - places) > 0.5 + 1e-6 + np.abs(wanted) * (blur + 2.0**-50)).any(axis=1)
+    off = spots[point]
+    off -= places
+    off = np.abs(off, out=off)
+    wrong = np.zeros(len(point), bool)
+    if off.max(initial=0) > 0.5 + 1e-6:
+        wrong = (off > 0.5 + 1e-6 + np.abs(spots[point]) * (blur + 2.0**-50)).any(axis=1)
     if blur == 0 and np.abs(spots).max(initial=0) > EXACT:
         for number, dart in zip(*(one.tolist() for one in np.unique(point, return_index=True))):
-            off = [one - two for one, two in zip(exact(number), places[dart].tolist())]
-            wrong[dart] |= any(abs(one) > Fraction(1, 2) for one in off)
+            far = [one - two for one, two in zip(exact(number), places[dart].tolist())]
+            wrong[dart] |= any(abs(one) > Fraction(1, 2) for one in far)
     if wrong.any():
         dart = int(np.argmax(wrong))
         raise Different(f"point {point[dart]} lies elsewhere in the map: dart {dart} at {places[dart].tolist()}")

@@ -56,7 +56,7 @@ def column(word: bytes, count: int) -> Bytes:
 def squeeze(pieces: Sequence[Bytes]) -> bytes:
     """Rows of bytes behind each other, without those of value 0."""
     flat = np.concatenate(pieces, axis=1).ravel()
-    return bytes(flat.compress(flat != 0).tobytes())
+    return bytes(flat[flat != 0].tobytes())
 
 
 def print_decimals(numbers: Decimals) -> Bytes:
