@@ -151,7 +151,8 @@ def scan_numbers(text: bytes) -> Whole:
     """The numbers of a text of digits, signs right before them, and blanks or parentheses between; ValueError at one
     that doesn't fit in 64 bits."""
     letters = numpy.frombuffer(b" " * EIGHT + text + b" ", numpy.uint8)
-    eights = numpy.ndarray((len(letters) - EIGHT + 1,), "<u8", letters, strides=(1,))   # eight letters from each one on
+    # eight letters from each one on, as one number
+    eights: NDArray[numpy.uint64] = numpy.ndarray((len(letters) - EIGHT + 1,), "<u8", letters, strides=(1,))
     is_signed = b"-" in text
     parts, begin = [numpy.empty(0, numpy.int64)], EIGHT
     while begin < len(letters):

@@ -3,7 +3,7 @@ from __future__ import annotations
 
 from collections.abc import Iterable, Iterator, Sequence
 from itertools import chain, repeat
-from typing import NamedTuple, cast
+from typing import Any, NamedTuple, cast
 
 import numpy as np
 from numpy.typing import NDArray
@@ -50,7 +50,7 @@ class Walked:
     """A map's neighbours by rows of darts, as what measures distances walks them."""
 
     def __init__(self, alpha: Rows) -> None:
-        self.alpha = list(map(memoryview, np.ascontiguousarray(alpha)))  # type: ignore[arg-type]
+        self.alpha = list(map(memoryview, np.ascontiguousarray(alpha)))
 
     def orbit(self, labels: Iterable[int], row: int) -> list[int]:
         """The rows of an orbit, in the order of a walk."""
@@ -87,7 +87,7 @@ class Finder:
     def __init__(self, it: Map | Arrays, points: str | None = None, free: int | None = None) -> None:
         self.map = it if isinstance(it, Arrays) else read_arrays(it.text().encode())
         self.points_name, self.free = points, free
-        self.names: Sequence[int] = memoryview(np.ascontiguousarray(self.map.names))
+        self.names: Sequence[int] = memoryview(cast(Any, np.ascontiguousarray(self.map.names)))
         self.walked = Walked(self.map.alpha)
         self._least: dict[tuple[int, ...], Rows] = {}
         self._values: dict[str, list[Value]] = {}

@@ -66,7 +66,7 @@ def read_file(path: Path, parsed: Any) -> Read:
         text = re.sub(rb"\\[ \t]*\n+", b" ", text)
         rows = [row for row in map(bytes.split, text.split(b"\n")) if row]
         return read_obj(rows, b"/" in text) if suffix == ".obj" else read_off(rows)
-    mesh = parsed or read_mesh(path, drops=True)
+    mesh: Any = parsed or read_mesh(path, drops=True)
     cells = getattr(mesh, "cells", ())
     read = gather([], [face for cell in cells for face in cell.faces], 0 if parsed else DOUBLE)
     read = read._replace(points=mesh.places.floats(), words=mesh.places)

@@ -93,7 +93,8 @@ def read_paints(words: Words, polygons: Whole, folder: Path) -> Whole | None:
     at = np.searchsorted([row for row, _ in used], polygons) - 1
     if not any(paints[one] for one in np.unique(at).tolist()):
         return None
-    return np.array([one or WHITE for one in paints], np.int64)[at]
+    found: Whole = np.array([one or WHITE for one in paints], np.int64)[at]
+    return found
 
 
 def read_materials(path: Path) -> dict[bytes, tuple[int, ...]]:

@@ -64,7 +64,8 @@ class Words:
         width = int(sizes.max(initial=0))
         if width > WIDEST:
             return None
-        eights = np.ndarray((len(self.letters) - 7,), "<u8", self.letters, strides=(1,))    # as many letters at once
+        # eight letters from each one on, as one number
+        eights: NDArray[np.uint64] = np.ndarray((len(self.letters) - 7,), "<u8", self.letters, strides=(1,))
         parts = [eights[begins + first].view(np.uint8).reshape(-1, 8).T for first in range(0, max(width, 1), 8)]
         found = np.concatenate(parts)[:width]
         for letter in range(width):
