@@ -163,10 +163,11 @@ def scan_numbers(text: bytes) -> Whole:
         edges = numpy.flatnonzero(is_digit[1:] != is_digit[:-1])
         edges += begin
         begins, ends = edges[::2], edges[1::2]
-        numbers = join_digits(eights, ends - EIGHT, ends - begins)
+        sizes = ends - begins
+        numbers = join_digits(eights, ends - EIGHT, sizes)
         if is_signed:
             numpy.negative(numbers, out=numbers, where=letters[begins - 1] == MINUS)
-        for at in numpy.flatnonzero(ends - begins > SURE).tolist():
+        for at in numpy.flatnonzero(sizes > SURE).tolist() if sizes.max(initial=0) > SURE else ():
             sign = -1 if letters[begins[at] - 1] == MINUS else 1
             number = sign * int(letters[begins[at]: ends[at]].tobytes())
             if not LEAST <= number <= MOST:
@@ -188,8 +189,8 @@ def join_digits(eights: NDArray[numpy.uint64], places: Whole, sizes: Whole) -> W
         found += lower
         found &= numpy.uint64(mask)
     joined: Whole = found.view(numpy.int64)
-    longer = numpy.flatnonzero(sizes > EIGHT)
-    if len(longer):
+    if sizes.max(initial=0) > EIGHT:
+        longer = numpy.flatnonzero(sizes > EIGHT)
         joined[longer] += 10**EIGHT * join_digits(eights, places[longer] - EIGHT, sizes[longer] - EIGHT)
     return joined
 
