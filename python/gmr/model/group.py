@@ -4,7 +4,7 @@ from collections.abc import Iterable
 
 import numpy as np
 
-from gmr.model.outcome import Outcome
+from gmr.model.outcome import Outcome, Statement
 from gmr.model.queue import Queue, Waiting
 from gmr.model.session import Session
 from gmr.model.statements import lines_at
@@ -28,7 +28,7 @@ class Group:
     def at_leads(self, leads: Iterable[int], line: str) -> Outcome:
         """The same at these darts."""
         lines = lines_at(leads, line)
-        outcome = Outcome(self.queue, "\n".join(lines))
+        outcome = Statement(self.queue, "\n".join(lines))
         if lines:
             self.queue.add(Waiting(lines, [outcome], passes=True))
             self.queue.flush()

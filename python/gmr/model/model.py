@@ -17,11 +17,13 @@ from gmr.maps import Map
 from gmr.model.choosing import Choosing
 from gmr.model.first import FirstMap, copy_book, make_bare_book, take_first_map
 from gmr.model.group import Group
-from gmr.model.outcome import Outcome
+from gmr.model.outcome import Application, Outcome, Statement
 from gmr.model.queue import Queue, Waiting
 from gmr.model.script import Script, split_script
 from gmr.model.session import Session
-from gmr.model.statements import Hooks, Parameter, apply_line, each_line, find_rule, labels_of, lines_at
+from gmr.model.statements import (
+    Hooks, LineOf, Parameter, darts_of, each_line, find_rule, labels_of, lines_at, make_line_of,
+)
 
 
 class Model(Choosing):
@@ -35,9 +37,10 @@ class Model(Choosing):
     def __init__(self, first: FirstMap, book: Path, folder: tempfile.TemporaryDirectory[str]) -> None:
         """Made by `load`."""
         self._first, self._book_file, self._folder = first, book, folder
-        self._queue = Queue(Session(first.counted, book))
+        self._queue = self._active = Queue(Session(first.counted, book))    # an open group has one of its own
         self._group: Group | None = None
         self._book: Book | None = None
+        self._lines_of: dict[str, LineOf] = {}
 
     @classmethod
     def load(
@@ -60,7 +63,7 @@ class Model(Choosing):
     def map(self) -> Map:
         """The map as it is now; in an open group, as the group has left it so far."""
         self.now()
-        queue = self._active()
+        queue = self._active
         return queue.session.map_at(len(queue.session.lines))
 
     @property
@@ -84,6 +87,7 @@ class Model(Choosing):
         file = copy_book(book, Path(self._folder.name))
         self._queue.session.change_book(file)
         self._book_file, self._book = file, None
+        self._lines_of.clear()
 
     @property
     def script(self) -> Script:
@@ -93,24 +97,32 @@ class Model(Choosing):
 
     def now(self) -> Model:
         """Hands what was gathered to the program. Refused where a statement is refused."""
-        self._active().flush()
+        self._active.flush()
         return self
 
     def apply(self, rule: str, /, *, at: Hooks = None, **parameters: Parameter) -> Outcome:
         """Applies a rule once: at a dart or cell, several for a rule with several hooks, in their order or by their
         names, with the values of its parameters by name. ValueError or TypeError where they don't suit the rule."""
-        return self._apply(rule, at, parameters, True)
+        run = self._active.run
+        if len(run.lines) >= run.room:
+            run = self._active.make_room()
+        lines = run.lines
+        lines.append((self._lines_of.get(rule) or self._line_of(rule))(at, parameters))
+        return Application(run, len(lines) - 1)
 
     def try_apply(self, rule: str, /, *, at: Hooks = None, **parameters: Parameter) -> Outcome:
         """The same at once, and a refusal is no fault: the outcome tells of it, and the model stays as it was."""
         self.now()
-        outcome = self._apply(rule, at, parameters, False)
+        line = self._line_of(rule)(at, parameters)
+        outcome = self._add([line], darts_of(find_rule(self.book, rule), at), False)
         self.now()
         return outcome
 
-    def _apply(self, rule: str, at: Hooks, parameters: dict[str, Parameter], must: bool) -> Outcome:
-        line, darts = apply_line(find_rule(self.book, rule), at, parameters)
-        return self._add([line], darts, must)
+    def _line_of(self, rule: str) -> LineOf:
+        """What makes the lines that apply the rule."""
+        if rule not in self._lines_of:
+            self._lines_of[rule] = make_line_of(find_rule(self.book, rule))
+        return self._lines_of[rule]
 
     def each(self, cells: str | int | Iterable[int] | Cells, rule: str, /, **parameters: Parameter) -> Outcome:
         """Applies a rule with one hook at each cell, as 'face' or 2, at each orbit over labels, as (0, 1), or at each
@@ -155,7 +167,7 @@ class Model(Choosing):
         outcomes: list[Outcome] = []
         try:
             for lines, hooks in split_script(text):
-                made = [Outcome(self._queue, line, darts) for line, darts in zip(lines, hooks)]
+                made = [Statement(self._queue, line, darts) for line, darts in zip(lines, hooks)]
                 outcomes += made
                 self._queue.add(Waiting(lines, made, False, keep_refused))
             self.now()
@@ -171,13 +183,14 @@ class Model(Choosing):
         self._refuse_in_group("a group")
         self.now()
         queue = self._queue
-        outcome = Outcome(queue, "")
+        outcome = Statement(queue, "")
         self._group = Group(queue)
+        self._active = self._group.queue
         try:
             yield outcome
             lines = self._group.close()
         finally:
-            self._group = None
+            self._group, self._active = None, queue
         outcome.text = "\n".join(lines)
         if lines:
             queue.add(Waiting(lines, [outcome]))
@@ -207,12 +220,9 @@ class Model(Choosing):
         session = self._queue.session
         return session.file_at(len(session.lines))
 
-    def _active(self) -> Queue:
-        return self._group.queue if self._group else self._queue
-
     def _add(self, lines: list[str], darts: tuple[int, ...], must: bool, passes: bool = False) -> Outcome:
-        queue = self._active()
-        outcome = Outcome(queue, "\n".join(lines), darts)
+        queue = self._active
+        outcome = Statement(queue, "\n".join(lines), darts)
         if lines:
             queue.add(Waiting(lines, [outcome], must, passes=passes))
         else:

@@ -1,6 +1,7 @@
 """What became of a statement, told as soon as it is asked for."""
 from __future__ import annotations
 
+from abc import ABC, abstractmethod
 from typing import TYPE_CHECKING
 
 import numpy as np
@@ -11,51 +12,57 @@ from gmr.maps import Map
 from gmr.model.reasons import darts_of_refusal, explain
 
 if TYPE_CHECKING:
-    from gmr.model.queue import Queue
+    from gmr.model.queue import Queue, Run
 
 
-class Outcome:
+class Outcome(ABC):
     """What became of a statement: of one line of a script, or of the lines of an `each` over some cells or of a group.
 
     A statement is handed to the program with those that were gathered before it, as soon as one of these is asked
     for. Where one of them was refused that must be done, asking raises Refused.
     """
 
-    __slots__ = ("_queue", "text", "hooks", "_lines", "_passed", "begin", "end", "_fault")
-
-    def __init__(self, queue: Queue, text: str, hooks: tuple[int, ...] = ()) -> None:
-        """The lines of the statement as a script has them, and the darts of its hooks."""
-        self._queue = queue
-        self.text = text
-        self.hooks = hooks
-        self._lines: list[str] | None = None
-        self._passed = 0
-        self.begin = self.end = -1      # the places in the script before and after it
-        self._fault: Refused | None = None
-
-    def settle(self, lines: list[str], begin: int, end: int, passed: int = 0) -> None:
-        """Says what the report has of the statement, between which places of the script it stands, and how many darts
-        it passed over that have no line."""
-        self._lines, self.begin, self.end, self._passed = lines, begin, end, passed
-
-    def fail(self, fault: Refused) -> None:
-        """Says why the statement was never handed to the program."""
-        self._fault = fault
+    __slots__ = ()
 
     @property
+    def queue(self) -> Queue:
+        """The queue in which it waits, or waited."""
+        raise NotImplementedError
+
+    @property
+    def text(self) -> str:
+        """The lines of the statement as a script has them."""
+        raise NotImplementedError
+
+    @property
+    def hooks(self) -> tuple[int, ...]:
+        """The darts of its hooks."""
+        raise NotImplementedError
+
+    @property
+    def begin(self) -> int:
+        """The place in the script before it, when it is settled."""
+        raise NotImplementedError
+
+    @property
+    def end(self) -> int:
+        """The place in the script behind it, when it is settled."""
+        raise NotImplementedError
+
+    @property
+    def passed(self) -> int:
+        """How many darts it passed over that have no line."""
+        return 0
+
+    @property
+    @abstractmethod
     def is_settled(self) -> bool:
         """Whether it is known what became of it, without a run of the program."""
-        return self._lines is not None or self._fault is not None
 
     @property
+    @abstractmethod
     def lines(self) -> list[str]:
         """The lines of the report, each without its number."""
-        if not self.is_settled:
-            self._queue.flush()
-        if self._fault is not None:
-            raise self._fault
-        assert self._lines is not None
-        return self._lines
 
     @property
     def line(self) -> str:
@@ -70,8 +77,8 @@ class Outcome:
     @property
     def counts(self) -> tuple[int, int, int]:
         """How many applications, undos and redos were done and refused, and how many darts an `each` passed over."""
-        done, refused, passed = 0, 0, self._passed if self.is_settled else 0
-        for line in self.lines:
+        lines, done, refused, passed = self.lines, 0, 0, self.passed
+        for line in lines:
             words = line.split()
             if self._is_each(line):
                 done, refused, passed = done + int(words[3]), refused + int(words[5]), passed + int(words[7])
@@ -121,13 +128,13 @@ class Outcome:
     def before(self) -> Map:
         """The map that the statement met."""
         self._ask()
-        return self._queue.session.map_at(self.begin)
+        return self.queue.session.map_at(self.begin)
 
     @property
     def after(self) -> Map:
         """The map that the statement left."""
         self._ask()
-        return self._queue.session.map_at(self.end)
+        return self.queue.session.map_at(self.end)
 
     @property
     def new(self) -> Region:
@@ -145,11 +152,11 @@ class Outcome:
 
     def book_file(self) -> str:
         """The file of the book under which it ran."""
-        return str(self._queue.session.book)
+        return str(self.queue.session.book)
 
     def _ask(self) -> None:
         if not self.is_settled:
-            self._queue.flush_up_to(self)
+            self.queue.flush_up_to(self)
         assert self.lines is not None
 
     def _is_each(self, line: str) -> bool:
@@ -160,6 +167,101 @@ class Outcome:
 
     def __repr__(self) -> str:
         return f"<{self.line or 'nothing to do'}>"
+
+
+class Statement(Outcome):
+    """What became of a statement that has an object of its own while it waits: all but single applications."""
+
+    __slots__ = ("queue", "text", "hooks", "begin", "end", "passed", "_lines", "_fault")
+    queue: Queue
+    text: str
+    hooks: tuple[int, ...]
+    begin: int
+    end: int
+    passed: int
+
+    def __init__(self, queue: Queue, text: str, hooks: tuple[int, ...] = ()) -> None:
+        """The lines of the statement, and the darts of its hooks."""
+        self.queue, self.text, self.hooks = queue, text, hooks
+        self.begin = self.end = -1
+        self.passed = 0
+        self._lines: list[str] | None = None
+        self._fault: Refused | None = None
+
+    def settle(self, lines: list[str], begin: int, end: int, passed: int = 0) -> None:
+        """Says what the report has of the statement, between which places of the script it stands, and how many darts
+        it passed over that have no line."""
+        self._lines, self.begin, self.end, self.passed = lines, begin, end, passed
+
+    def fail(self, fault: Refused) -> None:
+        """Says why the statement was never handed to the program."""
+        self._fault = fault
+
+    @property
+    def is_settled(self) -> bool:
+        """Whether it is known what became of it, without a run of the program."""
+        return self._lines is not None or self._fault is not None
+
+    @property
+    def lines(self) -> list[str]:
+        """The lines of the report, each without its number."""
+        if not self.is_settled:
+            self.queue.flush()
+        if self._fault is not None:
+            raise self._fault
+        assert self._lines is not None
+        return self._lines
+
+
+class Application(Outcome):
+    """What became of a single application that must be done, by its place in the run of those that it was gathered
+    with. A loop makes thousands of these, so all else is looked up there when it is asked for."""
+
+    __slots__ = ("run", "place")
+
+    def __init__(self, run: Run, place: int) -> None:
+        self.run = run
+        self.place = place
+
+    @property
+    def queue(self) -> Queue:
+        """The queue in which it waits, or waited."""
+        return self.run.queue
+
+    @property
+    def text(self) -> str:
+        """The line of the application as a script has it."""
+        return self.run.lines[self.place]
+
+    @property
+    def hooks(self) -> tuple[int, ...]:
+        """The darts of its hooks."""
+        return tuple(map(int, self.text.partition(" with ")[0].split()[2:]))
+
+    @property
+    def is_settled(self) -> bool:
+        """Whether it is known what became of it, without a run of the program."""
+        return self.place < len(self.run.report) or self.run.fault is not None
+
+    @property
+    def lines(self) -> list[str]:
+        """The line of the report without its number, alone."""
+        if not self.is_settled:
+            self.queue.flush()
+        if self.place < len(self.run.report):
+            return [self.run.report[self.place].partition(" ")[2]]
+        assert self.run.fault is not None
+        raise self.run.fault
+
+    @property
+    def begin(self) -> int:
+        """The place in the script before it, when it is settled."""
+        return self.run.begin + self.place
+
+    @property
+    def end(self) -> int:
+        """The place in the script behind it, when it is settled."""
+        return self.begin + (not is_refusal(self.lines[0]))
 
 
 def is_refusal(line: str) -> bool:

@@ -37,7 +37,7 @@ class Session:
         self.lines: list[str] = []
         self.history = History()
         self._folder = tempfile.TemporaryDirectory(prefix="gmr-model-")
-        self._numbers, self._steps = count(), count()
+        self._numbers, self._step = count(), 0
         self._places: list[int] = []
         self._files: dict[int, Path] = {}
         self._maps: dict[int, Map] = {}
@@ -67,8 +67,7 @@ class Session:
     def attempt(self, lines: Sequence[str]) -> Piece:
         """What lines would do behind those that are done, which stay as they are. Refused where they are no script
         of the book."""
-        words = [line.split(None, 1)[0] for line in lines]
-        base = self._base(len(self.lines), words.count("undo"), words.count("redo"))
+        base = self._base(len(self.lines), lines.count("undo"), lines.count("redo"))
         before = self.lines[base:]
         piece = self._run(self._files[base], [*before, *lines])
         return piece._replace(report=piece.report[len(before):])
@@ -76,9 +75,15 @@ class Session:
     def take(self, lines: Sequence[str], dids: Sequence[bool]) -> None:
         """Takes lines that were tried into the script, as one step, with whether each did something. The map behind
         them is given to `keep`, at the latest behind the last of what was tried together."""
-        step, begin = next(self._steps), len(self.lines)
-        for place, (line, did) in enumerate(zip(lines, dids), begin):
-            self.history.note(place, line.split(None, 1)[0], did, step)
+        for place, (line, did) in enumerate(zip(lines, dids), len(self.lines)):
+            self.history.note(place, line.split(None, 1)[0], did, self._step)
+        self._step += 1
+        self.lines.extend(lines)
+
+    def take_applications(self, lines: Sequence[str]) -> None:
+        """The same of applications that were all done, each as a step of its own."""
+        self.history.note_applications(len(self.lines), len(lines), self._step)
+        self._step += len(lines)
         self.lines.extend(lines)
 
     def keep(self, file: Path) -> None:
@@ -113,7 +118,7 @@ class Session:
 
     def _run(self, start: Path, lines: Sequence[str]) -> Piece:
         """Runs lines over a map's file by the program."""
-        said, out, _ = self.run_text(start, "".join(f"{line}\n" for line in lines))
+        said, out, _ = self.run_text(start, "\n".join([*lines, ""]))
         return Piece(said[:len(lines)], out, said[len(lines):])
 
     def run_text(self, start: Path, text: str) -> Piece:

@@ -1,6 +1,6 @@
 """The lines that statements are in a script, made of rules, darts and values, and judged before they are run."""
 import re
-from collections.abc import Iterable, Mapping, Sequence
+from collections.abc import Callable, Iterable, Mapping, Sequence
 from operator import index
 from typing import Any, Protocol, SupportsIndex
 
@@ -33,11 +33,48 @@ def find_rule(book: Book, name: str) -> Rule:
     raise ValueError(f"the book has no rule {name}; it has {', '.join(rule.name for rule in book.rules) or 'none'}")
 
 
-def apply_line(rule: Rule, at: Hooks, values: Mapping[str, Parameter]) -> tuple[str, tuple[int, ...]]:
-    """The line that applies a rule, and the darts of its hooks; ValueError or TypeError where they don't suit it."""
-    darts = darts_of(rule, at)
-    numbers = "".join(f" {dart}" for dart in darts)
-    return f"apply {rule.name}{numbers}{spell_values(rule, values)}", darts
+LineOf = Callable[[Hooks, Mapping[str, Parameter]], str]
+
+
+def make_line_of(rule: Rule) -> LineOf:
+    """What makes the lines that apply a rule at hooks with values; ValueError or TypeError where they don't suit it.
+
+    A loop makes thousands, so a rule with one hook and nothing else, or with one vector, has a quick way."""
+    begin, name = f"apply {rule.name}", rule.params[0][0] if rule.params else ""
+
+    def spell_line(at: Hooks, values: Mapping[str, Parameter]) -> str:
+        """Any line."""
+        return "".join([begin, *(f" {dart}" for dart in darts_of(rule, at)), spell_values(rule, values)])
+
+    def spell_alone(at: Hooks, values: Mapping[str, Parameter]) -> str:
+        """A line without values."""
+        if type(at) is int and at >= 0 and not values:
+            return f"{begin} {at}"
+        return spell_line(at, values)
+
+    def spell_pair(at: Hooks, values: Mapping[str, Parameter]) -> str:
+        """A line with a vector of two numbers."""
+        pair = values.get(name)
+        if type(at) is int and at >= 0 and type(pair) is tuple and len(pair) == 2 and len(values) == 1:
+            x, y = pair
+            if type(x) is type(y) is int and LEAST_NUMBER <= x <= MOST_NUMBER and LEAST_NUMBER <= y <= MOST_NUMBER:
+                return f"{begin} {at} with ({x} {y})"
+        return spell_line(at, values)
+
+    def spell_triple(at: Hooks, values: Mapping[str, Parameter]) -> str:
+        """A line with a vector of three numbers."""
+        triple = values.get(name)
+        if type(at) is int and at >= 0 and type(triple) is tuple and len(triple) == 3 and len(values) == 1:
+            x, y, z = triple
+            if (type(x) is type(y) is type(z) is int and LEAST_NUMBER <= x <= MOST_NUMBER
+                    and LEAST_NUMBER <= y <= MOST_NUMBER and LEAST_NUMBER <= z <= MOST_NUMBER):
+                return f"{begin} {at} with ({x} {y} {z})"
+        return spell_line(at, values)
+
+    if len(rule.hooks) != 1:
+        return spell_line
+    quick = {(): spell_alone, ("vec2",): spell_pair, ("vec3",): spell_triple}
+    return quick.get(tuple(kind for _, kind in rule.params), spell_line)
 
 
 def each_line(rule: Rule, labels: Iterable[int], values: Mapping[str, Parameter]) -> str:
@@ -54,7 +91,7 @@ def lines_at(darts: Iterable[int], each: str) -> list[str]:
 
 def check_hooks(rule: Rule, count: int) -> None:
     """ValueError where a rule has another number of hooks."""
-    hooks = [node.name for node in rule.nodes if node.hook]
+    hooks = rule.hooks
     if len(hooks) != count:
         named = f" ({', '.join(hooks)})" if hooks else ""
         raise ValueError(f"{rule.name} has {len(hooks)} {'hook' if len(hooks) == 1 else 'hooks'}{named}, "
@@ -66,7 +103,7 @@ def darts_of(rule: Rule, at: Hooks) -> tuple[int, ...]:
     if at is None:
         darts: tuple[int, ...] = ()
     elif isinstance(at, Mapping):
-        hooks = [node.name for node in rule.nodes if node.hook]
+        hooks = rule.hooks
         if set(at) != set(hooks):
             raise ValueError(f"{rule.name} has the hooks {', '.join(hooks)}, and {', '.join(at)} are given")
         darts = tuple(dart_of(at[name]) for name in hooks)
@@ -90,8 +127,7 @@ def spell_values(rule: Rule, values: Mapping[str, Parameter]) -> str:
     """The end of a line that has a rule's values."""
     if not values and not rule.params:
         return ""
-    wanted = [name for name, _ in rule.params]
-    if set(wanted) != set(values):
+    if len(values) != len(rule.params) or not all(name in values for name, _ in rule.params):
         said = ", ".join(f"{name}: {kind}" for name, kind in rule.params)
         raise ValueError(f"{rule.name} has {f'the parameters ({said})' if said else 'no parameters'}, "
                          f"and {', '.join(values) or 'none'} {'is' if len(values) < 2 else 'are'} given")

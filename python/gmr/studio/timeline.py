@@ -68,7 +68,7 @@ class Timeline:
 
     def taken_back(self) -> set[int]:
         """The places of the steps that were taken back and that `redo` brings again."""
-        begins = {entry.begin for entry in self.session.history.future}
+        begins = set(self.session.history.future.begins)
         return {at for at, (step, begin) in enumerate(zip(self.steps, self.begins)) if step.lines and begin in begins}
 
     def run_all(self, text: str) -> tuple[list[Step], Piece]:
