@@ -1,6 +1,8 @@
 """What all commands share: they are quiet where they are asked to be, end with 130 at an interrupt, and tell a fault in
 one line with the file's name. And the programs of bench answer --help, and begin no proof."""
+import io
 import os
+import shutil
 import signal
 import subprocess
 import sys
@@ -9,11 +11,13 @@ from pathlib import Path
 
 import pytest
 
+from gmr import progress
 from gmr.commands.frame import with_shared_first
 
 TOP = Path(__file__).resolve().parents[2]
 EXAMPLES = TOP / "examples"
 PROGRAMS = sorted(path for path in (TOP / "bench").iterdir() if path.is_file() and not path.suffix)
+TOOLS = sorted((TOP / "tools").iterdir())
 PATIENCE = 300      # seconds: a machine that is busy is slow
 
 
@@ -46,6 +50,48 @@ def test_shared_options_first() -> None:
     assert with_shared_first(["a", "--quiet", "-b", "--unproved"]) == ["--quiet", "--unproved", "a", "-b"]
     assert with_shared_first(["a", "--", "--quiet"]) == ["a", "--", "--quiet"]
     assert with_shared_first(["--version"]) == ["--version"]
+
+
+@pytest.mark.parametrize("tool", TOOLS, ids=lambda tool: tool.name)
+def test_words(tool: Path) -> None:
+    """Help has an example; wrong words are told in one line, with status 2."""
+    helped, wrong = run(tool, "--help"), run(tool, "--no-such-word")
+    assert helped.returncode == 0 and "example" in helped.stdout and not helped.stderr
+    assert wrong.returncode == 2 and wrong.stderr.startswith(f"{tool.name}: ") and wrong.stderr.count("\n") == 1
+
+
+@pytest.mark.parametrize("words", [
+    ("mesh", "import", "a.obj", "a.obj"), ("mesh", "export", "a.gmap", "a.gmap"),
+    ("book", "join", "a.gbook", "--out", "a.gbook"), ("draw", "a.svg", "a.svg"),
+    ("mesh", "run", "a.obj", "a.gbook", "a.gscript", "a.obj"),
+])
+def test_nothing_that_is_read_is_written(tmp_path: Path, words: tuple[str, ...]) -> None:
+    """A command that is told to write over what it reads refuses in one line, and the file stays."""
+    for name, example in (("a.obj", "cube.obj"), ("a.gmap", "square.gmap"), ("a.svg", "square.gmap"),
+                          ("a.gbook", "split.gbook")):
+        shutil.copy(EXAMPLES / example, tmp_path / name)
+    (tmp_path / "a.gscript").write_text("", encoding="ascii")
+    before = {path.name: path.read_bytes() for path in tmp_path.iterdir()}
+    done = subprocess.run([sys.executable, TOP / "tools" / words[0], *words[1:]], cwd=tmp_path, capture_output=True,
+                          text=True, check=False, timeout=PATIENCE)
+    assert done.returncode in (1, 2) and done.stderr.count("\n") == 1, done
+    assert {path.name: path.read_bytes() for path in tmp_path.iterdir()} == before
+
+
+def test_progress(monkeypatch: pytest.MonkeyPatch) -> None:
+    """What takes long is told on a terminal, in a line that is gone at the end; not where it is quiet."""
+    monkeypatch.setattr(progress, "PATIENCE", 0.01)
+    for is_terminal, is_quiet in ((True, False), (True, True), (False, False)):
+        said = io.StringIO()
+        monkeypatch.setattr(said, "isatty", lambda is_it=is_terminal: is_it)
+        monkeypatch.setattr(sys, "stderr", said)
+        with progress.shown("mesh", is_quiet):
+            progress.tell("reading a file")
+            time.sleep(0.3)
+        if is_terminal and not is_quiet:
+            assert "mesh: reading a file, 0 s" in said.getvalue() and said.getvalue().endswith(" \r")
+        else:
+            assert not said.getvalue()
 
 
 @pytest.mark.parametrize("text", ["apply", "apply split", "group apply split 0", "apply split 0 with (", "each <0"])

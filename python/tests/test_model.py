@@ -114,6 +114,12 @@ def test_try_apply() -> None:
     assert not model.script and model.map.text() == before
 
 
+def test_an_outcome_outlasts_its_model() -> None:
+    """What became of a statement is told where the model itself is gone."""
+    assert load().try_apply("move", at=99, v=(0, 0)).sentences
+    assert len(load().apply("triangulate", at=0).new.darts) == 16
+
+
 def test_group(tmp_path: Path) -> None:
     """A group is written as one, with what its each comes to, and one undo takes it back; a refusal takes all of it."""
     model = load()

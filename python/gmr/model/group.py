@@ -15,7 +15,7 @@ class Group:
 
     def __init__(self, outer: Queue) -> None:
         session = outer.session
-        self.queue = Queue(Session(session.file_at(len(session.lines)), session.book))
+        self.queue = Queue(Session(session.file_at(len(session.lines)), session.book, session))
 
     def each(self, labels: Iterable[int], line: str) -> Outcome:
         """Applies at each orbit over the labels what the `each` of a line applies: as single lines, at the least dart

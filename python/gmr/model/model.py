@@ -37,7 +37,8 @@ class Model(Choosing):
     def __init__(self, first: FirstMap, book: Path, folder: tempfile.TemporaryDirectory[str]) -> None:
         """Made by `load`."""
         self._first, self._book_file, self._folder = first, book, folder
-        self._queue = self._active = Queue(Session(first.counted, book))    # an open group has one of its own
+        self._queue = Queue(Session(first.counted, book, folder))
+        self._active = self._queue      # an open group has one of its own
         self._group: Group | None = None
         self._book: Book | None = None
         self._lines_of: dict[str, LineOf] = {}

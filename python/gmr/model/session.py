@@ -31,9 +31,10 @@ class Piece(NamedTuple):
 class Session:
     """A first map, a book, the lines that were done so far, and the maps that are kept of them."""
 
-    def __init__(self, first: Path, book: Path) -> None:
-        """The file of the first map, in version 2, and that of the book; Refused where the program takes one not."""
-        self.first, self.book = first, book
+    def __init__(self, first: Path, book: Path, keeper: object = None) -> None:
+        """The file of the first map, in version 2, and that of the book; Refused where the program takes one not. They
+        stay as long as the keeper does: an outcome can outlast its model."""
+        self.first, self.book, self._keeper = first, book, keeper
         self.lines: list[str] = []
         self.history = History()
         self._folder = tempfile.TemporaryDirectory(prefix="gmr-model-")
