@@ -124,6 +124,17 @@ def test_changes_hold_the_rows_that_differ_alone() -> None:
     assert "places" in json.dumps(changes)
 
 
+def test_what_a_line_changes_is_shorter_than_the_map_that_it_leaves() -> None:
+    it = torus(20, 20)
+    moved = Map(2, 2, it.embeds, it.next, it.darts, list(it.alpha),
+                {"pos": {dart: (x + 7, y, z) for dart, (x, y, z) in it.values["pos"].items()}})
+    changes = changes_between(it, moved)
+    assert changes["rows"]["names"] == pack(it.darts) and len(json.dumps(changes)) < len(moved.text())
+    some = {**it.values["pos"], 0: (1, 2, 3)}
+    changes = changes_between(it, Map(2, 2, it.embeds, it.next, it.darts, list(it.alpha), {"pos": some}))
+    assert changes["rows"]["names"] == pack([0]) and changes["rows"]["values"]["pos"] == pack([1, 2, 3])
+
+
 def test_pages_in_a_browser() -> None:
     with open_browser() as driver:      # one for all, since it takes the longest to begin
         for check in (check_darts_that_are_pointed_at, check_changes, check_script, check_several_maps, check_keys,
