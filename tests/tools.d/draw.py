@@ -8,6 +8,8 @@ import time
 from pathlib import Path
 
 from gmr import maps
+from gmr.arrays import read_arrays
+from gmr.draw import crowd
 from gmr.draw.flat import draw
 from gmr.draw.model import load_model, model_of
 from gmr.draw.order import back_to_front
@@ -76,9 +78,33 @@ def torus(rows: int, columns: int) -> maps.Map:
 
 
 def test_the_pictures_of_the_library_come_out_as_they_are_stored():
+    """The same but for less than two pixels, by which what is settled may differ from processor to processor."""
     for folder in (LIBRARY / name for name in STORED):
         models = [(part, load_model(folder / f"{part}.gmap")) for part in ("before", "after")]
-        equal(draw(models), (PICTURES / f"{folder.name}.svg").read_text(encoding="utf-8"))
+        drawn, stored = draw(models), (PICTURES / f"{folder.name}.svg").read_text(encoding="utf-8")
+        number = r"-?\d+(?:\.\d+)?"
+        equal(re.sub(number, "0", drawn), re.sub(number, "0", stored))
+        ways = [abs(float(one) - float(two)) for one, two in zip(re.findall(number, drawn), re.findall(number, stored))]
+        equal(max(ways) < 2, True)
+
+
+def test_a_large_surface_is_drawn_as_triangles():
+    """As many triangles as its seen faces have, back to front, in the colours of the faces."""
+    it = read_arrays(torus(130, 125).text().encode())
+    view = View()
+    few = crowd.faces_of(it, view)
+    equal(crowd.suits(it, view), True)
+    try:
+        crowd.MOST_LINES, most = 100, crowd.MOST_LINES
+        many = crowd.faces_of(it, view)
+    finally:
+        crowd.MOST_LINES = most
+    equal((many.count, len(many.triangles), len(many.colours)), (len(few), 2 * len(few), 2 * len(few)))
+    for at in (0, len(few) // 2, len(few) - 1):
+        corners, colour = few[at].corners, few[at].colour
+        equal([tuple(corner) for corner in many.triangles[2 * at].tolist()], corners[:3])
+        equal([tuple(corner) for corner in many.triangles[2 * at + 1].tolist()], [corners[0], *corners[2:]])
+        equal(tuple(many.colours[2 * at].tolist()), colour)
 
 
 def test_names_are_written_and_left_out():

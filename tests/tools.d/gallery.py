@@ -5,8 +5,10 @@ import tempfile
 from collections.abc import Callable
 from pathlib import Path
 
+from gmr import maps
 from gmr.mesh.formats import read_mesh
 from gmr.mesh.model import Volume
+from gmr.program import answer
 
 ROOT = Path(__file__).resolve().parents[2]
 GALLERY = ROOT / "examples" / "gallery"
@@ -114,6 +116,32 @@ def test_cube():
 
 def test_sphere_with_hole():
     run_script("sphere_with_hole", split_triangles_twice)
+
+
+def test_the_border_is_settled_as_a_curve():
+    """Old vertices of a border come to an eighth, three quarters and an eighth, and new ones lie in the middle."""
+    book, fan = GALLERY / "border.gbook", ROOT / "examples" / "operations" / "values2" / "loop_at_points" / "before.gmap"
+    old = maps.read_map(fan.read_text())
+    zeros = {"near": (0, 0, 0), "rim": (0, 0, 0), "open": 0}
+    kinds = {"near": "vec3", "rim": "vec3", "open": "int"}
+    embeds = [*old.embeds, *(maps.Embed(name, (), kinds[name]) for name in zeros)]
+    values = {name: dict(old.values[name]) for name in ("pos", "paint")}
+    values |= {name: dict.fromkeys(old.darts, zero) for name, zero in zeros.items()}
+    with tempfile.TemporaryDirectory() as folder:
+        before, script, after = (Path(folder, name) for name in ("before.gmap", "script.gscript", "after.gmap"))
+        before.write_text(maps.Map(1, 2, embeds, old.next, list(old.darts), old.alpha, values).text())
+        script.write_text("apply look_along_edges 0 apply loop_with_border 0")
+        assert answer("run", before, book, script, after)[0] == 0
+        new = maps.read_map(after.read_text())
+    rims = [dart for dart in old.darts if old.alpha[2][dart] == dart]
+    for dart in rims:
+        other = next(it for it in rims if it != dart and old.values["pos"][it] == old.values["pos"][dart])
+        ends = [old.values["pos"][old.alpha[0][it]] for it in (dart, other)]
+        wanted = tuple((6 * here + one + two) // 8 for here, one, two in zip(old.values["pos"][dart], *ends))
+        assert new.values["pos"][dart] == wanted, (dart, new.values["pos"][dart], wanted)
+        middle = tuple((one + two) // 2 for one, two in zip(old.values["pos"][dart], ends[0]))
+        assert new.values["pos"][new.alpha[0][dart]] == middle
+    assert len(rims) == 12
 
 
 def test_duck():

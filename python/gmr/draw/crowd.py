@@ -5,7 +5,7 @@ import numpy as np
 from numpy.typing import NDArray
 
 from gmr.arrays import Arrays, least_of_orbits
-from gmr.draw.solid import FILL, LIGHT, Camera, Face, View
+from gmr.draw.solid import FILL, LIGHT, MOST_LINES, Camera, Crowd, Face, View
 from gmr.mesh.model import next_corners
 from gmr.mesh.taken import lead_darts, walk_faces
 
@@ -22,8 +22,8 @@ def suits(it: Arrays, view: View) -> bool:
     return is_large and not (it.alpha[:2] == rows).any()
 
 
-def faces_of(it: Arrays, view: View) -> list[Face]:
-    """The faces of a map that may be seen, from the back to the front."""
+def faces_of(it: Arrays, view: View) -> list[Face] | Crowd:
+    """The faces of a map that may be seen, from the back to the front; as triangles where they are very many."""
     least = least_of_orbits(list(it.alpha[:2]), len(it.names))
     leading = np.nonzero(lead_darts(it, range(3), least))[0]
     owners, firsts = np.unique(least[leading], return_index=True)
@@ -45,10 +45,22 @@ def faces_of(it: Arrays, view: View) -> list[Face]:
     colours = lit_all(colours_of(it, owners), facing, lengths)
     depths = np.add.reduceat(turned[:, 2], begins) / sizes
     order = np.nonzero(seen)[0][np.argsort(depths[seen], kind="stable")]
+    if len(order) > MOST_LINES:
+        return Crowd(fans_of(turned[:, :2], begins[order], sizes[order]),
+                     np.repeat(colours[order], sizes[order] - 2, axis=0), len(order))
     flat, ends = turned[:, :2].tolist(), (begins + sizes).tolist()
     names, starts, shown = it.names[owners].tolist(), begins.tolist(), colours.tolist()
     return [Face([(x, y) for x, y in flat[starts[one]: ends[one]]], (shown[one][0], shown[one][1], shown[one][2]),
                  names[one]) for one in order.tolist()]
+
+
+def fans_of(flat: Floats, begins: Rows, sizes: Rows) -> Floats:
+    """Faces as triangles round the first corner of each."""
+    counts = sizes - 2
+    firsts = np.repeat(begins, counts)
+    steps = np.arange(len(firsts)) - np.repeat(np.cumsum(counts) - counts, counts)
+    found: Floats = flat[np.stack([firsts, firsts + steps + 1, firsts + steps + 2], axis=1)]
+    return found
 
 
 def points_of(it: Arrays) -> Floats:

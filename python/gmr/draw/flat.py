@@ -3,18 +3,23 @@ label, names, and the colours of faces and the numbers of edges."""
 import math
 from collections import defaultdict
 from collections.abc import Callable, Iterable, Sequence
-from itertools import chain
 from typing import NamedTuple
 
 from gmr.draw.layout import Sheet, area, height
 from gmr.draw.model import Model, orbits
-from gmr.draw.sheets import sheets_of, unit_of
 from gmr.draw.surface import Spot
+from gmr.draw.together import lay_together
 
 DART, FILL, INK, COLOURS = "#1f4e79", "#eef4fb", "#1f2933", ("#c0504d", "#4f8f3a", "#6b46a1", "#b7791f")
-MOST_NAMES, GAP, NAME, TAG = 400, 9.0, 11, 9
+MOST_NAMES, GAP, NAME, TAG = 600, 9.0, 11, 9
+WIDE = 1600  # pixels from which on maps stand one below another, where they are wide
+MOST_SCALE = 420  # pixels that an edge of length 1 has at most so that names have room
+MOST_LONG = 2.5  # how many times their median links along 3 are long at most
 
 Layers = dict[int | str, list[str]]  # the parts of each layer: by the label of links, or by its name
+
+
+Tag = tuple[complex, int, str]  # a place, the name of the dart across, and the layer in which it is written
 
 
 class Stroke(NamedTuple):
@@ -32,16 +37,17 @@ class Stroke(NamedTuple):
         return Stroke(self.start + by, self.middle + by, self.end + by, self.corner + by, self.inward, self.bent)
 
 
-def strokes_of(sheet: Sheet, scale: float, shrinks: bool) -> dict[int, Stroke]:
-    """The stroke of each dart in pixels, y downwards, drawn away from its edge into its face."""
+def strokes_of(sheet: Sheet, scale: float, shrinks: bool) -> tuple[dict[int, Stroke], dict[int, float]]:
+    """The stroke of each dart in pixels, y downwards, drawn away from its edge into its face; and by which share each
+    dart's face is smaller than its outline."""
     spots = {dart: Spot(*(complex(place).conjugate() * scale for place in spot)) for dart, spot in sheet.spots.items()}
     depths: dict[complex, list[float]] = defaultdict(list)
-    strokes = {}
+    strokes, shares = {}, {}
     for spot in spots.values():
         depths[spot.face].append(abs(height(*spot)) or 1)
     for dart, spot in spots.items():
         of = depths[spot.face]
-        share = min(0.6, 2 * GAP * len(of) / sum(of)) if shrinks else 0
+        share = shares[dart] = min(0.6, 2 * GAP * len(of) / sum(of)) if shrinks else 0
         ways = ((spot.vertex, spot.side1), (spot.side2, spot.heart), (spot.edge, spot.side0))
         corner, middle, end = (one + share * (two - one) for one, two in ways)
         length = abs(end - corner) or 1
@@ -52,7 +58,7 @@ def strokes_of(sheet: Sheet, scale: float, shrinks: bool) -> dict[int, Stroke]:
             middle = corner + way * sorted((length * 0.2, along, length * 0.85))[1]
         start, stop = corner + way * min(9, length / 3), end - way * min(6, length / 3)
         strokes[dart] = Stroke(start, middle, stop, corner, inward, bent)
-    return strokes
+    return strokes, shares
 
 
 def written(*places: complex) -> str:
@@ -75,42 +81,129 @@ def beside(place: complex, inward: complex, text: object, size: float) -> comple
     return place + inward * (abs(inward.real) * 0.3 * size * len(str(text)) + abs(inward.imag) * size * 0.37 + 4.5)
 
 
-def name_places(strokes: dict[int, Stroke]) -> list[complex]:
+def name_places(strokes: dict[int, Stroke], tags: Sequence[Tag] = ()) -> list[complex]:
     """Where the names of darts stand: beside the stroke, within the face, where they cover least."""
     taken: list[tuple[complex, float, float]]
-    taken = [(it.start + (it.end - it.start) * share, 4, 6) for it in strokes.values() for share in (0.1, 0.5, 0.9)]
-    steps, marks = [(far, step) for far in (0, 6) for step in (0, 0.15, -0.15, 0.3)], len(taken)
+    taken = [(place, 0.6 * TAG * len(str(name)), NAME * 0.9) for place, name, _ in tags]
+    taken += [(it.start + (it.end - it.start) * share, 4, 6) for it in strokes.values() for share in (0.1, 0.5, 0.9)]
+    steps = [(far, step) for far in (0, 5, 10) for step in (0, 0.15, -0.15, 0.3, -0.3)]
+    crowd = {cell: near for cell, near in gathered(taken)}
+    marks = len(taken)
     for dart, (start, middle, end, _, inward, bent) in strokes.items():
         middle, wide = middle if bent else (start + end) / 2, 0.6 * NAME * len(str(dart))
-        tries: list[tuple[int, int, complex]] = []
+        tries: list[tuple[float, int, complex]] = []
         for far, step in steps:
             spot = beside(middle + (end - start) * step, inward, dart, NAME) + inward * far
-            near = [abs((spot - it[0]).real) < (wide + it[1]) / 2 and abs((spot - it[0]).imag) < it[2] for it in taken]
-            tries.append((sum(near) + 2 * sum(near[marks:]), len(tries), spot))
-        taken.append((min(tries)[2], wide, NAME * 0.9))
+            near = [at for at in crowd.get(cell_of(spot), ()) if is_over(taken[at], spot, wide)]
+            tries.append((len(near) + 4 * sum(at >= marks or at < len(tags) for at in near), len(tries), spot))
+            if not near:
+                break
+        taken.append((min(tries)[2], wide, NAME * 0.95))
+        for cell in cells_round(taken[-1][0]):
+            crowd.setdefault(cell, []).append(len(taken) - 1)
     return [place for place, *_ in taken[marks:]]
+
+
+def is_crowded(strokes: dict[int, Stroke]) -> bool:
+    """Whether the names of two darts would touch."""
+    laid = sorted(zip(name_places(strokes), strokes), key=lambda it: it[0].real)
+    for at, (place, dart) in enumerate(laid):
+        for other, name in laid[at + 1:]:
+            if other.real > place.real + 4 * NAME:
+                break
+            if is_over((place, 0.6 * NAME * len(str(dart)), NAME * 0.75), other, 0.6 * NAME * len(str(name))):
+                return True
+    return False
+
+
+def is_over(mark: tuple[complex, float, float], spot: complex, wide: float) -> bool:
+    """Whether a name of this width at a spot touches a mark: a place with a width and a height."""
+    way = spot - mark[0]
+    return abs(way.real) < (wide + mark[1]) / 2 and abs(way.imag) < mark[2]
+
+
+def cell_of(place: complex) -> tuple[int, int]:
+    """The square of 40 pixels in which a place lies."""
+    return int(place.real // 40), int(place.imag // 40)
+
+
+def cells_round(place: complex) -> list[tuple[int, int]]:
+    """The square in which a place lies, and those round it."""
+    x, y = cell_of(place)
+    return [(x + right, y + down) for right in (-1, 0, 1) for down in (-1, 0, 1)]
+
+
+def gathered(marks: Sequence[tuple[complex, float, float]]) -> Iterable[tuple[tuple[int, int], list[int]]]:
+    """The numbers of marks in or beside each square."""
+    found: dict[tuple[int, int], list[int]] = defaultdict(list)
+    for at, mark in enumerate(marks):
+        for cell in cells_round(mark[0]):
+            found[cell].append(at)
+    return found.items()
 
 
 def draw_darts(
     layers: Layers, strokes: dict[int, Stroke], alpha: Sequence[dict[int, int]], cut: set[int], with_names: bool
 ) -> None:
-    """Draws strokes, names, and links, those along 3 as curves through the faces."""
+    """Draws strokes, names, and links; those along 3 once for each two faces, as curves through them."""
+    tags: list[Tag] = []
     for dart, (start, middle, end, corner, inward, bent) in strokes.items():
         form, places = ("q", (2 * middle - (start + end) / 2, end)) if bent else ("l", (end,))
         layers["darts"].append(line_at(start, form, *places))
-        for label, links in enumerate(alpha):
+        for label, links in enumerate(alpha[:3]):
             other = strokes[links[dart]]
-            one, two = ((it.end, it.start, it.middle, it.middle)[label] for it in (strokes[dart], other))
-            bow = min(45, abs(two - one) / 3)
-            by = ((), ((corner + other.corner) / 2,), (), (one + inward * bow, two + other.inward * bow))[label]
+            one, two = ((it.end, it.start, it.middle)[label] for it in (strokes[dart], other))
+            by = ((), ((corner + other.corner) / 2,), ())[label]
             if links[dart] > dart and not (label == 2 and dart in cut):
-                layers[label].append(line_at(one, "lqlc"[label], *by, two))
+                layers[label].append(line_at(one, "lql"[label], *by, two))
         if dart in cut:
-            layers[2].append(line_at(middle, "l", middle - inward * 13))
-            tag = beside(middle - inward * 10, -inward, alpha[2][dart], TAG)
-            layers["tags"] += [text_at(tag, alpha[2][dart], TAG)] * with_names
+            layers["ends2"].append(line_at(middle, "l", middle - inward * 13))
+            tags.append((beside(middle - inward * 10, -inward, alpha[2][dart], TAG), alpha[2][dart], "tags"))
+    for links in alpha[3:]:
+        tags += draw_glue(layers, strokes, alpha, links)
     if with_names:
-        layers["names"] += [text_at(place, dart, NAME) for dart, place in zip(strokes, name_places(strokes))]
+        layers["names"] += [text_at(place, dart, NAME) for dart, place in zip(strokes, name_places(strokes, tags))]
+        for place, name, layer in tags:
+            layers[layer].append(text_at(place, name, TAG))
+
+
+def draw_glue(
+    layers: Layers, strokes: dict[int, Stroke], alpha: Sequence[dict[int, int]], links: dict[int, int]
+) -> list[Tag]:
+    """Draws one link along 3 for each two faces that meet, between those of their darts that are nearest. Where it
+    would cross another one or be far longer than the others, two ends of it are drawn, and the names of the darts
+    across are returned."""
+    tags: list[Tag] = []
+    faces = orbits(sorted(strokes), lambda dart, label: alpha[label][dart], (0, 1))
+    least = {dart: face[0] for face in faces for dart in face}
+    ends: dict[tuple[int, int], tuple[float, int, int]] = {}
+    for dart, other in ((dart, links[dart]) for face in faces for dart in face if links[dart] != dart):
+        key = (min(least[dart], least[other]), max(least[dart], least[other]))
+        here = (round(abs(strokes[dart].middle - strokes[other].middle), 3), min(dart, other), max(dart, other))
+        ends[key] = min(ends.get(key, here), here)
+    most = MOST_LONG * sorted(length for length, *_ in ends.values())[len(ends) // 2] if ends else 0
+    drawn: list[tuple[complex, complex]] = []
+    for length, one, two in sorted(ends.values()):
+        first, second = strokes[one], strokes[two]
+        line = (first.middle, second.middle)
+        if length <= most and not any(is_crossed(*line, *other) for other in drawn):
+            drawn.append(line)
+            bow = min(45, length / 3)
+            layers[3].append(line_at(first.middle, "c", first.middle + first.inward * bow,
+                                     second.middle + second.inward * bow, second.middle))
+        else:
+            for stroke, across in ((first, two), (second, one)):
+                layers["ends3"].append(line_at(stroke.middle, "l", stroke.middle + stroke.inward * 13))
+                tags.append((beside(stroke.middle + stroke.inward * 10, stroke.inward, across, TAG), across, "glue"))
+    return tags
+
+
+def is_crossed(one: complex, two: complex, three: complex, four: complex) -> bool:
+    """Whether the line from one to two crosses that from three to four."""
+    way, other = two - one, four - three
+    sides = ((way.conjugate() * (place - one)).imag for place in (three, four))
+    others = ((other.conjugate() * (place - three)).imag for place in (one, two))
+    return math.prod(sides) < 0 and math.prod(others) < 0
 
 
 def draw_numbers(layers: Layers, strokes: dict[int, Stroke], it: Model) -> None:
@@ -126,73 +219,119 @@ def extreme(which: Callable[[Iterable[float]], float], places: Sequence[complex]
     return complex(which(place.real for place in places), which(place.imag for place in places))
 
 
-def draw_map(
-    layers: Layers, it: Model, sheets: Sequence[Sheet], scale: float, corner: complex, with_names: bool
-) -> complex:
-    """Draws the sheets of a map in rows, from this corner on, and returns how far it reaches."""
+class Drawn(NamedTuple):
+    """A map with all its strokes in pixels: its outlines with their faces, the darts whose edges are cut, and from
+    where to where it reaches."""
+
+    strokes: dict[int, Stroke]
+    outlines: list[tuple[int, list[complex]]]
+    cut: set[int]
+    low: complex
+    high: complex
+
+
+def drawn_at(it: Model, sheets: Sequence[Sheet], scale: float) -> Drawn:
+    """The strokes and outlines of a map that is laid out; outlines end where the strokes of their face are."""
     strokes: dict[int, Stroke] = {}
-    at, row, end, dimension = corner, corner.imag, corner + 60, it.dimension
-    across = -22 if it.numbers else -4
+    outlines = []
     for sheet in sheets:
-        own = strokes_of(sheet, scale, dimension > 1)
-        outlines = [(face, [complex(place).conjugate() * scale for place in one]) for face, one in sheet.outlines]
-        reach = [*chain(*dict(outlines).values())]
-        reach += [own[dart].middle - own[dart].inward * 30 for dart in sheet.cut]
-        reach += [place for stroke in own.values() for place in (stroke.corner, stroke.end)]
-        reach += [it.middle + it.inward * far for it in own.values() for far in (8 + 10 * dimension, across)]
-        low, size = extreme(min, reach), extreme(max, reach) - extreme(min, reach)
-        if at.real > corner.real and (at + size).real > corner.real + 900:
-            at = complex(corner.real, row + 30)
-        by, row, end = at - low, max(row, (at + size).imag), extreme(max, (end, at + size))
-        for face, outline in outlines:
-            layer, line = "faces", "M" + written(*(place + by for place in outline)) + "Z"
-            if face in it.colours:
-                colour = "".join(f"{part:02x}" for part in it.colours[face])
-                layer, line = "paint", f'<path fill="#{colour}" d="{line}"/>'
-            layers[layer].append(line)
-        strokes |= {dart: old.moved(by) for dart, old in own.items()}
-        at += size.real + 30
-    draw_darts(layers, strokes, it.alpha, set().union(*(sheet.cut for sheet in sheets)), with_names)
+        own, shares = strokes_of(sheet, scale, it.dimension > 1)
+        strokes |= own
+        for dart, outline in sheet.outlines:
+            heart, share = complex(sheet.spots[dart].face).conjugate() * scale, shares[dart] / 2
+            places = (complex(place).conjugate() * scale for place in outline)
+            outlines.append((dart, [place + share * (heart - place) for place in places]))
+    cut = {dart for sheet in sheets for dart in sheet.cut}
+    across = -22 if it.numbers else -4
+    reach = [place for _, outline in outlines for place in outline]
+    reach += [strokes[dart].middle - strokes[dart].inward * 30 for dart in cut]
+    reach += [place for stroke in strokes.values() for place in (stroke.corner, stroke.end)]
+    far = 8 + 10 * it.dimension
+    reach += [one.middle + one.inward * by for one in strokes.values() for by in (far, across)]
+    reach = reach or [0j, 60 + 60j]
+    return Drawn(strokes, outlines, cut, extreme(min, reach), extreme(max, reach))
+
+
+def draw_map(layers: Layers, it: Model, drawn: Drawn, by: complex, with_names: bool) -> None:
+    """Draws a map, moved by a way."""
+    for face, outline in drawn.outlines:
+        layer, line = "faces", "M" + written(*(place + by for place in outline)) + "Z"
+        if face in it.colours:
+            colour = "".join(f"{part:02x}" for part in it.colours[face])
+            layer, line = "paint", f'<path fill="#{colour}" d="{line}"/>'
+        layers[layer].append(line)
+    strokes = {dart: old.moved(by) for dart, old in sorted(drawn.strokes.items())}
+    draw_darts(layers, strokes, it.alpha, drawn.cut, with_names)
     if with_names:
         draw_numbers(layers, strokes, it)
-    return end
 
 
 def draw(maps: Sequence[tuple[str | None, Model]], with_names: bool | None = None) -> str:
-    """The text of a picture that shows maps side by side, each under a title or None. Names and numbers stand where
-    there are few darts, if it isn't said whether they do."""
-    layers: Layers = defaultdict(list)
-    at, low, unit = 16 + 16j, 0.0, unit_of(it for _, it in maps)
-    drawn = [(title, it, sheets_of(it, unit)) for title, it in maps]
-    spots = [spot for _, _, sheets in drawn for sheet in sheets for spot in sheet.spots.values()]
+    """The text of a picture that shows maps side by side, each under a title or None. What two of them share lies at
+    the same place of both. Names and numbers stand where there are few darts, if it isn't said whether they do."""
+    models = [it for _, it in maps]
+    laid = lay_together(models)
+    spots = [spot for sheets in laid for sheet in sheets for spot in sheet.spots.values()]
     is_small = len(spots) <= MOST_NAMES
     with_names = is_small if with_names is None else with_names
     scale = scale_of(spots) if is_small or with_names else 50
-    for title, it, sheets in drawn:
-        end = draw_map(layers, it, sheets, scale, at + (24j if title else 0), with_names)
-        layers["titles"] += [text_at(complex((at.real + end.real) / 2, at.imag + 4), title, 14)] if title else []
-        low, at = max(low, end.imag), complex(end.real + 44, at.imag)
-    return text_of(layers, math.ceil(at.real) - 28, math.ceil(low) + 40, max(it.dimension for _, it, _ in drawn))
+    layers: Layers = defaultdict(list)
+    drawn = [drawn_at(it, sheets, scale) for it, sheets in zip(models, laid)]
+    while with_names and scale < MOST_SCALE and any(is_crowded(one.strokes) for one in drawn):
+        scale *= 1.15
+        drawn = [drawn_at(it, sheets, scale) for it, sheets in zip(models, laid)]
+    corners, size, end = places_of(drawn, any(title for title, _ in maps))
+    for (title, it), one, corner in zip(maps, drawn, corners):
+        draw_map(layers, it, one, corner, with_names)
+        middle = (one.low.real + one.high.real) / 2 + corner.real
+        above = min(it.low.imag for it in drawn) + corner.imag - 18 * size - 4
+        layers["titles"] += [text_at(complex(middle, above), title, 14 * size)] if title else []
+    return text_of(layers, math.ceil(end.real), math.ceil(end.imag), max(it.dimension for it in models), size)
+
+
+def places_of(drawn: Sequence[Drawn], has_titles: bool) -> tuple[list[complex], float, complex]:
+    """By which way each map is moved in the picture, how large letters of titles and legend are, and how far the
+    picture reaches: maps stand side by side in one frame from above to below, or one below another in one frame from
+    left to right where that is far narrower."""
+    low = complex(min(it.low.real for it in drawn), min(it.low.imag for it in drawn))
+    high = complex(max(it.high.real for it in drawn), max(it.high.imag for it in drawn))
+    wide = sum((it.high - it.low).real for it in drawn) + 44 * (len(drawn) - 1) + 32
+    is_stacked = wide > WIDE and wide > 2.2 * (high - low).imag
+    wide = (high - low).real + 32 if is_stacked else wide
+    size = max(1.0, wide / 640)
+    head = size * 26 if has_titles else 0
+    step, foot = (high - low).imag + head + 14, 16 + 22 * size
+    if is_stacked:
+        corners = [complex(16, 16 + head + row * step) - low for row in range(len(drawn))]
+        return corners, size, complex(wide, step * len(drawn) + foot)
+    ends = [16.0]
+    for one in drawn:
+        ends.append(ends[-1] + (one.high - one.low).real + 44)
+    corners = [complex(at - one.low.real, 16 + head - low.imag) for at, one in zip(ends, drawn)]
+    return corners, size, complex(wide, step + foot)
 
 
 def scale_of(spots: Sequence[Spot]) -> float:
     """How many pixels an edge of length 1 has, so that all but the narrowest darts have room for their names."""
     rooms = sorted(min(math.sqrt(2 * abs(area(spot[:3]))) / 60, abs(height(*spot)) / 30) for spot in spots) or [1]
-    return max(100, min(220, 1 / (rooms[len(rooms) // 10] or 1)))
+    return max(100, min(260, 1 / (rooms[len(rooms) // 20] or 1)))
 
 
-def text_of(layers: Layers, wide: int, high: int, dimension: int) -> str:
-    """The text of a picture in SVG, with a line that tells the colours of the labels."""
+def text_of(layers: Layers, wide: int, high: int, dimension: int, size: float) -> str:
+    """The text of a picture in SVG, with a line that tells the colours of the labels in letters of a size."""
     line, text = 'fill="none" stroke-linecap="round" stroke=', 'text-anchor="middle" font-size='
     styles: dict[int | str, str]
-    styles = {"faces": f'fill="{FILL}" stroke="{FILL}"', "paint": f'fill-opacity="{0.4 / max(1, 2 * dimension - 4):g}"'}
+    styles = {"faces": f'fill="{FILL}"', "paint": f'fill-opacity="{0.4 / max(1, 2 * dimension - 4):g}"'}
     styles |= {"darts": f'{line}"{DART}" stroke-width="3.5"'}
     styles |= {label: f'{line}"{colour}" stroke-width="{2 - label // 3}"' for label, colour in enumerate(COLOURS)}
+    styles |= {f"ends{at}": f'class="ends" {line}"{COLOURS[at]}" stroke-width="{2 - at // 3}"' for at in (2, 3)}
     styles |= {"names": f'{text}"{NAME}" fill="{INK}" stroke="{FILL}" stroke-width="2" paint-order="stroke"'}
     styles |= {"numbers": f'{text}"{NAME}" font-weight="bold" fill="{COLOURS[0]}"'}
-    styles |= {"tags": f'{text}"{TAG}" fill="{COLOURS[2]}"', "titles": f'{text}"14" fill="{INK}"'}
-    styles |= {f"α{label}": f'{text}"{NAME}" fill="{colour}"' for label, colour in enumerate(COLOURS)}
-    layers |= {f"α{at}": [text_at(24 + 30 * at + (high - 16) * 1j, f"α{at}", NAME)] for at in range(dimension + 1)}
+    styles |= {"tags": f'{text}"{TAG}" fill="{COLOURS[2]}"', "glue": f'{text}"{TAG}" fill="{COLOURS[3]}"'}
+    styles |= {"titles": f'{text}"{14 * size:.4g}" fill="{INK}"'}
+    styles |= {f"α{label}": f'{text}"{NAME * size:.4g}" fill="{colour}"' for label, colour in enumerate(COLOURS)}
+    places = [complex(16 + (10 + 30 * at) * size, high - 14 * size) for at in range(dimension + 1)]
+    layers |= {f"α{at}": [text_at(place, f"α{at}", NAME * size)] for at, place in enumerate(places)}
     lines = [f'<svg xmlns="http://www.w3.org/2000/svg" width="{wide}" height="{high}" font-family="sans-serif">']
     lines += [f'<rect width="{wide}" height="{high}" fill="white"/>']
     for layer, style in styles.items():

@@ -2,10 +2,11 @@
 import cmath
 import math
 from collections import defaultdict
-from collections.abc import Collection, Iterable, Mapping, Sequence
+from collections.abc import Mapping, Sequence
 from functools import cache
-from itertools import combinations, product
 from typing import NamedTuple
+
+import numpy as np
 
 from gmr.draw.model import orbits
 from gmr.draw.surface import Node, Spot, Step, boundaries, corners_of, nodes_of, turned_left, unfold
@@ -16,12 +17,54 @@ Polygons = Mapping[Node, Sequence[Node]]  # the corners of each face by its midd
 
 
 class Sheet(NamedTuple):
-    """A part of a map that is laid out: the spots of its darts, the outlines of its faces, and the darts whose edges
-    are cut."""
+    """A part of a map that is laid out: the spots of its darts, the outlines of its faces, the darts whose edges are
+    cut, which darts turn left, and the darts that stand outside round a closed surface."""
 
     spots: dict[int, Spot]
     outlines: list[Outline]
     cut: set[int]
+    left: dict[int, bool]
+    outer: set[int]
+
+    def moved(self, by: complex) -> "Sheet":
+        """The sheet at another place."""
+        spots = {dart: Spot(*(place + by for place in spot)) for dart, spot in self.spots.items()}
+        return self._replace(spots=spots, outlines=[(dart, [it + by for it in one]) for dart, one in self.outlines])
+
+    def turned(self, turn: complex, middle: complex) -> "Sheet":
+        """The sheet turned round a place."""
+        spots = {dart: Spot(*(middle + (it - middle) * turn for it in spot)) for dart, spot in self.spots.items()}
+        outlines = [(dart, [middle + (it - middle) * turn for it in one]) for dart, one in self.outlines]
+        return self._replace(spots=spots, outlines=outlines)
+
+    def box(self) -> tuple[complex, complex]:
+        """The least and the greatest coordinates of its darts."""
+        places = [place for spot in self.spots.values() for place in (*spot[:2], *spot[3:])]
+        low = complex(min(it.real for it in places), min(it.imag for it in places))
+        return low, complex(max(it.real for it in places), max(it.imag for it in places))
+
+    def middle(self) -> complex:
+        """The middle of its box."""
+        return sum(self.box()) / 2
+
+
+class Disc(NamedTuple):
+    """A surface opened so that it lies in the plane: the nodes of its darts, the darts within, those of the face that
+    lies outside, those whose edges are cut, the walk along its border, which darts turn left, the corners of its
+    faces by their middles, and whether it is a line."""
+
+    nodes: dict[int, Spot]
+    inner: list[int]
+    outer: set[int]
+    cut: set[int]
+    walk: list[Step]
+    left: dict[int, bool]
+    polygons: Polygons
+    is_line: bool
+
+    def own(self) -> dict[int, Spot]:
+        """The nodes of the darts within."""
+        return {dart: self.nodes[dart] for dart in self.inner}
 
 
 def area(corners: Sequence[complex]) -> float:
@@ -41,33 +84,20 @@ def regular(count: int) -> tuple[complex, ...]:
     return tuple(cmath.rect(radius, turn + 2 * math.pi * at / count) for at in range(count))
 
 
-def relaxed(ring: Layout, pairs: set[tuple[Node, Node]], rounds: int) -> Layout:
-    """Places within a ring, each amid those it is paired with: after the first round by the roots of the distances."""
-    near: dict[Node, list[Node]] = defaultdict(list)
-    place: Layout = defaultdict(complex, ring)
-    for one, two in sorted(pairs | {(two, one) for one, two in pairs}):
-        near[one].append(two)
-    free = [node for node in near if node not in ring]
-    sweeps = max(20, min(150, 200000 // (len(pairs) + 1)))
-    for power in (0, 0.5, 0.5, 0.5)[:rounds]:
-        weights = {node: [(0.01 + abs(place[node] - place[it])) ** power for it in near[node]] for node in free}
-        for _, node in product(range(sweeps), free):
-            total = sum(weight * place[other] for weight, other in zip(weights[node], near[node]))
-            place[node] += 1.5 * (total / sum(weights[node]) - place[node])
-    return place
-
-
-def regularise(place: Layout, polygons: Iterable[Sequence[Node]], held: Collection[Node]) -> None:
-    """Moves places so that polygons become regular with edges of length 1, as far as they let each other."""
-    polygons = list(polygons)
-    for _ in range(300):
-        wishes: dict[Node, list[complex]] = defaultdict(list)
-        for corners, shape in ((corners, regular(len(corners))) for corners in polygons):
-            centre = sum(place[node] for node in corners) / len(corners)
-            turn = sum((place[node] - centre) * goal.conjugate() for node, goal in zip(corners, shape))
-            for node, goal in zip(corners, shape):
-                wishes[node].append(centre + goal * turn / (abs(turn) or 1))
-        place.update({node: sum(wished) / len(wished) for node, wished in wishes.items() if node not in held})
+def relaxed(ring: Layout, pairs: set[tuple[Node, Node]]) -> Layout:
+    """Places within a ring, each amid those it is paired with (Tutte, How to Draw a Graph, 1963)."""
+    free = sorted({node for pair in pairs for node in pair} - ring.keys())
+    at = {node: row for row, node in enumerate(free)}
+    weights, amid = np.eye(len(free)) * 1e-12, np.zeros(len(free), np.complex128)
+    for one, two in {(min(pair), max(pair)) for pair in pairs}:
+        for here, other in ((one, two), (two, one)):
+            if here in at:
+                weights[at[here], at[here]] += 1
+                if other in at:
+                    weights[at[here], at[other]] -= 1
+                else:
+                    amid[at[here]] += ring[other]
+    return ring | dict(zip(free, np.linalg.solve(weights, amid).tolist()))
 
 
 def ring_places(walk: Sequence[Step], nodes: dict[int, Spot], size: float, is_line: bool) -> Layout:
@@ -93,6 +123,11 @@ def straightened(layout: Layout, nodes: dict[int, Spot], polygons: Polygons) -> 
         ends[spot.edge].add(spot.vertex)
     middles = [*ends.items(), *((face, corners) for face, corners in polygons.items() if face not in corners)]
     layout.update({node: sum(layout[it] for it in sorted(of)) / len(of) for node, of in middles if len(of) > 1})
+    return with_sides(layout, nodes)
+
+
+def with_sides(layout: Layout, nodes: dict[int, Spot]) -> Layout:
+    """The layout with the middles of the sides of darts, and their hearts."""
     for spot in nodes.values():
         one, two, three = layout[spot.vertex], layout[spot.edge], layout[spot.face]
         layout.update({spot.side2: (one + two) / 2, spot.side1: (one + three) / 2, spot.side0: (two + three) / 2})
@@ -100,33 +135,21 @@ def straightened(layout: Layout, nodes: dict[int, Spot], polygons: Polygons) -> 
     return layout
 
 
-def best_layout(
-    ring: Layout, holds: object, nodes: dict[int, Spot], left: dict[int, bool], polygons: Polygons
-) -> tuple[Layout, float]:
-    """The layout with most room for the narrowest dart, or one of nearly regular faces where the ring needn't hold; and
-    that room. It is 0 where edges would fall together: there they are bent, on a finer grid."""
-
-    def room(layout: Layout) -> float:
-        return min((1 if left[dart] else -1) * height(*(layout[node] for node in nodes[dart])) for dart in nodes)
-
-    if all(len(corners) > 2 for corners in polygons.values()):
-        pairs = {(spot.vertex, other) for spot in nodes.values() for other in (spot.edge, spot.face)}
-        tried = [relaxed(ring, pairs, rounds) for rounds in (1, 4)]
-        tried += [tried[1].copy(), tried[1].copy()]
-        regularise(tried[2], polygons.values(), ring)
-        regularise(tried[3], polygons.values(), ())
-        *others, free = (straightened(layout, nodes, polygons) for layout in tried)
-        narrow = min(2 * area(regular(len(corners))) / len(corners) for corners in polygons.values())
-        near = (abs(free[one] - free[two]) < 1.6 * narrow for one, two in combinations(polygons, 2))
-        best = max(others, key=room) if holds or room(free) < 0.8 * narrow or any(near) else free
-        if room(best) > 0.001:
-            return best, room(best)
+def bent_layout(ring: Layout, disc: Disc) -> Layout:
+    """A layout on a fine grid, in which edges are bent: for what has no straight ones."""
     grid = ((0, 5), (5, 1), (1, 3), (3, 2), (2, 4), (4, 0), *((at, 6) for at in range(6)))
-    return relaxed(ring, {(spot[one], spot[two]) for spot in nodes.values() for one, two in grid}, 4), 0
+    return relaxed(ring, {(spot[one], spot[two]) for spot in disc.own().values() for one, two in grid})
 
 
-def lay_out(darts: Sequence[int], alpha: Sequence[dict[int, int]], dimension: int, skipped: int = 0) -> Sheet:
-    """A connected surface, laid out flat: a closed one round a face that isn't skipped, or as a net where all are."""
+def faces_to_open(darts: Sequence[int], alpha: Sequence[dict[int, int]]) -> list[list[int]]:
+    """The faces of a surface, those first round which it is best laid out: with neighbours along 3, and large."""
+    faces = orbits(darts, lambda dart, label: alpha[label][dart], (0, 1))
+    return sorted(faces, key=lambda one: (-sum(alpha[3][it] != it for it in one), -len(one)))
+
+
+def open_up(darts: Sequence[int], alpha: Sequence[dict[int, int]], dimension: int, face: Sequence[int]) -> Disc | None:
+    """A connected surface, opened so that it lies in the plane: a closed one of genus 0 at this face, or cut to a net
+    where the face is empty or there is a handle; or None where it can't be opened at this face."""
     cut: set[int] = set()
     outer: set[int] = set()
 
@@ -138,38 +161,58 @@ def lay_out(darts: Sequence[int], alpha: Sequence[dict[int, int]], dimension: in
 
     walks, sides = list(boundaries(darts, joined)), ((0, 1), (0, 2), (1, 2), (0,), (1,), (2,))
     euler = len(darts) + sum((2 * len(labels) - 3) * len(orbits(darts, joined, labels)) for labels in sides)
-    faces = sorted(orbits(darts, joined, (0, 1)), key=lambda one: (-sum(alpha[3][it] != it for it in one), -len(one)))
-    if euler + len(walks) != 2 or skipped == len(faces):
-        cut.update(unfold(darts, alpha, skipped == 0))
+    if euler + len(walks) != 2 or not face:
+        cut.update(unfold(darts, alpha, bool(face)))
     elif not walks:
-        outer.update(faces[skipped])
+        outer.update(face)
     inner, nodes = [dart for dart in darts if dart not in outer], nodes_of(darts, joined)
     walks = list(boundaries(inner, neighbour))
     if outer and (len(walks) > 1 or any(alpha[2][dart] in outer for dart in outer)):
-        return lay_out(darts, alpha, dimension, skipped + 1)
+        return None
     walk = max(walks, key=lambda steps: sum(side == 2 for _, side, _ in steps))
-    left, drawn = turned_left(walk, neighbour), [face for face in faces if face[0] not in outer]
-    polygons = {nodes[face[0]].face: corners_of(face, nodes, left, neighbour) for face in drawn}
+    left = turned_left(walk, neighbour)
+    drawn = [one for one in orbits(darts, joined, (0, 1)) if one[0] not in outer]
+    polygons = {nodes[one[0]].face: corners_of(one, nodes, left, neighbour) for one in drawn}
     is_line = dimension == 1 and any(side < 2 for _, side, _ in walk)
-    size = ring_size(polygons, len(darts), is_line, bool(outer))
-    ring, own = ring_places(walk, nodes, size, is_line), {dart: nodes[dart] for dart in inner}
-    layout, room = best_layout(ring, outer or is_line, own, left, polygons)
-    if outer and 0 < room < 0.19:
-        return lay_out(darts, alpha, dimension, skipped + 1 if skipped < 2 else len(faces))
-    for spot in (nodes[dart] for dart in outer):
-        beyond = ((spot.side0, spot.edge), (spot.side1, spot.vertex), (spot.heart, spot.side2), (spot.face, 0))
-        layout.update({node: 1.5 * layout[of] if of else 0 for node, of in beyond})
-    level = layout[nodes[walk[0][0]].edge] - layout[nodes[walk[0][0]].vertex]
-    layout = {node: place * (abs(level) / level if room else 1) for node, place in layout.items()}
-    spots = {dart: Spot(*(layout[node] for node in nodes[dart])) for dart in darts}
-    outlines = [(face, [layout[node] for node in corners]) for (_, face), corners in polygons.items() if room]
-    outlines = outlines or [(dart, [spots[dart][at] for at in (0, 5, 1, 2)]) for dart in inner]
-    return Sheet(spots, outlines if dimension > 1 else [], cut)
+    return Disc(nodes, inner, outer, cut, walk, left, polygons, is_line)
 
 
-def ring_size(polygons: Polygons, darts: int, is_line: bool, is_round: bool) -> float:
+def ring_size(disc: Disc) -> float:
     """The area of the outer polygon: of a line, or round faces, of which one lies outside where it is round."""
-    if is_line:
-        return area(regular(3)) * darts**2 / 4
-    size = sum(area(regular(len(corners))) if len(corners) > 2 else 0.4 for corners in polygons.values())
-    return size * (1.5 if is_round else 1)
+    if disc.is_line:
+        return area(regular(3)) * len(disc.nodes) ** 2 / 4
+    sizes = (area(regular(len(corners))) if len(corners) > 2 else 0.4 for corners in disc.polygons.values())
+    return sum(sizes) * (1.5 if disc.outer else 1)
+
+
+def sheet_of(
+    disc: Disc, layout: Layout, is_bent: bool, is_mirrored: bool, alpha: Sequence[dict[int, int]], dimension: int
+) -> Sheet:
+    """The sheet of a surface whose nodes have places."""
+    for spot in (disc.nodes[dart] for dart in sorted(disc.outer)):
+        middle = outer_middle(disc, layout)
+        beyond = ((spot.side0, spot.edge), (spot.side1, spot.vertex), (spot.heart, spot.side2), (spot.face, None))
+        layout.update({node: middle + 1.5 * (layout[of] - middle) if of else middle for node, of in beyond})
+    spots = {dart: Spot(*(layout[node] for node in disc.nodes[dart])) for dart in disc.nodes}
+    if is_bent:
+        outlines = [(dart, [spots[dart][at] for at in (0, 5, 1, 2)]) for dart in disc.inner]
+    else:
+        outlines = [(face, outline_of(disc, layout, face, alpha)) for _, face in disc.polygons]
+    left = {dart: disc.left[dart] != is_mirrored for dart in disc.inner}
+    left |= {dart: not left[alpha[2][dart]] for dart in disc.outer}
+    return Sheet(spots, outlines if dimension > 1 else [], disc.cut, left, disc.outer)
+
+
+def outer_middle(disc: Disc, layout: Layout) -> complex:
+    """The middle of what a closed surface is laid out within."""
+    places = [layout[disc.nodes[dart].vertex] for dart in sorted(disc.outer)]
+    return sum(places) / len(places)
+
+
+def outline_of(disc: Disc, layout: Layout, face: int, alpha: Sequence[dict[int, int]]) -> list[complex]:
+    """The outline of a face, with the middles of those of its edges that are bent."""
+    own = next(one for one in orbits([face], lambda dart, label: alpha[label][dart], (0, 1)))
+    passed = corners_of(own, disc.nodes, disc.left, lambda dart, label: alpha[label][dart], with_edges=True)
+    places = [layout[node] for node in passed]
+    turns = zip(places, [*places[1:], places[0]], [places[-1], *places[:-1]])
+    return [here for here, after, before in turns if abs(area([before, here, after])) > 1e-6]

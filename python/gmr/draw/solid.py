@@ -42,6 +42,15 @@ class Face(NamedTuple):
     dart: int
 
 
+class Crowd(NamedTuple):
+    """Very many faces as they are drawn, from the back to the front: triangles (rows of three places), the colour of
+    each, and how many faces they are."""
+
+    triangles: Any
+    colours: Any
+    count: int
+
+
 class Camera:
     """Turns places in space to places in a picture."""
 
@@ -149,8 +158,11 @@ class Sheet(NamedTuple):
         return (at % self.columns + 0.5) * self.wide, -(at // self.columns + 1) * self.high + self.reach / 2
 
 
-def extent_of(faces: Sequence[Face]) -> tuple[float, float, float, float]:
+def extent_of(faces: Sequence[Face] | Crowd) -> tuple[float, float, float, float]:
     """From where to where faces reach: to the left, below, to the right and above."""
+    if isinstance(faces, Crowd):
+        (left, below), (right, top) = faces.triangles.min(axis=(0, 1)), faces.triangles.max(axis=(0, 1))
+        return float(left), float(below), float(right), float(top)
     xs, ys = zip(*(corner for face in faces for corner in face.corners)) if faces else ((0.0,), (0.0,))
     return min(xs), min(ys), max(xs), max(ys)
 
@@ -174,7 +186,7 @@ def draw(models: Sequence[tuple[str | None, Model]], view: View, out: object, fo
     draw_listed([(title, faces_of(it, view)) for title, it in models], view, out, form)
 
 
-def draw_listed(drawn: Sequence[tuple[str | None, list[Face]]], view: View, out: object, form: str) -> None:
+def draw_listed(drawn: Sequence[tuple[str | None, list[Face] | Crowd]], view: View, out: object, form: str) -> None:
     """Draws the faces of maps, listed from the back to the front. Those of a large map are one image in the picture."""
     pyplot = import_pyplot()
     extents = [extent_of(faces) for _, faces in drawn]
@@ -185,11 +197,15 @@ def draw_listed(drawn: Sequence[tuple[str | None, list[Face]]], view: View, out:
     axes.set_axis_off()
     for at, ((title, faces), (left, below, right, top)) in enumerate(zip(drawn, extents)):
         x, y = sheet.middle(at)
-        draw_faces(axes, faces, (x - (left + right) / 2, y - (below + top) / 2), view)
+        by = (x - (left + right) / 2, y - (below + top) / 2)
+        if isinstance(faces, Crowd):
+            draw_crowd(axes, faces, by)
+        else:
+            draw_faces(axes, faces, by, view)
         if title:
             axes.text(x, y + sheet.reach / 2, title, ha="center", va="center", color=INK, fontsize=12)
     undated = {"svg": {"Date": None}, "pdf": {"CreationDate": None}}.get(form)
-    has_image = any(len(faces) > MOST_LINES for _, faces in drawn)
+    has_image = any(isinstance(faces, Crowd) or len(faces) > MOST_LINES for _, faces in drawn)
     dots = IMAGE_DOTS if has_image and form != "png" else DOTS
     figure.savefig(out, format=form, dpi=dots, facecolor="white", metadata=undated)
     pyplot.close(figure)
@@ -217,6 +233,24 @@ def draw_faces(axes: Any, faces: Sequence[Face], by: Flat, view: View) -> None:
     axes.add_collection(patches)
     if view.names or view.names is None and len(faces) <= MOST_NAMES:
         write_names(axes, faces, by)
+
+
+def draw_crowd(axes: Any, crowd: Crowd, by: Flat) -> None:
+    """Draws very many faces, moved by a way, as one image of triangles: no path is made for each."""
+    collections = program.needs("matplotlib.collections", "python3-matplotlib")
+    tri = program.needs("matplotlib.tri", "python3-matplotlib")
+    places = crowd.triangles.reshape(-1, 2) + by
+    corners = tri.Triangulation(places[:, 0], places[:, 1], range_of(len(places)))
+    mesh = collections.TriMesh(corners)
+    mesh.set_facecolor(crowd.colours.repeat(3, axis=0))
+    mesh.set_rasterized(True)
+    axes.add_collection(mesh)
+
+
+def range_of(count: int) -> Any:
+    """The numbers of corners, three to a triangle."""
+    numpy = program.needs("numpy", "python3-numpy")
+    return numpy.arange(count).reshape(-1, 3)
 
 
 def write_names(axes: Any, faces: Sequence[Face], by: Flat) -> None:

@@ -90,14 +90,19 @@ def turned_left(walk: Sequence[Step], neighbour: Neighbour) -> dict[int, bool]:
     return left
 
 
-def corners_of(face: Sequence[int], nodes: dict[int, Spot], left: dict[int, bool], neighbour: Neighbour) -> list[Node]:
-    """The corners of a face in the direction of the boundary. Where it isn't closed, its middle is one of them."""
+def corners_of(
+    face: Sequence[int], nodes: dict[int, Spot], left: dict[int, bool], neighbour: Neighbour, with_edges: bool = False
+) -> list[Node]:
+    """The corners of a face in the direction of the boundary, with the middles of edges where that is said. Where the
+    face isn't closed, its middle is one of them."""
     ends = [dart for dart in face if dart in (neighbour(dart, 0), neighbour(dart, 1))]
     first = last = dart = min(ends or face)
     label = begin = 1 if neighbour(first, 0) == first else 0
     passed = [nodes[first].edge] if begin else []
     for _ in face:
         passed.append(nodes[dart].vertex)
+        if with_edges and label == 0 and neighbour(dart, 0) != dart:
+            passed.append(nodes[dart].edge)
         last, dart, label = dart, neighbour(dart, label), 1 - label
     if ends:
         passed += [nodes[last].edge] * (neighbour(last, 0) == last != first) + [nodes[last].face]

@@ -11,7 +11,7 @@ import numpy
 
 from gmr.draw.layout import Sheet
 from gmr.draw.model import Model
-from gmr.draw.sheets import sheets_of
+from gmr.draw.together import sheets_of
 from gmr.maps import Map
 from gmr.view.spread import spread
 
