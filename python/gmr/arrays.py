@@ -44,9 +44,8 @@ class Arrays:
         """The canonical text."""
         rows = numpy.arange(len(self.names))
         columns = [(self.values[embed.name], rows) for embed in self.embeds]
-        return head_of(self.version, self.dimension, self.embeds, self.next, len(rows)) + print_rows(
-            self.names, self.alpha, columns
-        )
+        head = head_of(self.version, self.dimension, self.embeds, self.next, len(rows))
+        return print_rows(self.names, self.alpha, columns, head)
 
 
 def head_of(version: int, dimension: int, embeds: list[Embed], following: int, count: int) -> bytes:
@@ -57,15 +56,15 @@ def head_of(version: int, dimension: int, embeds: list[Embed], following: int, c
     return "\n".join([*lines, f"darts {count}", ""]).encode()
 
 
-def print_rows(names: Whole, alpha: Whole, columns: list[tuple[Whole, Whole]]) -> bytes:
-    """The lines of darts: their names, the names of their neighbours, whose rows alpha has, and their values.
+def print_rows(names: Whole, alpha: Whole, columns: list[tuple[Whole, Whole]], head: bytes = b"") -> bytes:
+    """A head, and the lines of darts: their names, those of their neighbours, whose rows alpha has, and their values.
 
     A column is a table of values (m x width), and for each dart the row of the table that has its value.
     """
     named = print_numbers(names)
     tables = [print_values(table) for table, _ in columns]
     blank = numpy.array([32], numpy.uint8)
-    printed = []
+    printed = [head]
     for begin in range(0, len(names), CHUNK):
         part = slice(begin, begin + CHUNK)
         pieces = [named[part], *(named[step[part]] for step in alpha)]

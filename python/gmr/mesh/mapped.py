@@ -49,7 +49,7 @@ class Mapped:
     def text(self) -> bytes:
         """The canonical text."""
         head = head_of(2, self.dimension, self.embeds, self.count, self.count)
-        return head + print_rows(np.arange(self.count), self.alpha, self.columns)
+        return print_rows(np.arange(self.count), self.alpha, self.columns, head)
 
     def map(self) -> Map:
         """The map as the other tools have it."""
