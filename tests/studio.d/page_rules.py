@@ -56,6 +56,13 @@ def test_after_a_crash_the_page_offers_what_was_done() -> None:
     with open_page() as page:
         page.choose("extrude_face_by_2d")
         page.change("the extrusion", lambda: page.point(8, click=True) and None)
+        page.click("tab-book")
+        text = page.js("return document.getElementById('book-text').value") + "\nrule spike\n"
+        write(page, "book-text", text)
+        page.wait("a fault", lambda: "refused BOOK" in page.text("faults"))
+        page.open()
+        assert page.js("return document.getElementById('book-text').value") == text, "what is being written is lost"
+        page.wait("the fault again", lambda: "refused BOOK" in page.text("faults"))
         page.site.end(signal.SIGKILL)
         page.js("document.getElementById('do-undo').click()")
         page.wait("that the studio is gone", lambda: "doesn't answer" in page.message())
@@ -67,6 +74,8 @@ def test_after_a_crash_the_page_offers_what_was_done() -> None:
             page.wait("the offer", lambda: "An earlier session over cube.gmap, with 1 statement" in page.text("banner"))
             page.change("what was done", lambda: page.click("offer-take"))
             assert page.darts() == 80
+            assert page.js("return document.getElementById('book-text').value") == text, "what is being written is lost"
+            page.wait("what is wrong with it", lambda: page.js("return Boolean(document.querySelector('.editor mark'))"))
         finally:
             page.site.end()
 

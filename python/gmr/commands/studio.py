@@ -81,7 +81,7 @@ def main(words: Sequence[str]) -> None:
     except KeyboardInterrupt:       # the usual way to end it
         pass
     finally:
-        server.session.store.close(not server.session.unsaved)
+        server.session.store.close(not server.session.unsaved and not server.session.draft)
 
 
 def end(_: int, __: FrameType | None) -> None:

@@ -113,9 +113,11 @@ def book(session: Session, body: Json) -> Json:
     return {**answer, "book": book_of(session) if done.rows is not None else None}
 
 
-def check(_: Session, body: Json) -> Json:
-    """What the program says of a book's text that is being written."""
-    return describe_text(text_in(body, "text"))
+def check(session: Session, body: Json) -> Json:
+    """What the program says of a book's text that is being written, which is kept until the book is taken."""
+    letters = text_in(body, "text")
+    session.keep_draft(letters)
+    return describe_text(letters)
 
 
 def example(session: Session, body: Json) -> Json:

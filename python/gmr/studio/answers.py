@@ -56,7 +56,7 @@ def told(session: Session, done: Done) -> Json:
 def whole(session: Session, lines: tuple[str, ...] = (), why: list[str] | None = None) -> Json:
     """Everything: the state, the book and the scene."""
     return {"answer": lines, "why": why or [], "state": state_of(session, True), "book": book_of(session),
-            "scene": scene_of(session.map, pack=bare)}
+            "draft": session.draft, "scene": scene_of(session.map, pack=bare)}
 
 
 def book_of(session: Session) -> Json:

@@ -181,10 +181,12 @@ def restore(session: Session, body: Json) -> Json:
     """Goes on with an earlier session that ended without a save."""
     earlier = text_in(body, "session")
     facts, start, book, script = session.store.files_of(earlier)
+    draft = session.store.draft_of(earlier)
     session.begin(start, text_of(book))
     done = session.run_script(script.decode("utf-8"), "")
     session.names.update({kind: str(facts.get(kind, "")) for kind in ("map", "book", "script")})
     session.unsaved |= {"script", "book"}
+    session.keep_draft(draft or session.book.letters)
     session.write_script()
     session.store.forget(earlier)
     return {**whole(session, done.lines, done.why), "offered": session.store.list_offered()}

@@ -1,5 +1,6 @@
 """A session of the studio: the map as it is, its book, its script, and the statements that are done."""
 import tempfile
+import threading
 from pathlib import Path
 from typing import Any, NamedTuple
 
@@ -13,7 +14,7 @@ from gmr.studio.live import Live, Rows
 from gmr.studio.reasons import tell_refusal
 from gmr.studio.requests import Unclear
 from gmr.studio.rulebook import Text, describe_book, text_of
-from gmr.studio.store import BOOK, SCRIPT, START, Store
+from gmr.studio.store import BOOK, DRAFT, SCRIPT, START, Store
 from gmr.studio.timeline import Step, Timeline, came_of
 
 Json = dict[str, Any]
@@ -34,6 +35,7 @@ class Session:
         self.version = 0
         self.example: dict[str, bytes] = {}
         self.told: list[Json] = []      # the steps as the page knows them
+        self.draft, self.drafting = "", threading.Lock()
         self.begin(start, text_of(book))
 
     def begin(self, start: bytes, book: Text) -> None:
@@ -80,7 +82,22 @@ class Session:
     def write_script(self) -> None:
         """Writes the script into the session's files, with the lines that are still to be run."""
         self.store.write(SCRIPT, (self.script() + self.rest).encode("utf-8"))
-        self.store.write_facts({**self.names, "saved": not self.unsaved, "steps": len(self.timeline.steps)})
+        self.write_facts()
+
+    def write_facts(self) -> None:
+        """Writes what an offer of this session tells."""
+        self.store.write_facts({**self.names, "saved": not self.unsaved and not self.draft,
+                                "steps": len(self.timeline.steps)})
+
+    def keep_draft(self, text: str) -> None:
+        """Keeps a text of the book that is being written, so that a crash loses nothing of it; none where it is the
+        book's own. A check of a text waits for nothing else, so several may come at once."""
+        with self.drafting:
+            draft = "" if text == self.book.letters else text
+            if draft != self.draft:
+                self.draft = draft
+                self.store.write(DRAFT, draft.encode("utf-8"))
+                self.write_facts()
 
     def _move_to(self, made: Path) -> Rows:
         """Shows the map of a file."""
@@ -235,6 +252,7 @@ class Session:
         self._take_book(book, described)
         self.unsaved.add("book")
         self.store.write(BOOK, book.data())
+        self.keep_draft(book.letters)
         self.write_script()
         return Done(tuple(described["answer"]), [], rows)
 

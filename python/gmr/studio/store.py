@@ -12,6 +12,7 @@ from typing import Any
 from gmr.studio.folder import KEPT_APART, Folder, Outside
 
 START, BOOK, SCRIPT, FACTS, LOCK = "start.gmap", "book.gbook", "script.gscript", "session.json", "lock"
+DRAFT = "draft.gbook"       # the book's text as it is being written, where that isn't taken yet
 MOST_SESSIONS = 1_000
 
 
@@ -65,6 +66,12 @@ class Store:
             raise Outside("there is no such session")
         path = self.all / session
         return facts, *((path / name).read_bytes() for name in (START, BOOK, SCRIPT))    # type: ignore[return-value]
+
+    def draft_of(self, session: str) -> str:
+        """The text of a book that was being written in an earlier session that is offered; empty where none was."""
+        self.files_of(session)
+        path = self.all / session / DRAFT
+        return path.read_text(encoding="utf-8") if path.exists() else ""
 
     def forget(self, session: str) -> None:
         """Removes an earlier session that is offered."""

@@ -8,6 +8,7 @@
   const parts = {};
   let checked = null;     // what the program said of the text as it is
   let waiting = 0;
+  let isKept = false;     // whether the server keeps a text that isn't the book's
 
   // The text in pieces with the classes of their words, marks at faults included.
   function painted(text, faults) {
@@ -72,7 +73,8 @@
   async function check() {
     const text = parts.text.value;
     try {
-      const answer = isChanged() ? await studio.ask('check', {text}) : studio.book;
+      const answer = isChanged() || isKept ? await studio.ask('check', {text}) : studio.book;
+      isKept = isChanged();
       if (parts.text.value !== text) return;
       checked = answer;
       showFaults();
@@ -116,7 +118,8 @@
 
   build();
   studio.on('book', () => {
-    parts.text.value = studio.book.text;
+    parts.text.value = studio.draft || studio.book.text;
+    isKept = Boolean(studio.draft);
     check();
   });
 

@@ -59,6 +59,7 @@
       if (answer.names && studio.state) studio.state.names = answer.names;
       if (answer.unsaved && studio.state) studio.state.unsaved = answer.unsaved;
       if (answer.book) {
+        studio.draft = answer.draft || '';
         studio.book = answer.book;
         studio.tell('book');
       }

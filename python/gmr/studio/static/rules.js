@@ -106,6 +106,7 @@
     const {rule} = choice;
     card.hidden = !rule;
     if (!rule) return;
+    const isOther = card.dataset.rule !== rule.name;
     const over = byId('each-over') && card.dataset.rule === rule.name ? byId('each-over').value : null;
     card.dataset.rule = rule.name;
     const drawing = element('div', {class: 'drawing'}, gmr.drawRule(rule, 274, gmr.heightOfDrawing(rule)),
@@ -119,6 +120,8 @@
       rule.fault ? null : hookChips(rule), params.length ? element('div', {class: 'params'}, params) : null,
       rule.fault ? null : acts(rule)].filter(Boolean));
     if (over !== null) byId('each-over').value = over;
+    const row = byId(`rule-${rule.name}`);
+    if (isOther && row) row.scrollIntoView({block: 'nearest'});     // the card took room of the list
   }
 
   // The card is made anew but for a field that is being written.
