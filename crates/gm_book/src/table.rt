@@ -13,6 +13,7 @@ ghost use Rattle.gm_forms.specs.inner.Held.{names_at, names_held};
 ghost use Rattle.gm_book.specs.inner.Building.{IsKnownSet, HasKnownSets, IsSoundSet, IsSoundNode, IsSoundPre, IsSoundRule, AreSoundValues};
 ghost use Rattle.gm_book.specs.inner.FirstNameFault.{embed_names, rule_least, IsSetFault, IsAssignedFault, IsPreFault, IsFaultOfValues, IsFaultInRule};
 ghost use Rattle.gm_book.specs.inner.Fitting.{IsFitting, HasExprs};
+ghost use Rattle.gm_model.specs.declared.limit.TheConstants.{MOST_NODES};
 
 use crate::names::{NameFault, bytes_in, take_in_nodes};
 use crate::values::{checked_value, embed_number, kind_needed};
@@ -45,7 +46,7 @@ fn take_in_rule<'t>(
 /// The number of the name in the table. One that it hasn't gets the count of its names.
 fn number(names: &IndexSet<NameKey<'_>>, text: &[u8], name: &Token) -> u8
     requires within { IsIn text.now name.now }
-    requires few { length (names_held names.now) ≤ 32 }
+    requires few { length (names_held names.now) ≤ MOST_NODES }
     ensures { result ≡ number_of (names_held names.now) (mention_of text.now name.now) }
 {
     let bytes = bytes_in(text, name);
@@ -74,7 +75,7 @@ fn links(
     items: &[Item],
 ) -> Result<Vec<Link>, OutOfMemory>
     requires within { AllByRecursion (IsItemIn text.now) items.now }
-    requires few { length (names_held names.now) ≤ 32 }
+    requires few { length (names_held names.now) ≤ MOST_NODES }
     ensures { IfOk result (λ links. links.items ≡ links_in (names_held names.now) (map (item_of text.now) items.now)) }
 {
     let mut links = Vec::new(alloc);
@@ -97,7 +98,7 @@ fn hooks(
     items: &[Item],
 ) -> Result<Vec<u8>, OutOfMemory>
     requires within { AllByRecursion (IsItemIn text.now) items.now }
-    requires few { length (names_held names.now) ≤ 32 }
+    requires few { length (names_held names.now) ≤ MOST_NODES }
     ensures { IfOk result (λ hooks. hooks.items ≡ hooks_in (names_held names.now) (map (item_of text.now) items.now)) }
 {
     let mut hooks = Vec::new(alloc);

@@ -4,16 +4,17 @@ ghost use Rattle.gm_model.specs.Rules.{rule_of, has_word};
 ghost use Rattle.gm_model.specs.Squares.{IsSquareGood};
 ghost use Rattle.gm_cycle.specs.inner.NodeSquares.{TellsStays, HasLabelSquares, HasNodeSquares, IsLabelFault, IsNodeFault};
 ghost use Rattle.gm_cycle.specs.inner.StepRows.{HasRows, HasEnds};
+ghost use Rattle.gm_model.specs.declared.limit.TheConstants.{MOST_DIMENSION, MOST_LABELS, MOST_NODES};
 
 use crate::steps::{StepRows, closes, step_at};
 use gm_model::{MOST_LABELS, RuleFault, RuleTable, Side};
 
 /// The first bad square at the right node, of labels up to the greatest.
 pub fn check_node(top: u8, rule: &RuleTable, right: &StepRows, node: u8) -> Result<(), RuleFault>
-    requires top { top ≤ 7 }
+    requires top { top ≤ MOST_DIMENSION }
     requires right { HasRows (rule_of rule.now) right.now (length (rule_of rule.now).nodes) }
     requires ends { HasEnds right.now (length (rule_of rule.now).nodes) }
-    requires nodes { length (rule_of rule.now).nodes ≤ 32 }
+    requires nodes { length (rule_of rule.now).nodes ≤ MOST_NODES }
     requires node { node < length (rule_of rule.now).nodes }
     requires on_right { IsTrue (has_word (rule_of rule.now) Right node) }
     ensures { MatchResult result
@@ -36,12 +37,12 @@ fn check_label(
     node: u8,
     i: u8,
 ) -> Result<(), RuleFault>
-    requires top { top ≤ 7 }
+    requires top { top ≤ MOST_DIMENSION }
     requires i { i ≤ top }
     requires right { HasRows (rule_of rule.now) right.now (length (rule_of rule.now).nodes) }
     requires ends { HasEnds right.now (length (rule_of rule.now).nodes) }
     requires stays { TellsStays (rule_of rule.now) node stays.now }
-    requires nodes { length (rule_of rule.now).nodes ≤ 32 }
+    requires nodes { length (rule_of rule.now).nodes ≤ MOST_NODES }
     requires node { node < length (rule_of rule.now).nodes }
     requires on_right { IsTrue (has_word (rule_of rule.now) Right node) }
     ensures { MatchResult result
@@ -65,12 +66,12 @@ fn is_good(
     i: u8,
     j: u8,
 ) -> bool
-    requires i { i < 8 }
-    requires j { j < 8 }
+    requires i { i < MOST_LABELS }
+    requires j { j < MOST_LABELS }
     requires right { HasRows (rule_of rule.now) right.now (length (rule_of rule.now).nodes) }
     requires ends { HasEnds right.now (length (rule_of rule.now).nodes) }
     requires stays { TellsStays (rule_of rule.now) node stays.now }
-    requires nodes { length (rule_of rule.now).nodes ≤ 32 }
+    requires nodes { length (rule_of rule.now).nodes ≤ MOST_NODES }
     requires node { node < length (rule_of rule.now).nodes }
     requires on_right { IsTrue (has_word (rule_of rule.now) Right node) }
     ensures { IsTrue result ↔ IsSquareGood (rule_of rule.now) node i j }
@@ -82,7 +83,7 @@ fn is_good(
 /// At which labels the step of the node is the same on both sides, where it is preserved.
 fn steps_that_stay(rule: &RuleTable, right: &StepRows, node: u8) -> [bool; MOST_LABELS]
     requires right { HasRows (rule_of rule.now) right.now (length (rule_of rule.now).nodes) }
-    requires nodes { length (rule_of rule.now).nodes ≤ 32 }
+    requires nodes { length (rule_of rule.now).nodes ≤ MOST_NODES }
     requires node { node < length (rule_of rule.now).nodes }
     requires on_right { IsTrue (has_word (rule_of rule.now) Right node) }
     ensures { TellsStays (rule_of rule.now) node result }

@@ -2,6 +2,7 @@ ghost use Rattle.std.specs.Prelude.{◌≡◌, ◌<◌, ◌≤◌, ◌↔◌, �
 ghost use Rattle.gm_model.specs.Rules.{rule_of, hook_label};
 ghost use Rattle.gm_model.specs.Squares.{Closes, IsApart};
 ghost use Rattle.gm_cycle.specs.inner.StepRows.{step_of, HasEnds, HasRows};
+ghost use Rattle.gm_model.specs.declared.limit.TheConstants.{MOST_LABELS, MOST_NODES};
 
 use gm_model::{Letter, MOST_LABELS, MOST_NODES, RuleTable, Side, Step};
 
@@ -10,7 +11,7 @@ pub type StepRows = [[Step; MOST_LABELS]; MOST_NODES];
 
 /// The right steps of the nodes of the rule.
 pub fn right_steps(rule: &RuleTable) -> StepRows
-    requires { length (rule_of rule.now).nodes ≤ 32 }
+    requires { length (rule_of rule.now).nodes ≤ MOST_NODES }
     ensures { HasRows (rule_of rule.now) result (length (rule_of rule.now).nodes) }
 {
     let mut rows = [[Step::Absent; MOST_LABELS]; MOST_NODES];
@@ -22,8 +23,8 @@ pub fn right_steps(rule: &RuleTable) -> StepRows
 
 /// What the node has at the label.
 pub fn step_at(rows: &StepRows, node: u8, label: u8) -> Step
-    requires node { node < 32 }
-    requires label { label < 8 }
+    requires node { node < MOST_NODES }
+    requires label { label < MOST_LABELS }
     ensures { result ≡ step_of rows.now node label }
 {
     rows[node as usize][label as usize]
@@ -51,10 +52,10 @@ fn are_apart(i: u8, j: u8) -> bool
 
 /// Whether the square of the labels closes at the node.
 pub fn closes(rule: &RuleTable, rows: &StepRows, node: u8, i: u8, j: u8) -> bool
-    requires nodes { length (rule_of rule.now).nodes ≤ 32 }
+    requires nodes { length (rule_of rule.now).nodes ≤ MOST_NODES }
     requires node { node < length (rule_of rule.now).nodes }
-    requires i { i < 8 }
-    requires j { j < 8 }
+    requires i { i < MOST_LABELS }
+    requires j { j < MOST_LABELS }
     requires ends { HasEnds rows.now (length (rule_of rule.now).nodes) }
     ensures { IsTrue result ↔ Closes (step_of rows.now) (hook_label (rule_of rule.now)) node i j }
 {

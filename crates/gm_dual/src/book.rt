@@ -8,6 +8,7 @@ ghost use Rattle.gm_model.specs.Rules.{rule_of};
 ghost use Rattle.gm_model.specs.Structure.{IsInRange};
 ghost use Rattle.gm_dual.specs.Duals as duals;
 ghost use Rattle.gm_dual.specs.Duals.{AreAcceptedAlike, AreAppliedAlike, AreRefusedAlike, IsDualBook};
+ghost use Rattle.gm_model.specs.declared.limit.TheConstants.{MOST_DIMENSION};
 
 use crate::rule::dual_rule;
 use crate::schema::dual_schema;
@@ -44,7 +45,7 @@ fn make_dual(alloc: Global, book: &Book) -> Result<Book, OutOfMemory>
 }
 
 fn dual_rules(alloc: Global, top: u8, rules: &[RuleTable]) -> Result<Items<RuleTable>, OutOfMemory>
-    requires { top ≤ 7 }
+    requires { top ≤ MOST_DIMENSION }
     ensures { IfOk result (λ made. map rule_of made ≡ map (duals.dual_rule top) (map rule_of rules.now)) }
 {
     let mut made = Vec::new(alloc);

@@ -3,6 +3,7 @@
 ghost use Rattle.std.specs.Prelude.{◌≡◌, ◌≤◌, IfOk};
 ghost use Rattle.gm_model.specs.Trees.{tree_of};
 ghost use Rattle.gm_dual.specs.Duals as duals;
+ghost use Rattle.gm_model.specs.declared.limit.TheConstants.{MOST_DIMENSION};
 
 use crate::labels::{dual_mask, dual_path};
 use gm_model::{DartTerm, Expr, OutOfMemory, Path};
@@ -11,7 +12,7 @@ use std::alloc::Global;
 /// The expression with the dual of each path and of each set of labels in it.
 #[cycle(dual)]
 pub(crate) fn dual_expr(alloc: Global, top: u8, expr: &Expr) -> Result<Expr, OutOfMemory>
-    requires { top ≤ 7 }
+    requires { top ≤ MOST_DIMENSION }
     ensures { IfOk result (λ dual. tree_of dual ≡ duals.dual_tree top (tree_of expr.now)) }
 {
     match expr {
@@ -72,7 +73,7 @@ pub(crate) fn dual_expr(alloc: Global, top: u8, expr: &Expr) -> Result<Expr, Out
 
 #[cycle(dual)]
 fn dual_part(alloc: Global, top: u8, part: &Expr) -> Result<Box<Expr>, OutOfMemory>
-    requires { top ≤ 7 }
+    requires { top ≤ MOST_DIMENSION }
     ensures { IfOk result (λ dual. tree_of dual.value ≡ duals.dual_tree top (tree_of part.now)) }
 {
     let dual = dual_expr(alloc, top, part)?;

@@ -2,6 +2,7 @@
 
 ghost use Rattle.std.specs.Prelude.{◌≡◌, ◌≤◌, IfOk, map};
 ghost use Rattle.gm_dual.specs.Duals as duals;
+ghost use Rattle.gm_model.specs.declared.limit.TheConstants.{MOST_DIMENSION};
 
 use gm_model::{Letter, Mask, OutOfMemory, Word};
 use std::alloc::Global;
@@ -18,7 +19,7 @@ pub(crate) fn dual_label(top: u8, label: u8) -> u8
 
 /// The set of the labels that trade places with those of the set.
 pub(crate) fn dual_mask(top: u8, mask: Mask) -> Mask
-    requires { top ≤ 7 }
+    requires { top ≤ MOST_DIMENSION }
     ensures { result ≡ duals.dual_mask top mask }
 {
     let mut bits = 0;

@@ -9,16 +9,17 @@ ghost use Rattle.gm_model.specs.Maps.{IsSchema, IsSound, Map};
 ghost use Rattle.gm_model.specs.Rules.{Rule};
 ghost use Rattle.gm_model.specs.Structure.{IsInRange};
 ghost use Rattle.gm_model.specs.declared.schema.Schema.{Schema};
+ghost use Rattle.gm_model.specs.declared.limit.TheConstants.{MOST_DIMENSION};
 
 /// The dual of the dual of a map is the map itself. The law is the clause; the function does nothing.
 pub fn the_dual_of_the_dual_is_the_map()
-    ensures { (map : Map) → map.schema.dim ≤ 7 → IsSchema map.schema → dual_map (dual_map map) ≡ map }
+    ensures { (map : Map) → map.schema.dim ≤ MOST_DIMENSION → IsSchema map.schema → dual_map (dual_map map) ≡ map }
 {}
 
 /// The dual of the dual of a rule whose numbers and expressions are in range is the rule itself. The
 /// law is the clause; the function does nothing.
 pub fn the_dual_of_the_dual_is_the_rule()
-    ensures { (schema : Schema) (rule : Rule) → schema.dim ≤ 7 → IsInRange schema rule → IsTyped schema rule → dual_rule schema.dim (dual_rule schema.dim rule) ≡ rule }
+    ensures { (schema : Schema) (rule : Rule) → schema.dim ≤ MOST_DIMENSION → IsInRange schema rule → IsTyped schema rule → dual_rule schema.dim (dual_rule schema.dim rule) ≡ rule }
 {}
 
 /// Where an application of an accepted rule is refused, that of its dual to the dual map is refused for
@@ -26,12 +27,12 @@ pub fn the_dual_of_the_dual_is_the_rule()
 /// that there is no match, since the arc that is met first in one needn't be met first in the other. The
 /// law is the clauses; the function does nothing.
 pub fn duals_are_refused_for_the_same_cause()
-    ensures to_dual { (app : Application) (cause : Cause) → app.map.schema.dim ≤ 7 → IsSchema app.map.schema → IsAccepted app.map.schema app.rule → IsRefused app cause → IsOfMatch cause ⊎ IsRefused (dual_application app) cause }
-    ensures from_dual { (app : Application) (cause : Cause) → app.map.schema.dim ≤ 7 → IsSchema app.map.schema → IsAccepted app.map.schema app.rule → IsRefused (dual_application app) cause → IsOfMatch cause ⊎ IsRefused app cause }
+    ensures to_dual { (app : Application) (cause : Cause) → app.map.schema.dim ≤ MOST_DIMENSION → IsSchema app.map.schema → IsAccepted app.map.schema app.rule → IsRefused app cause → IsOfMatch cause ⊎ IsRefused (dual_application app) cause }
+    ensures from_dual { (app : Application) (cause : Cause) → app.map.schema.dim ≤ MOST_DIMENSION → IsSchema app.map.schema → IsAccepted app.map.schema app.rule → IsRefused (dual_application app) cause → IsOfMatch cause ⊎ IsRefused app cause }
 {}
 
 /// An application of an accepted rule to a sound map, done or refused, may take as many steps as that of
 /// its dual to the dual map. The law is the clause; the function does nothing.
 pub fn duals_have_the_same_budget()
-    ensures { (app : Application) (budget : ℕ) → app.map.schema.dim ≤ 7 → IsSchema app.map.schema → IsAccepted app.map.schema app.rule → IsSound app.map → IsBudget app budget ↔ IsBudget (dual_application app) budget }
+    ensures { (app : Application) (budget : ℕ) → app.map.schema.dim ≤ MOST_DIMENSION → IsSchema app.map.schema → IsAccepted app.map.schema app.rule → IsSound app.map → IsBudget app budget ↔ IsBudget (dual_application app) budget }
 {}

@@ -5,6 +5,7 @@ ghost use Rattle.std.specs.Option.{option_map};
 ghost use Rattle.gm_model.specs.Rules.{assignment_of, node_of, rule_of};
 ghost use Rattle.gm_model.specs.Trees.{tree_of};
 ghost use Rattle.gm_dual.specs.Duals as duals;
+ghost use Rattle.gm_model.specs.declared.limit.TheConstants.{MOST_DIMENSION};
 
 use crate::expression::dual_expr;
 use crate::labels::{dual_label, dual_word};
@@ -13,7 +14,7 @@ use std::alloc::Global;
 
 /// The rule with the dual of each word, link and expression, all in their order.
 pub(crate) fn dual_rule(alloc: Global, top: u8, rule: &RuleTable) -> Result<RuleTable, OutOfMemory>
-    requires { top ≤ 7 }
+    requires { top ≤ MOST_DIMENSION }
     ensures { IfOk result (λ dual. rule_of dual ≡ duals.dual_rule top (rule_of rule.now)) }
 {
     Ok(RuleTable {
@@ -40,7 +41,7 @@ fn copy_hooks(alloc: Global, hooks: &[u8]) -> Result<Items<u8>, OutOfMemory>
 }
 
 fn dual_nodes(alloc: Global, top: u8, nodes: &[Node]) -> Result<Items<Node>, OutOfMemory>
-    requires { top ≤ 7 }
+    requires { top ≤ MOST_DIMENSION }
     ensures { IfOk result (λ made. map node_of made ≡ map (duals.dual_node top) (map node_of nodes.now)) }
 {
     let mut made = Vec::new(alloc);
@@ -51,7 +52,7 @@ fn dual_nodes(alloc: Global, top: u8, nodes: &[Node]) -> Result<Items<Node>, Out
 }
 
 fn dual_node(alloc: Global, top: u8, node: &Node) -> Result<Node, OutOfMemory>
-    requires { top ≤ 7 }
+    requires { top ≤ MOST_DIMENSION }
     ensures { IfOk result (λ dual. node_of dual ≡ duals.dual_node top (node_of node.now)) }
 {
     Ok(Node {
@@ -72,7 +73,7 @@ fn dual_side(top: u8, word: &Option<Word>) -> Option<Word>
 }
 
 fn dual_sets(alloc: Global, top: u8, sets: &[Set]) -> Result<Items<Set>, OutOfMemory>
-    requires { top ≤ 7 }
+    requires { top ≤ MOST_DIMENSION }
     ensures { IfOk result (λ made. map assignment_of made ≡ map (duals.dual_assignment top) (map assignment_of sets.now)) }
 {
     let mut made = Vec::new(alloc);
@@ -83,7 +84,7 @@ fn dual_sets(alloc: Global, top: u8, sets: &[Set]) -> Result<Items<Set>, OutOfMe
 }
 
 fn dual_set(alloc: Global, top: u8, set: &Set) -> Result<Set, OutOfMemory>
-    requires { top ≤ 7 }
+    requires { top ≤ MOST_DIMENSION }
     ensures { IfOk result (λ dual. assignment_of dual ≡ duals.dual_assignment top (assignment_of set.now)) }
 {
     Ok(Set {
@@ -106,7 +107,7 @@ fn dual_links(alloc: Global, top: u8, links: &[Link]) -> Result<Items<Link>, Out
 }
 
 fn dual_pre(alloc: Global, top: u8, pre: &Option<Expr>) -> Result<Option<Expr>, OutOfMemory>
-    requires { top ≤ 7 }
+    requires { top ≤ MOST_DIMENSION }
     ensures { IfOk result (λ dual. option_map tree_of dual ≡ option_map (duals.dual_tree top) (option_map tree_of pre.now)) }
 {
     match pre {

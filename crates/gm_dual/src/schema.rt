@@ -2,6 +2,7 @@
 
 ghost use Rattle.std.specs.Prelude.{◌≡◌, ◌≤◌, IfOk, map};
 ghost use Rattle.gm_dual.specs.Duals as duals;
+ghost use Rattle.gm_model.specs.declared.limit.TheConstants.{MOST_DIMENSION};
 
 use crate::labels::dual_mask;
 use gm_model::{Embed, Items, OutOfMemory, Schema};
@@ -18,7 +19,7 @@ pub(crate) fn dual_schema(alloc: Global, schema: &Schema) -> Result<Schema, OutO
 }
 
 fn dual_embeds(alloc: Global, top: u8, embeds: &[Embed]) -> Result<Items<Embed>, OutOfMemory>
-    requires { top ≤ 7 }
+    requires { top ≤ MOST_DIMENSION }
     ensures { IfOk result (λ made. made ≡ map (duals.dual_embed top) embeds.now) }
 {
     let mut made = Vec::new(alloc);
@@ -29,7 +30,7 @@ fn dual_embeds(alloc: Global, top: u8, embeds: &[Embed]) -> Result<Items<Embed>,
 }
 
 fn dual_embed(top: u8, embed: &Embed) -> Embed
-    requires { top ≤ 7 }
+    requires { top ≤ MOST_DIMENSION }
     ensures { result ≡ duals.dual_embed top embed.now }
 {
     Embed {

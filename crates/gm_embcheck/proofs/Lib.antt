@@ -1,4 +1,5 @@
 pub mod Assigned
+pub mod Each
 pub mod Found
 pub mod InRange
 pub mod Joined

@@ -6,6 +6,7 @@ ghost use Rattle.gm_model.specs.Labels.{has};
 ghost use Rattle.gm_embcheck.specs.inner.Bounds.{HasLinkBounds};
 ghost use Rattle.gm_embcheck.specs.inner.Leaders.{leader_in, AreLeaders, HasJoined, replaced};
 ghost use Rattle.gm_embcheck.specs.inner.NodeSets.{IsIn};
+ghost use Rattle.gm_model.specs.declared.limit.TheConstants.{MOST_NODES};
 
 use gm_model::{Link, MOST_NODES, Mask};
 
@@ -31,8 +32,8 @@ pub fn leaders_of(links: &[Link], mask: Mask) -> Leaders
 
 /// The nodes that have the leader of this one.
 pub fn nodes_of(leaders: &Leaders, node: u8) -> NodeSet
-    requires { node < 32 }
-    ensures { (x : ℕ) → IsIn result x ↔ ((x < 32) × (leader_in leaders.now x ≡ leader_in leaders.now node)) }
+    requires { node < MOST_NODES }
+    ensures { (x : ℕ) → IsIn result x ↔ ((x < MOST_NODES) × (leader_in leaders.now x ≡ leader_in leaders.now node)) }
 {
     let leader = leaders[node as usize];
     let mut nodes = [false; MOST_NODES];
@@ -44,7 +45,7 @@ pub fn nodes_of(leaders: &Leaders, node: u8) -> NodeSet
 
 /// Each node as its own leader.
 fn each_alone() -> Leaders
-    ensures { (x : ℕ) → x < 32 → leader_in result x ≡ x }
+    ensures { (x : ℕ) → x < MOST_NODES → leader_in result x ≡ x }
 {
     let mut leaders = [0; MOST_NODES];
     for node in 0..MOST_NODES {
@@ -55,8 +56,8 @@ fn each_alone() -> Leaders
 
 /// Makes one component of those of both nodes.
 fn join(leaders: &mut Leaders, from: u8, to: u8)
-    requires from { from < 32 }
-    requires to { to < 32 }
+    requires from { from < MOST_NODES }
+    requires to { to < MOST_NODES }
     ensures { HasJoined leaders.old leaders.new (leader_in leaders.old from) (leader_in leaders.old to) }
 {
     let first = leaders[from as usize];
@@ -70,7 +71,7 @@ fn join(leaders: &mut Leaders, from: u8, to: u8)
 
 /// Gives the nodes of one leader another one.
 fn replace(leaders: &mut Leaders, old: u8, new: u8)
-    ensures { (x : ℕ) → x < 32 → leader_in leaders.new x ≡ replaced old new (leader_in leaders.old x) }
+    ensures { (x : ℕ) → x < MOST_NODES → leader_in leaders.new x ≡ replaced old new (leader_in leaders.old x) }
 {
     for node in 0..MOST_NODES {
         let leader = leaders[node];

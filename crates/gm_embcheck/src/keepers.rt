@@ -6,6 +6,7 @@ ghost use Rattle.gm_model.specs.Rules.{rule_of, is_preserved};
 ghost use Rattle.gm_embcheck.specs.inner.Bounds.{HasBounds};
 ghost use Rattle.gm_embcheck.specs.inner.Keepers.{AreKeepers, AreFirstPreserved};
 ghost use Rattle.gm_embcheck.specs.inner.Leaders.{leader_in, AreLeaders};
+ghost use Rattle.gm_model.specs.declared.limit.TheConstants.{MOST_NODES};
 
 use crate::component::Leaders;
 use gm_model::{MOST_NODES, RuleTable, Side};
@@ -29,8 +30,8 @@ pub fn keepers_of(rule: &RuleTable, leaders: &Leaders) -> Keepers
 
 /// By the number of a leader, the least preserved node that has it.
 fn first_preserved(rule: &RuleTable, leaders: &Leaders) -> Keepers
-    requires nodes { length (rule_of rule.now).nodes ≤ 32 }
-    requires within { (x : ℕ) → x < 32 → leader_in leaders.now x < 32 }
+    requires nodes { length (rule_of rule.now).nodes ≤ MOST_NODES }
+    requires within { (x : ℕ) → x < MOST_NODES → leader_in leaders.now x < MOST_NODES }
     ensures { AreFirstPreserved (rule_of rule.now) leaders.now (length (rule_of rule.now).nodes) result }
 {
     let mut first = [None; MOST_NODES];

@@ -10,6 +10,7 @@ ghost use Rattle.gm_model.specs.Rules.{rule_of, has_word};
 ghost use Rattle.gm_model.specs.Structure.{IsInRange, IsWithinLimits, HasIncidence};
 ghost use Rattle.gm_embcheck.specs.inner.Bounds.{HasBounds};
 ghost use Rattle.gm_embcheck.specs.inner.Faults.{IsFirstComponentFault};
+ghost use Rattle.gm_model.specs.declared.limit.TheConstants.{MOST_EMBEDS};
 
 mod assignments;
 mod component;
@@ -28,7 +29,7 @@ pub use keepers::{Keepers, keepers_of};
 /// Tests the right components of a rule, for each embedding and then by their least node, and
 /// answers the first fault in that order.
 pub fn check(schema: &Schema, rule: &RuleTable) -> Result<(), RuleFault>
-    requires embeds { length schema.now.embeds ≤ 8 }
+    requires embeds { length schema.now.embeds ≤ MOST_EMBEDS }
     requires in_range { IsInRange schema.now (rule_of rule.now) }
     requires within { IsWithinLimits (rule_of rule.now) }
     requires incidence { HasIncidence schema.now.dim (rule_of rule.now) }

@@ -8,6 +8,7 @@ ghost use Rattle.gm_embcheck.specs.inner.Faults.{IsSecondAssigned};
 ghost use Rattle.gm_embcheck.specs.inner.Firsts.{HasNoneFrom};
 ghost use Rattle.gm_embcheck.specs.inner.Leaders.{AreLeaders};
 ghost use Rattle.gm_embcheck.specs.inner.NodeSets.{IsIn, IsAssignedIn};
+ghost use Rattle.gm_model.specs.declared.limit.TheConstants.{MOST_NODES};
 
 use crate::component::{Leaders, NodeSet, nodes_of};
 use crate::nodes::{first_assigned, first_outside};
@@ -40,8 +41,8 @@ pub fn check_component(
 
 /// The fault that a node of the component after the first one has an assignment too.
 fn check_only(rule: &RuleTable, embed: u8, component: &NodeSet, first: u8) -> Result<(), RuleFault>
-    requires nodes { length (rule_of rule.now).nodes ≤ 32 }
-    requires first { first < 32 }
+    requires nodes { length (rule_of rule.now).nodes ≤ MOST_NODES }
+    requires first { first < MOST_NODES }
     ensures { MatchResult result
         (λ _. HasNoneFrom (IsAssignedIn (rule_of rule.now) embed component.now) (first + 1))
         (λ fault. IsSecondAssigned (rule_of rule.now) embed component.now first fault) }
@@ -96,7 +97,7 @@ fn check_inherited(
     requires left { AreLeaders (rule_of rule.now).left_links (has mask) left.now }
     requires unassigned { IsUnassigned (rule_of rule.now) embed (has mask) node }
     requires keeper { IsKeeper (rule_of rule.now) (has mask) node keeper }
-    requires below { keeper < 32 }
+    requires below { keeper < MOST_NODES }
     ensures { MatchResult result
         (λ _. IsInherited (rule_of rule.now) (has mask) node keeper)
         (λ fault. IsComponentFault (rule_of rule.now) embed (has mask) node fault) }

@@ -3,6 +3,7 @@ use Rattle.std.specs.Prelude.{◌≡◌, ◌≢◌, ℕ, ◌+◌, ◌<◌, ◌�
 use Rattle.std.specs.List.{flat_map, position, position_or_len, AllByRecursion, AllZip, Contains}
 use Rattle.std.specs.Option.{option_map, option_and_then}
 use Rattle.std.specs.Str.{bytes_eq}
+use Rattle.gm_model.specs.declared.limit.TheConstants.{MOST_LETTERS, MOST_LINKS, MOST_NAME_BYTES, MOST_NODES, MOST_PARAMS, MOST_RULES}
 use Rattle.gm_model.specs.declared.limit.LimitKind.{LimitKind}
 use Rattle.gm_model.specs.declared.limit.LimitKind.TheVariants as limits
 use Rattle.gm_model.specs.declared.word.Letter.{Letter}
@@ -187,13 +188,13 @@ abbrev pub limit_of : Role → Symbol → Option LimitKind
 limit_of (InSchema role) symbol = schemas.limit_of role symbol
 limit_of (InExpr place role) symbol = limit_in role symbol
 limit_of (LabelAt n) (Numeral i) = if nat_lt n i then Some limits.Label else None
-limit_of (LetterAt n k) (Numeral i) = if nat_lt n i then Some limits.Label else (if nat_lt 8 k then Some limits.Word else None)
-limit_of (LetterAt n k) Gone = if nat_lt 8 k then Some limits.Word else None
-limit_of (NameAt place) (Word name) = if nat_lt 32 (length name) then Some limits.Name else None
-limit_of (ParamName k place) (Word name) = if nat_lt 32 (length name) then Some limits.Name else (if nat_lt 8 k then Some limits.Parameters else None)
-limit_of (RuleWord k) (Word word) = if nat_lt 256 k then Some limits.Rules else None
-limit_of (NodeSign k) (Sign sign) = if nat_lt 32 k then Some limits.Nodes else None
-limit_of (LinkSign k) (Sign sign) = if nat_lt 256 k then Some limits.Links else None
+limit_of (LetterAt n k) (Numeral i) = if nat_lt n i then Some limits.Label else (if nat_lt MOST_LETTERS k then Some limits.Word else None)
+limit_of (LetterAt n k) Gone = if nat_lt MOST_LETTERS k then Some limits.Word else None
+limit_of (NameAt place) (Word name) = if nat_lt MOST_NAME_BYTES (length name) then Some limits.Name else None
+limit_of (ParamName k place) (Word name) = if nat_lt MOST_NAME_BYTES (length name) then Some limits.Name else (if nat_lt MOST_PARAMS k then Some limits.Parameters else None)
+limit_of (RuleWord k) (Word word) = if nat_lt MOST_RULES k then Some limits.Rules else None
+limit_of (NodeSign k) (Sign sign) = if nat_lt MOST_NODES k then Some limits.Nodes else None
+limit_of (LinkSign k) (Sign sign) = if nat_lt MOST_LINKS k then Some limits.Links else None
 limit_of _ _ = None
 
 -- The sign behind a name tells whether it is a node or a link's. The limits on nodes and links stand at the name.

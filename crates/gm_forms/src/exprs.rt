@@ -12,11 +12,10 @@ ghost use Rattle.gm_forms.specs.inner.Values.{IsGoneOver, IsValueFault};
 use crate::draft::Draft;
 use crate::form::{SetForm, Span};
 use crate::form_fault::FormFault;
-use crate::reader::MOST_NAME_BYTES;
 use crate::state::{Heading, Spot, State};
 use crate::tally::Tally;
 use crate::words::reads;
-use gm_model::{Dim, LimitKind, Side};
+use gm_model::{Dim, LimitKind, MOST_NAME_BYTES, Side};
 use gm_parse::skip_expr;
 use gm_text::{Lexer, Token, is_reserved};
 

@@ -1,4 +1,5 @@
 ghost use Rattle.std.specs.Prelude.{◌≡◌, ◌+◌, ◌≤◌, [], ◌∷◌, ◌++◌, length, SomeIff};
+ghost use Rattle.gm_model.specs.declared.limit.TheConstants.{MOST_LETTERS};
 
 use gm_model::{Letter, Word};
 
@@ -10,7 +11,7 @@ pub fn no_letters() -> Word
 
 /// The word with one letter more, where it then has at most 8.
 pub fn with_letter(word: Word, letter: Letter) -> Option<Word>
-    ensures { SomeIff result (length word + 1 ≤ 8) (word ++ letter ∷ []) }
+    ensures { SomeIff result (length word + 1 ≤ MOST_LETTERS) (word ++ letter ∷ []) }
 {
     let mut letters = [Letter::Gone; 9];
     let count = word.len();

@@ -8,14 +8,11 @@ ghost use Rattle.gm_forms.specs.inner.Standing.{Leads, StaysIn, Moves, KeepsIn, 
 use crate::draft::Draft;
 use crate::form::ParamForm;
 use crate::form_fault::FormFault;
-use crate::reader::MOST_NAME_BYTES;
 use crate::state::{Heading, State};
 use crate::tally::Tally;
 use crate::words::{kind_named, reads};
-use gm_model::LimitKind;
+use gm_model::{LimitKind, MOST_NAME_BYTES, MOST_PARAMS};
 use gm_text::{Lexer, Token, is_reserved};
-
-const MOST_PARAMS: u8 = 8;
 
 /// A sign behind a rule's name.
 #[tactic(auto, unfolding(crate::specs::inner::Standing::stepped))]

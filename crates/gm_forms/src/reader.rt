@@ -18,11 +18,9 @@ use crate::signs::{at_dash, at_number, at_sign, at_word_end, gone};
 use crate::state::{Heading, Spot, State};
 use crate::tally::Tally;
 use crate::words::reads;
-use gm_model::{LimitKind, Side, Word};
+use gm_model::{LimitKind, MOST_NAME_BYTES, Side, Word};
 use gm_text::{Lexer, Token, TokenKind, is_reserved};
 use std::alloc::Global;
-
-pub const MOST_NAME_BYTES: usize = 32;
 
 /// What of a book is read so far, but for the item that is read.
 #[derive(Drop)]

@@ -14,10 +14,11 @@ pub struct Heading {
 }
 
 impl Heading {
+    ghost use Rattle.gm_model.specs.declared.limit.TheConstants.{MOST_DIMENSION};
     /// The greatest label.
     pub fn top(&self) -> u8
         ensures value { result ≡ self.now.dim }
-        ensures greatest { self.now.dim ≤ 7 }
+        ensures greatest { self.now.dim ≤ MOST_DIMENSION }
     {
         self.dim.top()
     }

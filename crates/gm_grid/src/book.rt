@@ -3,6 +3,7 @@ ghost use Rattle.std.specs.Prelude.{◌≡◌, ◌≤◌, [], ◌∷◌, length,
 ghost use Rattle.gm_model.specs.Rules.{assignment_of, node_of, rule_of};
 ghost use Rattle.gm_model.specs.Trees.{tree_of};
 ghost use Rattle.gm_grid.specs.GridBook.{IsGridBook, triangulation, side_node, spoke_node, middle_node, middle, hook_dart};
+ghost use Rattle.gm_model.specs.declared.limit.TheConstants.{MOST_LETTERS};
 
 use crate::schema::{make_schema, name};
 use gm_model::{
@@ -135,7 +136,7 @@ fn hook(alloc: Global) -> DartTerm
 }
 
 fn word(letters: &[Letter]) -> Word
-    requires { length letters.now ≤ 8 }
+    requires { length letters.now ≤ MOST_LETTERS }
     ensures { result ≡ letters.now }
 {
     Word::new(letters).unwrap()

@@ -3,14 +3,15 @@ ghost use Rattle.gm_model.specs.Rules.{rule_of};
 ghost use Rattle.gm_model.specs.Structure.{AreGood, HasArcs, IsArcFault, IsNodeArcFault};
 ghost use Rattle.gm_incident.specs.inner.Faults.{IsFirstFault};
 ghost use Rattle.gm_incident.specs.inner.Ranges.{HasLabels, HasSomeWord};
+ghost use Rattle.gm_model.specs.declared.limit.TheConstants.{MOST_DIMENSION, MOST_NODES};
 
 use crate::counts::{Counts, arc_counts};
 use gm_model::{RuleFault, RuleTable, Side};
 
 /// The first fault of the arcs at the nodes of a rule, with labels up to the greatest.
 pub fn check_arcs(top: u8, rule: &RuleTable) -> Result<(), RuleFault>
-    requires top { top ≤ 7 }
-    requires nodes { length (rule_of rule.now).nodes ≤ 32 }
+    requires top { top ≤ MOST_DIMENSION }
+    requires nodes { length (rule_of rule.now).nodes ≤ MOST_NODES }
     requires some_word { (x : ℕ) → x < length (rule_of rule.now).nodes → HasSomeWord (rule_of rule.now) x }
     requires labels { HasLabels (rule_of rule.now) }
     ensures { MatchResult result
@@ -25,7 +26,7 @@ pub fn check_arcs(top: u8, rule: &RuleTable) -> Result<(), RuleFault>
 
 /// The first fault of the arcs at the node, up to the greatest label.
 fn check_node(top: u8, rule: &RuleTable, node: u8) -> Result<(), RuleFault>
-    requires top { top ≤ 7 }
+    requires top { top ≤ MOST_DIMENSION }
     requires some_word { HasSomeWord (rule_of rule.now) node }
     requires labels { HasLabels (rule_of rule.now) }
     ensures { MatchResult result
@@ -45,7 +46,7 @@ fn check_node(top: u8, rule: &RuleTable, node: u8) -> Result<(), RuleFault>
 
 /// The first label that stands twice on the side.
 fn check_once(top: u8, node: u8, side: Side, counts: &Counts) -> Result<(), RuleFault>
-    requires { top ≤ 7 }
+    requires { top ≤ MOST_DIMENSION }
     ensures { MatchResult result
         (λ _. AreGood (λ i. slice_index counts.now i ≤ 1) (top + 1))
         (λ fault. IsFirstFault (λ i. slice_index counts.now i ≤ 1) (top + 1) (λ i. RuleFault.ArcTwice node i side) fault) }
@@ -60,7 +61,7 @@ fn check_once(top: u8, node: u8, side: Side, counts: &Counts) -> Result<(), Rule
 
 /// The first label that is missing at a node with one word.
 fn check_each(top: u8, node: u8, counts: &Counts) -> Result<(), RuleFault>
-    requires { top ≤ 7 }
+    requires { top ≤ MOST_DIMENSION }
     ensures { MatchResult result
         (λ _. AreGood (λ i. 0 < slice_index counts.now i) (top + 1))
         (λ fault. IsFirstFault (λ i. 0 < slice_index counts.now i) (top + 1) (λ i. RuleFault.ArcMissing node i) fault) }
@@ -75,7 +76,7 @@ fn check_each(top: u8, node: u8, counts: &Counts) -> Result<(), RuleFault>
 
 /// The first label that a node with two words has on one side alone.
 fn check_both(top: u8, node: u8, left: &Counts, right: &Counts) -> Result<(), RuleFault>
-    requires { top ≤ 7 }
+    requires { top ≤ MOST_DIMENSION }
     ensures { MatchResult result
         (λ _. AreGood (λ i. (0 < slice_index left.now i) ↔ (0 < slice_index right.now i)) (top + 1))
         (λ fault. IsFirstFault (λ i. (0 < slice_index left.now i) ↔ (0 < slice_index right.now i)) (top + 1) (λ i. RuleFault.ArcSetDiffers node i) fault) }

@@ -3,6 +3,7 @@ ghost use Rattle.std.specs.List.{count_by};
 ghost use Rattle.gm_model.specs.Rules.{rule_of, is_end, is_label};
 ghost use Rattle.gm_model.specs.Structure.{arcs_at};
 ghost use Rattle.gm_incident.specs.inner.Ranges.{HasLinkLabels, HasWordLabels, HasLabels};
+ghost use Rattle.gm_model.specs.declared.limit.TheConstants.{MOST_LABELS};
 
 use gm_model::{Letter, Link, MOST_LABELS, RuleTable, Side, Word};
 
@@ -13,7 +14,7 @@ pub type Counts = [u16; MOST_LABELS];
 /// the node to itself counts once.
 pub fn arc_counts(rule: &RuleTable, side: Side, node: u8) -> Counts
     requires { HasLabels (rule_of rule.now) }
-    ensures { (i : ℕ) → i < 8 → slice_index result i ≡ arcs_at (rule_of rule.now) side node i }
+    ensures { (i : ℕ) → i < MOST_LABELS → slice_index result i ≡ arcs_at (rule_of rule.now) side node i }
 {
     let mut counts = link_counts(rule.links(side), node);
     if let Some(word) = rule.word(side, node) {
@@ -25,7 +26,7 @@ pub fn arc_counts(rule: &RuleTable, side: Side, node: u8) -> Counts
 /// How many links with each label end at the node.
 fn link_counts(links: &[Link], node: u8) -> Counts
     requires { HasLinkLabels links.now }
-    ensures { (i : ℕ) → i < 8 → slice_index result i ≡ count_by (is_end node i) links.now }
+    ensures { (i : ℕ) → i < MOST_LABELS → slice_index result i ≡ count_by (is_end node i) links.now }
 {
     let mut counts = [0; MOST_LABELS];
     for link in links {
@@ -38,9 +39,9 @@ fn link_counts(links: &[Link], node: u8) -> Counts
 
 /// Counts the letters of the word too.
 fn count_letters(counts: &mut Counts, word: &Word)
-    requires room { (i : ℕ) → i < 8 → slice_index counts.old i ≤ 256 }
+    requires room { (i : ℕ) → i < MOST_LABELS → slice_index counts.old i ≤ 256 }
     requires labels { HasWordLabels word.now }
-    ensures { (i : ℕ) → i < 8 → slice_index counts.new i ≡ slice_index counts.old i + count_by (is_label i) word.now }
+    ensures { (i : ℕ) → i < MOST_LABELS → slice_index counts.new i ≡ slice_index counts.old i + count_by (is_label i) word.now }
 {
     for place in 0..word.len() {
         if let Letter::At(label) = word.letter(place) {

@@ -3,12 +3,13 @@ ghost use Rattle.std.specs.List.{All, Contains};
 ghost use Rattle.gm_model.specs.declared.rule.Link.{Link};
 ghost use Rattle.gm_incident.specs.inner.Ranges.{HasEndsBelow32};
 ghost use Rattle.gm_incident.specs.inner.Reached.{IsReached, is_reached, unreached, IsJoinedToHook, HasSpread};
+ghost use Rattle.gm_model.specs.declared.limit.TheConstants.{MOST_NODES};
 
 use gm_model::{Link, MOST_NODES};
 
 /// Which nodes the links join to a hook, by the number of the node.
 pub fn joined_to(hooks: &[u8], links: &[Link]) -> [bool; MOST_NODES]
-    requires hooks { All (λ h. h < 32) hooks.now }
+    requires hooks { All (λ h. h < MOST_NODES) hooks.now }
     requires ends { HasEndsBelow32 links.now }
     ensures { (x : ℕ) → IsReached result x ↔ IsJoinedToHook links.now hooks.now x }
 {
@@ -19,7 +20,7 @@ pub fn joined_to(hooks: &[u8], links: &[Link]) -> [bool; MOST_NODES]
 
 /// A table in which these nodes are marked.
 fn marked(nodes: &[u8]) -> [bool; MOST_NODES]
-    requires { All (λ h. h < 32) nodes.now }
+    requires { All (λ h. h < MOST_NODES) nodes.now }
     ensures { (x : ℕ) → IsReached result x ↔ Contains nodes.now x }
 {
     let mut reached = [false; MOST_NODES];

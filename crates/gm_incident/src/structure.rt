@@ -6,6 +6,7 @@ ghost use Rattle.gm_model.specs.Structure.{AreGood, HasHook, IsPlainWord, HasPla
 ghost use Rattle.gm_incident.specs.inner.Faults.{IsFirstFault};
 ghost use Rattle.gm_incident.specs.inner.Ranges.{HasEndsBelow32, HasLeftFirst};
 ghost use Rattle.gm_incident.specs.inner.Words.{StandsBefore};
+ghost use Rattle.gm_model.specs.declared.limit.TheConstants.{MOST_NODES};
 
 use crate::joined::joined_to;
 use gm_model::{Letter, RuleFault, RuleTable, Side, Word};
@@ -13,8 +14,8 @@ use gm_model::{Letter, RuleFault, RuleTable, Side, Word};
 /// The first fault of the structure of a rule.
 pub fn check_structure(rule: &RuleTable) -> Result<(), RuleFault>
     requires left_first { HasLeftFirst (rule_of rule.now) }
-    requires nodes { length (rule_of rule.now).nodes ≤ 32 }
-    requires hooks { All (λ h. h < 32) rule.now.hooks }
+    requires nodes { length (rule_of rule.now).nodes ≤ MOST_NODES }
+    requires hooks { All (λ h. h < MOST_NODES) rule.now.hooks }
     requires ends { HasEndsBelow32 rule.now.left_links }
     ensures { MatchResult result (λ _. IsStructured (rule_of rule.now)) (λ fault. IsStructureFault (rule_of rule.now) fault) }
 {
@@ -89,7 +90,7 @@ fn stands_before(word: &Word, place: u8, letter: Letter) -> bool
 
 /// The first node with a word of another length than the first hook's.
 fn check_widths(rule: &RuleTable) -> Result<(), RuleFault>
-    requires { length (rule_of rule.now).nodes ≤ 32 }
+    requires { length (rule_of rule.now).nodes ≤ MOST_NODES }
     ensures { MatchResult result
         (λ _. AreGood (HasWidth (rule_of rule.now)) (length (rule_of rule.now).nodes))
         (λ fault. IsFirstFault (HasWidth (rule_of rule.now)) (length (rule_of rule.now).nodes) (λ x. RuleFault.WordLength x) fault) }
@@ -134,8 +135,8 @@ fn has_length(word: Option<Word>, wanted: u8) -> bool
 
 /// The first left node that isn't joined to a hook.
 fn check_connected(rule: &RuleTable) -> Result<(), RuleFault>
-    requires nodes { length (rule_of rule.now).nodes ≤ 32 }
-    requires hooks { All (λ h. h < 32) rule.now.hooks }
+    requires nodes { length (rule_of rule.now).nodes ≤ MOST_NODES }
+    requires hooks { All (λ h. h < MOST_NODES) rule.now.hooks }
     requires ends { HasEndsBelow32 rule.now.left_links }
     ensures { MatchResult result
         (λ _. AreGood (IsConnected (rule_of rule.now)) (length (rule_of rule.now).nodes))

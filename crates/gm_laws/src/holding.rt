@@ -8,6 +8,7 @@ ghost use Rattle.gm_arena.specs.inner.Lawful.{IsLawful};
 ghost use Rattle.gm_laws.specs.inner.Darts.{IsLabel};
 ghost use Rattle.gm_laws.specs.inner.Faults.{KeepsLaws};
 ghost use Rattle.gm_laws.specs.inner.Holding.{IsRowAt, DoMeet, AreSameAlong, Holds};
+ghost use Rattle.gm_model.specs.declared.limit.TheConstants.{MOST_DIMENSION};
 
 use gm_arena::{Arena, Slot, Steps};
 use gm_model::{Embed, Mask, Value};
@@ -173,7 +174,7 @@ fn does_share(
     values: &[Value],
     others: &[Value],
 ) -> bool
-    requires label { label ≤ 7 }
+    requires label { label ≤ MOST_DIMENSION }
     requires values { length values.now ≡ length embeds.now }
     requires others { length others.now ≡ length embeds.now }
     ensures same { IsTrue result → slot.at < to.at → AreSameAlong embeds.now label values.now others.now }
@@ -186,7 +187,7 @@ fn does_share(
 
 /// Whether the values are the same in each embedding whose orbits have the label.
 fn are_same_along(embeds: &[Embed], label: u8, values: &[Value], others: &[Value]) -> bool
-    requires label { label ≤ 7 }
+    requires label { label ≤ MOST_DIMENSION }
     requires values { length values.now ≡ length embeds.now }
     requires others { length others.now ≡ length embeds.now }
     ensures same { IsTrue result → AreSameAlong embeds.now label values.now others.now }
@@ -200,7 +201,7 @@ fn are_same_along(embeds: &[Embed], label: u8, values: &[Value], others: &[Value
 
 /// Whether the two values are the same, where the mask has the label.
 fn is_same_along(mask: Mask, label: u8, value: Value, other: Value) -> bool
-    requires label { label ≤ 7 }
+    requires label { label ≤ MOST_DIMENSION }
     ensures same { IsTrue result → IsTrue (has mask label) → other ≡ value }
 {
     if mask.has(label) {

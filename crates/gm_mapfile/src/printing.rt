@@ -13,6 +13,7 @@ ghost use Rattle.gm_arena.specs.declared.slot.Slot.{Slot};
 ghost use Rattle.gm_arena.specs.inner.Lawful.{IsLawful};
 ghost use Rattle.gm_mapfile.specs.inner.Printing.{renumbered};
 ghost use Rattle.gm_mapfile.specs.inner.Rows.{darts_of, listed_of};
+ghost use Rattle.gm_model.specs.declared.limit.TheConstants.{MOST_EMBEDS, MOST_LABELS};
 
 use crate::version::MapVersion;
 use gm_arena::{Arena, Row, Slot, Steps};
@@ -191,8 +192,8 @@ fn write_line<L: Ledger>(
     row: Row<'_>,
     steps: &mut Steps<L>,
 ) -> usize
-    requires names { length row.alphas.now ≤ 8 }
-    requires values { length row.values.now ≤ 8 }
+    requires names { length row.alphas.now ≤ MOST_LABELS }
+    requires values { length row.values.now ≤ MOST_EMBEDS }
     requires live { All (λ (s : Slot). IsLiveSlot arena.now s.at) row.alphas.now }
     ensures within { result ≤ length line.new }
     ensures line { drop result line.new ≡ line_of (record {

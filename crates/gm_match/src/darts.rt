@@ -1,5 +1,6 @@
 ghost use Rattle.std.specs.Prelude.{◌+◌, ◌≤◌, length, take, MatchResult};
 ghost use Rattle.gm_match.specs.inner.Layout.{AreHookSlots, IsNoDart};
+ghost use Rattle.gm_model.specs.declared.limit.TheConstants.{MOST_NODES};
 
 use crate::fault::MatchFault;
 use gm_arena::{Arena, Slot, Steps};
@@ -14,7 +15,7 @@ pub(crate) fn hook_darts<L: Ledger>(
     slots: &mut [Slot; MOST_NODES],
     steps: &mut Steps<L>,
 ) -> Result<(), MatchFault>
-    requires few { length hooks.now ≤ 32 }
+    requires few { length hooks.now ≤ MOST_NODES }
     ensures darts { MatchResult result
         (λ _. AreHookSlots arena.now hooks.now (take (length hooks.now) slots.new))
         (IsNoDart arena.now hooks.now) }

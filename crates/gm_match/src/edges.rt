@@ -8,6 +8,7 @@ ghost use Rattle.gm_model.specs.Rules.{rule_of, first_hook, label_at, letters, w
 ghost use Rattle.gm_plan.specs.inner.Plans.{IsLeftCount};
 ghost use Rattle.gm_walk.specs.inner.Walks.{AreLive, names_of};
 ghost use Rattle.gm_match.specs.inner.Layout.{AreHooksLaid, AreMatchable, AreRows, AreWalkedFrom, dart_at};
+ghost use Rattle.gm_model.specs.declared.limit.TheConstants.{MOST_NODES};
 
 use crate::columns::follow_links;
 use gm_arena::{Arena, Slot, Steps};
@@ -53,7 +54,7 @@ fn write_edge<L: Ledger>(
     requires walked { AreWalkedFrom arena.now plan.now darts.now walk.now }
     requires one { width (rule_of plan.now.table) ≡ 1 }
     requires nodes { IsLeftCount (rule_of plan.now.table) nodes }
-    requires few { nodes ≤ 32 }
+    requires few { nodes ≤ MOST_NODES }
     requires short { length walk.now ≤ 2 }
     requires long { length walk.now * nodes ≡ length slots.old }
     requires live { AreLive arena.now slots.old }
@@ -79,7 +80,7 @@ fn lay_hooks<L: Ledger>(
     requires walked { AreWalkedFrom arena.now plan.now darts.now walk.now }
     requires one { width (rule_of plan.now.table) ≡ 1 }
     requires nodes { IsLeftCount (rule_of plan.now.table) nodes }
-    requires few { nodes ≤ 32 }
+    requires few { nodes ≤ MOST_NODES }
     requires short { length walk.now ≤ 2 }
     requires long { length walk.now * nodes ≡ length slots.old }
     requires live { AreLive arena.now slots.old }
@@ -134,7 +135,7 @@ fn lay_ends(
     requires node { node < nodes }
     requires some { 0 < rows }
     requires short { rows ≤ 2 }
-    requires few { nodes ≤ 32 }
+    requires few { nodes ≤ MOST_NODES }
     requires long { rows * nodes ≡ length slots.old }
     requires one { IsLiveSlot arena.now one.at }
     requires other { IsLiveSlot arena.now other.at }

@@ -1,10 +1,12 @@
 -- Numbers of nodes, and the order of the left ones.
-use Rattle.std.proofs.Common.{◌≡◌, ℕ, ◌+◌, ◌-◌, ◌<◌, ◌≤◌, inl, inr, true, false, None, length, refl, arith}
-use Rattle.std.proofs.lemmas.Bool.{cases_lt}
-use Rattle.std.proofs.lemmas.Option.{slice_get_cases}
+use Rattle.std.proofs.Common.{◌≡◌, ℕ, ◌<◌, true, false, inl, inr, List, length, get_or, map, None, Some, refl, sym, ◌∙◌, ap}
+use Rattle.std.specs.List.{slice_get}
+use Rattle.std.specs.Option.{option_map}
+use Rattle.std.proofs.lemmas.List.{length-map}
+use Rattle.std.proofs.lemmas.Option.{slice_get-map, slice_get-get_or, slice_get_cases}
+use Rattle.gm_model.specs.declared.rule.Node.{Node}
 use Rattle.gm_model.specs.declared.rule.Side.{Side}
-use Rattle.gm_model.specs.declared.rule.Side.TheVariants.{Left}
-use Rattle.gm_model.specs.Rules.{Rule, word_at, has_word}
+use Rattle.gm_model.specs.Rules.{Rule, node_of, word_at, has_word}
 
 -- a node of a side is one of the nodes
 pub node_below : (rule : Rule) (side : Side) (x : ℕ) → has_word rule side x ≡ true → x < length rule.nodes
@@ -13,18 +15,8 @@ node_below rule side x h = elim ((slice_get_cases rule.nodes x).1) [
   | inr past ↦ absurd (let none : word_at rule side x ≡ None = rw past.1 refl in let e : has_word rule side x ≡ false = rw none refl in cc)
 ]
 
--- left nodes come first among the nodes below `count`
-abbrev pub AreLeftFirst : Rule → ℕ → Type 0
-AreLeftFirst rule count = (x y : ℕ) → x < y → y < count → has_word rule Left y ≡ true → has_word rule Left x ≡ true
-
-pub left_first_more : (rule : Rule) (n : ℕ) → 1 ≤ n → AreLeftFirst rule n → (has_word rule Left n ≡ true → has_word rule Left (n - 1) ≡ true) → AreLeftFirst rule (n + 1)
-left_first_more rule n p held last x y b w h = elim (cases_lt y n) [
-  | inl lt ↦ held x y b lt h
-  | inr ge ↦ (
-      let e : y ≡ n = omega arith in
-      let before : has_word rule Left (n - 1) ≡ true = last (rw (← e) h) in
-      elim (cases_lt x (n - 1)) [
-        | inl lt ↦ held x (n - 1) lt (omega arith) before
-        | inr ge' ↦ (let e' : x ≡ n - 1 = omega arith in rw e' before)
-      ])
-]
+-- a node of a table is that of its rule
+pub node_here : (nodes : List Node) (x : ℕ) (n : Node) → n ≡ get_or nodes x n → x < length (map node_of nodes) → slice_get (map node_of nodes) x ≡ Some (node_of n)
+node_here nodes x n e b =
+    let within : x < length nodes = rw (← length-map nodes node_of) b in
+    slice_get-map node_of nodes x ∙ ap (option_map node_of) (slice_get-get_or nodes x n within ∙ ap Some (sym e))

@@ -2,6 +2,7 @@
 use Rattle.std.specs.Prelude.{ℕ, ◌≤◌, ◌≡◌, Bool, false, List, [], ◌∷◌, length, codes}
 use Rattle.std.specs.List.{Contains, list_any}
 use Rattle.std.specs.Str.{bytes_eq}
+use Rattle.gm_model.specs.declared.limit.TheConstants.{MOST_NAME_BYTES}
 use Rattle.gm_model.specs.declared.token.TokenKind.TheVariants as kinds
 use Rattle.gm_model.specs.Tokens.{IsLexeme}
 
@@ -9,9 +10,9 @@ use Rattle.gm_model.specs.Tokens.{IsLexeme}
 abbrev pub IsNameToken : List ℕ → Type 0
 IsNameToken bytes = IsLexeme kinds.Name bytes
 
--- 1 to 32 bytes that are one
+-- a byte at least, not too many, that are one
 abbrev pub IsName : List ℕ → Type 0
-IsName bytes = (length bytes ≤ 32) × IsNameToken bytes
+IsName bytes = (length bytes ≤ MOST_NAME_BYTES) × IsNameToken bytes
 
 -- the words of the formats that can't be names of embeddings, rules, parameters and nodes
 abbrev pub reserved : List (List ℕ)

@@ -1,6 +1,7 @@
 -- Which rules are in range, what structure and incident arcs a rule must have, and which fault of these is the first.
 use Rattle.std.specs.Prelude.{◌≡◌, ◌≢◌, ℕ, ◌+◌, ◌<◌, ◌≤◌, true, ◌⊎◌, ◌↔◌, List, [], ◌∷◌, length, Some, slice_get, IsTrue, IsFalse}
 use Rattle.std.specs.List.{AllByRecursion, Contains, count_by}
+use Rattle.gm_model.specs.declared.limit.TheConstants.{MOST_LINKS, MOST_NODES, MOST_PARAMS}
 use Rattle.gm_model.specs.declared.word.Letter.{Letter}
 use Rattle.gm_model.specs.declared.word.Letter.TheVariants.{At, Gone}
 use Rattle.gm_model.specs.declared.rule.Link.{Link}
@@ -48,10 +49,10 @@ pub record IsInRange (schema : Schema) (rule : Rule) : Type 0 where
 
 -- the limits on the parts of a rule
 pub record IsWithinLimits (rule : Rule) : Type 0 where
-  pub nodes : length rule.nodes ≤ 32
-  pub left_links : length rule.left_links ≤ 256
-  pub right_links : length rule.right_links ≤ 256
-  pub params : length rule.params ≤ 8
+  pub nodes : length rule.nodes ≤ MOST_NODES
+  pub left_links : length rule.left_links ≤ MOST_LINKS
+  pub right_links : length rule.right_links ≤ MOST_LINKS
+  pub params : length rule.params ≤ MOST_PARAMS
 
 -- ---- structure
 

@@ -1,4 +1,3 @@
 pub mod Padded
 pub mod Entries
 pub mod NodeSteps
-pub mod Ranges

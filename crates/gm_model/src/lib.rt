@@ -10,7 +10,6 @@ mod items;
 mod limit;
 mod memory;
 mod name;
-mod range;
 mod rule;
 mod schema;
 mod script;
@@ -23,13 +22,15 @@ mod word;
 pub use dim::Dim;
 pub use expr::{BinOp, DartTerm, Expr, Path, UnOp};
 pub use items::Items;
-pub use limit::{LimitKind, MOST_DARTS, MOST_EMBEDS, MOST_NAMES};
+pub use limit::{
+    LimitKind, MOST_DARTS, MOST_DIMENSION, MOST_EMBEDS, MOST_LABELS, MOST_LETTERS, MOST_LINES,
+    MOST_LINKS, MOST_NAME_BYTES, MOST_NAMES, MOST_NODES, MOST_PARAMS, MOST_RULES, MOST_TOKENS,
+};
 pub use memory::OutOfMemory;
 pub use name::Name;
 pub use rule::{Book, Link, Node, Param, RuleFault, RuleTable, Set, Side};
 pub use schema::{Embed, Schema};
 pub use script::{LineRef, Script, StatRef};
-pub use sides::{MOST_LABELS, MOST_NODES};
 pub use step::Step;
 pub use token::{Token, TokenKind};
 pub use value::{Kind, Value};

@@ -3,15 +3,14 @@ ghost use Rattle.std.specs.List.{list_all};
 ghost use Rattle.gm_model.specs.Names.{IsName, IsNameToken};
 ghost use Rattle.gm_model.specs.Tokens.{is_letter, is_name_byte};
 
+use crate::limit::MOST_NAME_BYTES;
 use std::marker::Model;
-
-const MOST_BYTES: usize = 32;
 
 /// The name of an embedding, a rule, a parameter or a node: 1 to 32 bytes that are one name token
 /// of a text. A reserved word is one too. Contracts see the bytes.
 #[derive(Clone, Copy, Debug, PartialEq, Eq)]
 pub struct Name {
-    held: [u8; MOST_BYTES],
+    held: [u8; MOST_NAME_BYTES],
     used: u8,
 }
 
@@ -40,10 +39,10 @@ impl Name {
     pub fn new(bytes: &[u8]) -> Option<Name>
         ensures { SomeIff result (IsName bytes.now) bytes.now }
     {
-        if bytes.len() > MOST_BYTES || !is_name_token(bytes) {
+        if bytes.len() > MOST_NAME_BYTES || !is_name_token(bytes) {
             return None;
         }
-        let mut held = [0; MOST_BYTES];
+        let mut held = [0; MOST_NAME_BYTES];
         held[..bytes.len()].copy_from_slice(bytes);
         Some(Name {
             held,

@@ -1,18 +1,15 @@
 ghost use Rattle.std.specs.Prelude.{◌≡◌, ◌<◌, ℕ, List, [], length, slice_index_or, slice_set};
 ghost use Rattle.gm_model.specs.Rules.{step_in};
 ghost use Rattle.gm_model.specs.inner.NodeSteps.{step_or, letter_step};
+ghost use Rattle.gm_model.specs.declared.limit.TheConstants.{MOST_LABELS};
 
+use crate::limit::MOST_LABELS;
 use crate::rule::{Link, RuleTable, Side};
 use crate::step::Step;
 use crate::word::{Letter, Word};
 
-/// How many labels a map can have: 0 to the greatest dimension, 7.
-pub const MOST_LABELS: usize = 8;
-
-/// How many nodes a rule can have.
-pub const MOST_NODES: usize = 32;
-
 impl RuleTable {
+    ghost use Rattle.gm_model.specs.declared.limit.TheConstants.{MOST_LABELS};
     ghost use Rattle.std.specs.Prelude.{◌≡◌, ◌<◌, ◌≤◌, ℕ, Some, length, slice_get};
     ghost use Rattle.std.specs.Option.{option_and_then};
     ghost use Rattle.gm_model.specs.declared.rule.Side.TheVariants.{Left};
@@ -57,7 +54,7 @@ impl RuleTable {
 
     /// What the node has at each label on the side.
     pub fn steps(&self, side: Side, node: u8) -> [Step; MOST_LABELS]
-        ensures { (i : ℕ) → i < 8 → slice_get result i ≡ Some (step (rule_of self.now) side node i) }
+        ensures { (i : ℕ) → i < MOST_LABELS → slice_get result i ≡ Some (step (rule_of self.now) side node i) }
     {
         let mut steps = link_steps(self.links(side), node);
         if let Some(word) = self.word(side, node) {
@@ -69,7 +66,7 @@ impl RuleTable {
 
 /// What the links give the node at each label.
 fn link_steps(links: &[Link], node: u8) -> [Step; MOST_LABELS]
-    ensures { (i : ℕ) → i < 8 → slice_index_or result i Step.Absent ≡ step_in links.now [] node i }
+    ensures { (i : ℕ) → i < MOST_LABELS → slice_index_or result i Step.Absent ≡ step_in links.now [] node i }
 {
     let mut steps = [Step::Absent; MOST_LABELS];
     for link in links {
@@ -84,7 +81,7 @@ fn link_steps(links: &[Link], node: u8) -> [Step; MOST_LABELS]
 
 /// Adds the word's letters, at the labels where no link stands.
 fn add_letters(steps: &mut [Step; MOST_LABELS], word: &Word)
-    ensures { (i : ℕ) → i < 8 → slice_index_or steps.new i Step.Absent ≡ step_or (slice_index_or steps.old i Step.Absent) (letter_step word.now i) }
+    ensures { (i : ℕ) → i < MOST_LABELS → slice_index_or steps.new i Step.Absent ≡ step_or (slice_index_or steps.old i Step.Absent) (letter_step word.now i) }
 {
     for place in 0..word.len() {
         if let Letter::At(label) = word.letter(place) {

@@ -1,6 +1,7 @@
 ghost use Rattle.std.specs.Prelude.{◌≡◌, ◌<◌, ◌≤◌, length, slice_get, SomeIff};
 ghost use Rattle.gm_model.specs.Labels.{has};
 
+use crate::limit::MOST_LETTERS;
 use std::marker::Model;
 
 /// A set of labels: bit `i` stands for label `i`.
@@ -10,9 +11,10 @@ pub struct Mask {
 }
 
 impl Mask {
+    ghost use Rattle.gm_model.specs.declared.limit.TheConstants.{MOST_DIMENSION};
     /// Whether the label is in the set.
     pub fn has(self, label: u8) -> bool
-        requires { label ≤ 7 }
+        requires { label ≤ MOST_DIMENSION }
         ensures { result ≡ has self label }
     {
         (self.bits >> label) & 1 == 1
@@ -27,8 +29,6 @@ pub enum Letter {
     /// No label: the place is not used.
     Gone,
 }
-
-const MOST_LETTERS: usize = 8;
 
 /// The word of a node: at most 8 letters, whose places are counted from 0. Contracts see their list.
 #[derive(Clone, Copy, PartialEq, Eq)]
@@ -59,9 +59,10 @@ impl Model for Word {
 }
 
 impl Word {
+    ghost use Rattle.gm_model.specs.declared.limit.TheConstants.{MOST_LETTERS};
     /// The word of these letters, where there are at most 8.
     pub fn new(letters: &[Letter]) -> Option<Word>
-        ensures { SomeIff result (length letters.now ≤ 8) letters.now }
+        ensures { SomeIff result (length letters.now ≤ MOST_LETTERS) letters.now }
     {
         if letters.len() > MOST_LETTERS {
             return None;
@@ -77,7 +78,7 @@ impl Word {
     /// The number of letters.
     pub fn len(&self) -> u8
         ensures value { result ≡ length self.now }
-        ensures most { length self.now ≤ 8 }
+        ensures most { length self.now ≤ MOST_LETTERS }
     {
         self.used
     }

@@ -1,5 +1,6 @@
 -- How a form of an expression is spelled: its symbols with their roles and limits, and where it stands among the marks of a text.
 use Rattle.std.specs.Prelude.{◌≡◌, ℕ, ◌+◌, Bool, true, false, nat_lt, if◌then◌else◌, List, [], ◌∷◌, ◌++◌, length, map, Option, Some, None, codes}
+use Rattle.gm_model.specs.declared.limit.TheConstants.{MOST_NAME_BYTES, MOST_TOKENS}
 use Rattle.gm_model.specs.declared.expr.BinOp.{BinOp}
 use Rattle.gm_model.specs.declared.expr.BinOp.TheVariants as ops
 use Rattle.gm_model.specs.declared.limit.LimitKind.{LimitKind}
@@ -40,7 +41,7 @@ greatest = 9223372036854775807
 -- the limit that a symbol passes in a role
 abbrev pub limit_of : Role → Symbol → Option LimitKind
 limit_of Quantity (Numeral n) = if nat_lt greatest n then Some limits.Integer else None
-limit_of (NameAt place) (Word name) = if nat_lt 32 (length name) then Some limits.Name else None
+limit_of (NameAt place) (Word name) = if nat_lt MOST_NAME_BYTES (length name) then Some limits.Name else None
 limit_of (LabelAt n place) (Numeral label) = if nat_lt n label then Some limits.Label else None
 limit_of (StepAt n) (Numeral label) = if nat_lt n label then Some limits.Label else None
 limit_of _ _ = None
@@ -52,7 +53,7 @@ passed_by None true = Some limits.Expression
 passed_by None false = None
 
 abbrev pub limit_in : Counted → Symbol → Option LimitKind
-limit_in counted symbol = passed_by (limit_of counted.role symbol) (nat_lt 256 counted.ordinal)
+limit_in counted symbol = passed_by (limit_of counted.role symbol) (nat_lt MOST_TOKENS counted.ordinal)
 
 -- ---- spellings
 

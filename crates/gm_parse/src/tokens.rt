@@ -9,7 +9,7 @@ ghost use Rattle.gm_parse.specs.Spelling.{limit_in, limit_of};
 use crate::key::{Collector, Key};
 use crate::place::Place;
 use crate::table::meaning_or;
-use gm_model::{BinOp, Dim, LimitKind, Token, TokenKind};
+use gm_model::{BinOp, Dim, LimitKind, MOST_NAME_BYTES, MOST_TOKENS, Token, TokenKind};
 use gm_text::{Lexer, is_reserved};
 
 /// What the reserved words of expressions are to them.
@@ -48,10 +48,6 @@ static SIGNS: [(&[u8], Key); 16] = [
     (b">", Key::Operator(BinOp::Gt)),
     (b">=", Key::Operator(BinOp::Ge)),
 ];
-
-const MOST_TOKENS: usize = 256;
-
-const MOST_BYTES: usize = 32;
 
 const GREATEST: u64 = 9_223_372_036_854_775_807;
 
@@ -115,7 +111,7 @@ fn limit_of_key(
 {
     match key {
         Key::Number => limit_of_number(dim, place, lexer.value(token)),
-        Key::Name if lexer.text(token).len() > MOST_BYTES => Some(LimitKind::Name),
+        Key::Name if lexer.text(token).len() > MOST_NAME_BYTES => Some(LimitKind::Name),
         _ => None,
     }
 }

@@ -16,6 +16,7 @@ ghost use Rattle.gm_walk.specs.inner.Keys.{key_of};
 ghost use Rattle.gm_pending.specs.inner.Pairs.{IsPair};
 ghost use Rattle.gm_pending.specs.inner.Reached.{AreReached, AreResultDarts, AreSomeReached, IsClosed, IsGrown, IsSpreadTo, IsFollowedTo, IsFollowed, IsFollowedAlong, IsFollowedBut, IsGrownAlong, IsDecidedUpTo, IsAlwaysOneOrbit, IsUnmarked, AreMarkedTo, IsFollowedOut, IsGoneOn, LeadsBackOnly, ungiven};
 ghost use Rattle.gm_pending.specs.inner.Results.{IsPrepared, AreDecidingInstances, IsAsked, IsResultDart, IsUnfoldedIn, IsWithinReach, instances_of, with_instances, name_of, rule_in};
+ghost use Rattle.gm_model.specs.declared.limit.TheConstants.{MOST_LABELS};
 
 use crate::decided_orbits::{DecidedOrbits, DecidingInstances};
 use crate::deciding_instance::DecidingInstance;
@@ -415,8 +416,8 @@ fn pair_of(labels: Mask) -> Option<(u8, u8)>
 /// The lowest label of a set.
 fn lowest(labels: Mask) -> Option<u8>
     ensures { MatchOption result
-        ((i : ℕ) → i < 8 → has labels i ≡ false)
-        (λ label. (label < 8) × IsTrue (has labels label) × ((i : ℕ) → i < label → has labels i ≡ false)) }
+        ((i : ℕ) → i < MOST_LABELS → has labels i ≡ false)
+        (λ label. (label < MOST_LABELS) × IsTrue (has labels label) × ((i : ℕ) → i < label → has labels i ≡ false)) }
 {
     if labels.bits == 0 {
         return None;
@@ -426,10 +427,10 @@ fn lowest(labels: Mask) -> Option<u8>
 
 /// The labels of a set but one, where there is one.
 fn without(labels: Mask, one: Option<u8>) -> Mask
-    ensures among { (i : ℕ) → i < 8 → IsTrue (has result i) → IsTrue (has labels i) }
-    ensures others { (i : ℕ) → i < 8 → has result i ≡ false → (one ≡ Some i) ⊎ (has labels i ≡ false) }
-    ensures gone { (i : ℕ) → i < 8 → one ≡ Some i → has result i ≡ false }
-    ensures fewer { (i : ℕ) → i < 8 → one ≡ Some i → IsTrue (has labels i) → result.bits < labels.bits }
+    ensures among { (i : ℕ) → i < MOST_LABELS → IsTrue (has result i) → IsTrue (has labels i) }
+    ensures others { (i : ℕ) → i < MOST_LABELS → has result i ≡ false → (one ≡ Some i) ⊎ (has labels i ≡ false) }
+    ensures gone { (i : ℕ) → i < MOST_LABELS → one ≡ Some i → has result i ≡ false }
+    ensures fewer { (i : ℕ) → i < MOST_LABELS → one ≡ Some i → IsTrue (has labels i) → result.bits < labels.bits }
 {
     match one {
         Some(label) if label < 8 => Mask {

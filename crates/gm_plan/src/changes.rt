@@ -4,6 +4,7 @@ ghost use Rattle.gm_model.specs.declared.rule.Side.TheVariants.{Left, Right};
 ghost use Rattle.gm_model.specs.Rules.{rule_of, has_word, is_removed};
 ghost use Rattle.gm_plan.specs.inner.Changes.{AreMadeLabels, AreRemovedNodes, MakesNone, freed_step, is_steady, made_step};
 ghost use Rattle.gm_plan.specs.inner.Plans.{AreRows, AreSteps};
+ghost use Rattle.gm_model.specs.declared.limit.TheConstants.{MOST_LABELS, MOST_NODES};
 
 use crate::sides::Sides;
 use crate::table::{Row, StepAt, rows_of};
@@ -71,7 +72,7 @@ fn is_steady(rule: &RuleTable, left: &[Row], right: &[Row], node: u8, label: u8)
     requires left { AreSteps (rule_of rule.now) Left (length (rule_of rule.now).nodes) left.now }
     requires right { AreSteps (rule_of rule.now) Right (length (rule_of rule.now).nodes) right.now }
     requires node { node < length (rule_of rule.now).nodes }
-    requires label { label < 8 }
+    requires label { label < MOST_LABELS }
     ensures { result ≡ is_steady (rule_of rule.now) node label }
 {
     has_word(rule, Side::Left, node)
@@ -87,7 +88,7 @@ pub struct Changes {
 
 /// The steps that an application makes and frees, by those of both sides.
 pub fn changes_of(alloc: Global, rule: &RuleTable, sides: &Sides) -> Result<Changes, OutOfMemory>
-    requires few { length (rule_of rule.now).nodes ≤ 32 }
+    requires few { length (rule_of rule.now).nodes ≤ MOST_NODES }
     requires left { AreSteps (rule_of rule.now) Left (length (rule_of rule.now).nodes) sides.now.left.items }
     requires right { AreSteps (rule_of rule.now) Right (length (rule_of rule.now).nodes) sides.now.right.items }
     ensures { IfOk result (λ changes. AreRows (made_step (rule_of rule.now)) (length (rule_of rule.now).nodes) changes.made.items
@@ -103,7 +104,7 @@ pub fn changes_of(alloc: Global, rule: &RuleTable, sides: &Sides) -> Result<Chan
 
 /// Which nodes are removed: bit `x` stands for node `x`.
 pub fn nodes_removed(rule: &RuleTable) -> u32
-    requires { length (rule_of rule.now).nodes ≤ 32 }
+    requires { length (rule_of rule.now).nodes ≤ MOST_NODES }
     ensures { AreRemovedNodes (rule_of rule.now) result }
 {
     let mut goes = 0;
@@ -117,7 +118,7 @@ pub fn nodes_removed(rule: &RuleTable) -> u32
 
 /// The labels at which some node has a made step, by the rows of these.
 pub fn labels_made(rule: &RuleTable, made: &[Row]) -> Mask
-    requires few { length (rule_of rule.now).nodes ≤ 32 }
+    requires few { length (rule_of rule.now).nodes ≤ MOST_NODES }
     requires made { AreRows (made_step (rule_of rule.now)) (length (rule_of rule.now).nodes) made.now }
     ensures { AreMadeLabels (rule_of rule.now) result }
 {
@@ -132,9 +133,9 @@ pub fn labels_made(rule: &RuleTable, made: &[Row]) -> Mask
 
 /// Whether no node has a made step at the label.
 fn makes_none(rule: &RuleTable, made: &[Row], label: u8) -> bool
-    requires few { length (rule_of rule.now).nodes ≤ 32 }
+    requires few { length (rule_of rule.now).nodes ≤ MOST_NODES }
     requires made { AreRows (made_step (rule_of rule.now)) (length (rule_of rule.now).nodes) made.now }
-    requires label { label < 8 }
+    requires label { label < MOST_LABELS }
     ensures { IsTrue result ↔ MakesNone (rule_of rule.now) label }
 {
     for node in 0..rule.node_count() {

@@ -4,6 +4,7 @@ ghost use Rattle.gm_model.specs.Kinds.{IsTyped};
 ghost use Rattle.gm_model.specs.Structure.{IsInRange, IsWithinLimits};
 ghost use Rattle.gm_plan.specs.inner.Plans.{IsPlanned, plan_of};
 ghost use Rattle.gm_plan.specs.inner.Refusals.{IsRefusal};
+ghost use Rattle.gm_model.specs.declared.limit.TheConstants.{MOST_EMBEDS};
 
 use crate::plan::Plan;
 use gm_model::{OutOfMemory, RuleFault, RuleTable, Schema};
@@ -48,7 +49,7 @@ pub fn compile<'b>(
     schema: &'b Schema,
     rule: &'b RuleTable,
 ) -> Result<Plan<'b>, PlanFault>
-    requires embeds { length schema.now.embeds ≤ 8 }
+    requires embeds { length schema.now.embeds ≤ MOST_EMBEDS }
     requires in_range { IsInRange schema.now (rule_of rule.now) }
     requires within { IsWithinLimits (rule_of rule.now) }
     requires typed { IsTyped schema.now (rule_of rule.now) }

@@ -10,6 +10,7 @@ ghost use Rattle.gm_model.specs.Rules.{rule_of};
 ghost use Rattle.gm_plan.specs.inner.Paths.{ArePaths};
 ghost use Rattle.gm_plan.specs.inner.Plans.{IsPlanned, AreSteps};
 ghost use Rattle.gm_plan.specs.inner.Searches.{row_step, HasLabelsBelow, HasEndsWithin, rank_at, AreHookRanks, IsSearched};
+ghost use Rattle.gm_model.specs.declared.limit.TheConstants.{MOST_NODES};
 
 use crate::table::Row;
 use gm_model::{Link, MOST_NODES, OutOfMemory, RuleTable, Schema, Step};
@@ -63,7 +64,7 @@ pub fn least_paths(
 
 /// The ranks with which a search begins.
 fn hook_ranks(hooks: &[u8]) -> Ranks
-    requires { All (λ h. h < 32) hooks.now }
+    requires { All (λ h. h < MOST_NODES) hooks.now }
     ensures { AreHookRanks hooks.now result }
 {
     let mut ranks = [None; MOST_NODES];
@@ -74,10 +75,11 @@ fn hook_ranks(hooks: &[u8]) -> Ranks
 }
 
 impl Search {
+    ghost use Rattle.gm_model.specs.declared.limit.TheConstants.{MOST_LABELS, MOST_NODES};
     /// Follows each label from the nodes of the rank.
     fn follow_rank(&mut self, rows: &[Row], labels: u8, rank: u8) -> Result<(), OutOfMemory>
-        requires labels { labels ≤ 8 }
-        requires rows { length rows.now ≤ 32 }
+        requires labels { labels ≤ MOST_LABELS }
+        requires rows { length rows.now ≤ MOST_NODES }
         requires steps { HasLabelsBelow labels rows.now }
         requires ends { HasEndsWithin rows.now }
         requires rank { rank < self.now.count }
@@ -93,8 +95,8 @@ impl Search {
 
     /// Follows the label from the nodes of the rank. All nodes that are found so have the next rank.
     fn follow(&mut self, rows: &[Row], rank: u8, label: u8) -> Result<(), OutOfMemory>
-        requires label { label < 8 }
-        requires rows { length rows.now ≤ 32 }
+        requires label { label < MOST_LABELS }
+        requires rows { length rows.now ≤ MOST_NODES }
         requires ends { HasEndsWithin rows.now }
         requires rank { rank < self.now.count }
         requires room { self.now.count < 255 }
@@ -123,8 +125,8 @@ impl Search {
 
     /// The node to which the label leads from a node of the rank, if that isn't found yet.
     fn new_end(&self, rows: &[Row], rank: u8, label: u8, node: u8) -> Option<u8>
-        requires label { label < 8 }
-        requires rows { length rows.now ≤ 32 }
+        requires label { label < MOST_LABELS }
+        requires rows { length rows.now ≤ MOST_NODES }
         requires ends { HasEndsWithin rows.now }
         requires node { node < length rows.now }
         ensures { (y : ℕ) → (result ≡ Some y) ↔ ((rank_at self.now.ranks node ≡ Some rank) × (row_step rows.now node label ≡ Exp y) × (rank_at self.now.ranks y ≡ None)) }

@@ -53,6 +53,7 @@ impl<'b> Model for Plan<'b> {
 }
 
 impl<'b> Plan<'b> {
+    ghost use Rattle.gm_model.specs.declared.limit.TheConstants.{MOST_LABELS};
     ghost use Rattle.gm_model.specs.declared.rule.Side.TheVariants.{Left, Right};
     ghost use Rattle.gm_model.specs.declared.schema.Embed.{Embed};
     ghost use Rattle.gm_model.specs.declared.step.Step.TheVariants.{Absent};
@@ -163,7 +164,7 @@ impl<'b> Plan<'b> {
     /// What the node has at the label on the side.
     pub fn step(&self, side: Side, node: u8, label: u8) -> Step
         requires node { node < length (rule_of self.now.table).nodes }
-        requires label { label < 8 }
+        requires label { label < MOST_LABELS }
         ensures { result ≡ step (rule_of self.now.table) side node label }
     {
         match side {
@@ -176,7 +177,7 @@ impl<'b> Plan<'b> {
     /// makes its arcs.
     pub fn made_step(&self, node: u8, label: u8) -> Step
         requires node { node < length (rule_of self.now.table).nodes }
-        requires label { label < 8 }
+        requires label { label < MOST_LABELS }
         ensures { result ≡ made_step (rule_of self.now.table) node label }
     {
         self.made[node as usize][label as usize]
@@ -186,7 +187,7 @@ impl<'b> Plan<'b> {
     /// application frees its arcs.
     pub fn freed_step(&self, node: u8, label: u8) -> Step
         requires node { node < length (rule_of self.now.table).nodes }
-        requires label { label < 8 }
+        requires label { label < MOST_LABELS }
         ensures { result ≡ freed_step (rule_of self.now.table) node label }
     {
         self.freed[node as usize][label as usize]
@@ -216,7 +217,7 @@ impl<'b> Plan<'b> {
     /// Whether a match has to test a left step of the node.
     pub fn needs_test(&self, node: u8) -> bool
         requires { node < length (rule_of self.now.table).nodes }
-        ensures { result ≡ false → (i : ℕ) → i < 8 → IsForcedStep (rule_of self.now.table) node i }
+        ensures { result ≡ false → (i : ℕ) → i < MOST_LABELS → IsForcedStep (rule_of self.now.table) node i }
     {
         has_step(&self.tested[node as usize])
     }
@@ -225,7 +226,7 @@ impl<'b> Plan<'b> {
     /// `Step::Absent`: the candidate meets the step as it is made.
     pub fn tested_step(&self, node: u8, label: u8) -> Step
         requires node { node < length (rule_of self.now.table).nodes }
-        requires label { label < 8 }
+        requires label { label < MOST_LABELS }
         ensures forced { result ≡ Absent → IsForcedStep (rule_of self.now.table) node label }
         ensures kept { result ≢ Absent → result ≡ step (rule_of self.now.table) Left node label }
     {

@@ -4,6 +4,7 @@ ghost use Rattle.gm_model.specs.Rules.{rule_of, has_word};
 ghost use Rattle.gm_model.specs.Unfolding.{added_nodes};
 ghost use Rattle.gm_plan.specs.inner.Counts.{removed_nodes};
 ghost use Rattle.gm_plan.specs.inner.Plans.{AreSteps, IsLeftCount};
+ghost use Rattle.gm_model.specs.declared.limit.TheConstants.{MOST_NODES};
 
 use crate::table::Row;
 use gm_model::{OutOfMemory, RuleTable, Side};
@@ -11,7 +12,7 @@ use std::alloc::Global;
 
 /// The steps of each node on the side.
 fn side_steps(alloc: Global, rule: &RuleTable, side: Side) -> Result<Vec<Row>, OutOfMemory>
-    requires { length (rule_of rule.now).nodes ≤ 32 }
+    requires { length (rule_of rule.now).nodes ≤ MOST_NODES }
     ensures { IfOk result (λ rows. AreSteps (rule_of rule.now) side (length (rule_of rule.now).nodes) rows.items) }
 {
     let mut rows = Vec::new(alloc);
@@ -30,7 +31,7 @@ pub struct Sides {
 
 /// The steps of each node on both sides.
 pub fn sides_of(alloc: Global, rule: &RuleTable) -> Result<Sides, OutOfMemory>
-    requires { length (rule_of rule.now).nodes ≤ 32 }
+    requires { length (rule_of rule.now).nodes ≤ MOST_NODES }
     ensures { IfOk result (λ sides. AreSteps (rule_of rule.now) Left (length (rule_of rule.now).nodes) sides.left.items
         × AreSteps (rule_of rule.now) Right (length (rule_of rule.now).nodes) sides.right.items) }
 {
@@ -41,7 +42,7 @@ pub fn sides_of(alloc: Global, rule: &RuleTable) -> Result<Sides, OutOfMemory>
 
 /// How many left nodes the rule has.
 pub fn count_left(rule: &RuleTable) -> u8
-    requires within { length (rule_of rule.now).nodes ≤ 32 }
+    requires within { length (rule_of rule.now).nodes ≤ MOST_NODES }
     requires left_first { (x y : ℕ) → x < y → IsTrue (has_word (rule_of rule.now) Left y) → IsTrue (has_word (rule_of rule.now) Left x) }
     ensures { IsLeftCount (rule_of rule.now) result }
 {
@@ -55,7 +56,7 @@ pub fn count_left(rule: &RuleTable) -> u8
 
 /// How many nodes the rule adds.
 pub fn count_added(rule: &RuleTable) -> u8
-    requires { length (rule_of rule.now).nodes ≤ 32 }
+    requires { length (rule_of rule.now).nodes ≤ MOST_NODES }
     ensures { result ≡ added_nodes (rule_of rule.now) }
 {
     let mut added = 0;
@@ -69,7 +70,7 @@ pub fn count_added(rule: &RuleTable) -> u8
 
 /// How many nodes the rule removes.
 pub fn count_removed(rule: &RuleTable) -> u8
-    requires { length (rule_of rule.now).nodes ≤ 32 }
+    requires { length (rule_of rule.now).nodes ≤ MOST_NODES }
     ensures { result ≡ removed_nodes (rule_of rule.now) }
 {
     let mut removed = 0;

@@ -9,6 +9,7 @@ ghost use Rattle.gm_embcheck.specs.inner.Bounds.{HasBounds};
 ghost use Rattle.gm_embcheck.specs.inner.NodeSets.{IsIn};
 ghost use Rattle.gm_plan.specs.inner.Plans.{AreSteps, IsPlanned};
 ghost use Rattle.gm_plan.specs.inner.Sources.{AreSources, HasExactLetters, IsSources};
+ghost use Rattle.gm_model.specs.declared.limit.TheConstants.{MOST_DIMENSION, MOST_NODES};
 
 use crate::collecting::has_collectors;
 use crate::table::Row;
@@ -51,7 +52,7 @@ pub fn sources_of(
 fn sources_for(rule: &RuleTable, right: &[Row], top: u8, embed: u8, labels: Mask) -> Sources
     requires bounds { HasBounds (rule_of rule.now) }
     requires right { AreSteps (rule_of rule.now) Right (length (rule_of rule.now).nodes) right.now }
-    requires top { top ≤ 7 }
+    requires top { top ≤ MOST_DIMENSION }
     ensures { IsSources top (rule_of rule.now) embed (has labels) result }
 {
     let leaders = leaders_of(rule.links(Side::Right), labels);
@@ -65,7 +66,7 @@ fn sources_for(rule: &RuleTable, right: &[Row], top: u8, embed: u8, labels: Mask
 
 /// The nodes with an assignment to the embedding.
 fn assigned_nodes(rule: &RuleTable, embed: u8) -> NodeSet
-    requires { length (rule_of rule.now).nodes ≤ 32 }
+    requires { length (rule_of rule.now).nodes ≤ MOST_NODES }
     ensures { (x : ℕ) → x < length (rule_of rule.now).nodes → IsIn result x ↔ IsAssigned (rule_of rule.now) embed x }
 {
     let mut nodes = [false; MOST_NODES];
@@ -79,7 +80,7 @@ fn assigned_nodes(rule: &RuleTable, embed: u8) -> NodeSet
 fn exact_nodes(rule: &RuleTable, right: &[Row], top: u8, labels: Mask) -> NodeSet
     requires bounds { HasBounds (rule_of rule.now) }
     requires right { AreSteps (rule_of rule.now) Right (length (rule_of rule.now).nodes) right.now }
-    requires top { top ≤ 7 }
+    requires top { top ≤ MOST_DIMENSION }
     ensures { (x : ℕ) → x < length (rule_of rule.now).nodes → IsIn result x → HasExactLetters top (rule_of rule.now) (has labels) x }
 {
     let mut nodes = [false; MOST_NODES];
@@ -110,7 +111,7 @@ fn has_letters_among(rule: &RuleTable, labels: Mask, node: u8) -> bool
 
 /// Whether the steps turn at each of the labels.
 fn turns_at(steps: &Row, top: u8, labels: Mask) -> bool
-    requires { top ≤ 7 }
+    requires { top ≤ MOST_DIMENSION }
     ensures { IsTrue result → (i : ℕ) → i ≤ top → IsTrue (has labels i) → (m : ℕ) × (slice_index_or steps.now i Absent ≡ Imp m) }
 {
     for label in 0..top + 1 {

@@ -2,6 +2,7 @@
 ghost use Rattle.std.specs.Prelude.{◌≡◌, ℕ, ◌<◌, Some, slice_get, IfOk};
 ghost use Rattle.gm_model.specs.declared.step.Step.{Step};
 ghost use Rattle.gm_plan.specs.inner.Plans.{AreRows};
+ghost use Rattle.gm_model.specs.declared.limit.TheConstants.{MOST_LABELS};
 
 use gm_model::{MOST_LABELS, OutOfMemory, Step};
 use std::alloc::Global;
@@ -18,7 +19,7 @@ pub trait StepAt {
     /// The step of the node at the label.
     fn step_at(&self, node: u8, label: u8) -> Step
         requires node { can_step self.now node }
-        requires label { label < 8 }
+        requires label { label < MOST_LABELS }
         ensures { result ≡ step self.now node label };
 }
 
@@ -37,7 +38,7 @@ pub fn rows_of<S: StepAt>(alloc: Global, steps: &S, count: u8) -> Result<Vec<Row
 /// What the node has at each label.
 fn row_of<S: StepAt>(steps: &S, node: u8) -> Row
     requires { S.can_step steps.now node }
-    ensures { (i : ℕ) → i < 8 → slice_get result i ≡ Some (S.step steps.now node i) }
+    ensures { (i : ℕ) → i < MOST_LABELS → slice_get result i ≡ Some (S.step steps.now node i) }
 {
     let mut row = [Step::Absent; MOST_LABELS];
     for label in 0..MOST_LABELS as u8 {

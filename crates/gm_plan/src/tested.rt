@@ -7,6 +7,7 @@ ghost use Rattle.gm_plan.specs.inner.Paths.{ArePaths};
 ghost use Rattle.gm_plan.specs.inner.Plans.{AreRows, AreSteps, IsPlanned};
 ghost use Rattle.gm_plan.specs.inner.Searches.{row_step};
 ghost use Rattle.gm_plan.specs.inner.Tested.{AreListed, AreTests, is_end, is_step, is_walked, tested_step};
+ghost use Rattle.gm_model.specs.declared.limit.TheConstants.{MOST_LABELS, MOST_NODES};
 
 use crate::paths::{Paths, least_paths};
 use crate::table::{Row, StepAt, rows_of};
@@ -23,8 +24,8 @@ pub struct Test {
 
 /// The steps that the rows have at the first labels, by node and label.
 fn tests_of(alloc: Global, rows: &[Row], labels: u8) -> Result<Vec<Test>, OutOfMemory>
-    requires few { length rows.now ≤ 32 }
-    requires labels { labels ≤ 8 }
+    requires few { length rows.now ≤ MOST_NODES }
+    requires labels { labels ≤ MOST_LABELS }
     ensures { IfOk result (λ tests. AreListed (row_step rows.now) labels (length rows.now) 0 tests.items) }
 {
     let mut tests = Vec::new(alloc);
@@ -37,7 +38,7 @@ fn tests_of(alloc: Global, rows: &[Row], labels: u8) -> Result<Vec<Test>, OutOfM
 /// Puts the steps of the node's row behind those of the rows before it.
 fn list_row(tests: &mut Vec<Test>, rows: &[Row], node: u8, labels: u8) -> Result<(), OutOfMemory>
     requires node { node < length rows.now }
-    requires labels { labels ≤ 8 }
+    requires labels { labels ≤ MOST_LABELS }
     requires before { AreListed (row_step rows.now) labels node 0 tests.old.items }
     ensures { OnOk result (AreListed (row_step rows.now) labels (node + 1) 0 tests.new.items) }
 {

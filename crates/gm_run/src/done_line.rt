@@ -1,5 +1,6 @@
 //! The line of an application that is done, as most lines of a report are.
 ghost use Rattle.std.specs.Prelude.{◌≡◌, ◌+◌, ◌++◌, ◌≤◌, OnOk, codes, decimal, drop, length};
+ghost use Rattle.gm_model.specs.declared.limit.TheConstants.{MOST_NAME_BYTES};
 
 use gm_apply::Applied;
 use gm_model::OutOfMemory;
@@ -18,7 +19,7 @@ pub(crate) fn put_done_line(
     name: &[u8],
     applied: Applied,
 ) -> Result<(), OutOfMemory>
-    requires { length name.now ≤ 32 }
+    requires { length name.now ≤ MOST_NAME_BYTES }
     ensures { OnOk result (text.new ≡ text.old ++ (decimal number ++ codes " " ++ name.now ++ codes " " ++ (codes "done added " ++ decimal applied.added ++ codes " removed " ++ decimal applied.removed) ++ codes "\n")) }
 {
     let mut line = [0; LINE];

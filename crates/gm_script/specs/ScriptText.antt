@@ -2,6 +2,7 @@
 use Rattle.std.specs.Prelude.{◌≡◌, ◌≢◌, ℕ, ◌+◌, Bool, true, false, ◌&&◌, nat_lt, nat_le, if◌then◌else◌, ℤ, nat_abs, List, [], ◌∷◌, ◌++◌, length, map, Option, Some, None, codes, slice_get}
 use Rattle.std.specs.List.{position, AllByRecursion}
 use Rattle.std.specs.Str.{bytes_eq}
+use Rattle.gm_model.specs.declared.limit.TheConstants.{MOST_LINES, MOST_NAME_BYTES}
 use Rattle.gm_model.specs.declared.limit.LimitKind.{LimitKind}
 use Rattle.gm_model.specs.declared.limit.LimitKind.TheVariants as limits
 use Rattle.gm_model.specs.declared.rule.Param.{Param}
@@ -86,8 +87,8 @@ pub data Role : Type 0 where
 
 -- the limit that a symbol passes in a role
 abbrev pub limit_of : Role → Symbol → Option LimitKind
-limit_of (StatAt k place) (Word word) = if nat_lt 100000 k then Some limits.Lines else None
-limit_of (RuleAt place) (Word name) = if nat_lt 32 (length name) then Some limits.Name else None
+limit_of (StatAt k place) (Word word) = if nat_lt MOST_LINES k then Some limits.Lines else None
+limit_of (RuleAt place) (Word name) = if nat_lt MOST_NAME_BYTES (length name) then Some limits.Name else None
 limit_of Hook (Numeral n) = if nat_le most_names n then Some limits.DartName else None
 limit_of (LabelBehind n mask) (Numeral label) = if nat_lt n label then Some limits.Label else None
 limit_of (Size minus) (Numeral n) = if nat_lt (greatest minus) n then Some limits.Integer else None

@@ -9,10 +9,10 @@ ghost use Rattle.gm_script.specs.inner.SoFar.{IsKnown};
 
 use crate::fault::ScriptFault;
 use crate::near::{NameLead, index_of_name};
-use crate::reader::{Draft, MOST_LINES};
+use crate::reader::Draft;
 use crate::rules::RulesByName;
 use crate::sight::Head;
-use gm_model::{RuleTable, Script};
+use gm_model::{MOST_LINES, RuleTable, Script};
 use std::alloc::Global;
 use std::marker::Model;
 

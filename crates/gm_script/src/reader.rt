@@ -11,6 +11,7 @@ ghost use Rattle.gm_script.specs.inner.Faults.{IsFaultOf};
 ghost use Rattle.gm_script.specs.inner.Reading as reading;
 ghost use Rattle.gm_script.specs.inner.Reading.{Gives, IsInText, passed_of};
 ghost use Rattle.gm_script.specs.inner.SoFar.{Adds, IsCompared, IsKnown, IsSoFar};
+ghost use Rattle.gm_model.specs.declared.limit.TheConstants.{MOST_DIMENSION};
 
 use crate::comparing::Compared;
 use crate::fault::ScriptFault;
@@ -19,14 +20,10 @@ use crate::rules::RulesByName;
 use crate::sight::{Head, Sight};
 use crate::spot::Spot;
 use crate::values::fit;
-use gm_model::{Dim, LimitKind, LineRef, MOST_NAMES, Mask, Param, StatRef, Token, Value};
+use gm_model::{Dim, LimitKind, LineRef, MOST_LINES, MOST_NAME_BYTES, MOST_NAMES, Mask, Param, StatRef, Token, Value};
 use gm_text::with_label;
 use std::alloc::{AllocError, AllocFailed, Global};
 use std::marker::Model;
-
-const MOST_NAME_BYTES: usize = 32;
-
-pub(crate) const MOST_LINES: usize = 100_000;
 
 /// Why a text's lines can't be read: its first fault from left to right, or want of memory.
 #[derive(Drop)]
@@ -174,6 +171,7 @@ impl Model for Reader {
 }
 
 impl Reader {
+    ghost use Rattle.gm_model.specs.declared.limit.TheConstants.{MOST_DIMENSION};
     /// Nothing is read.
     pub(crate) fn new(alloc: Global) -> Reader
         ensures { result ≡ reading.nothing }
@@ -241,7 +239,7 @@ impl Reader {
     /// Reads a token, in which this is seen, where labels go up to `top`.
     pub(crate) fn take(&mut self, top: u8, sight: Sight, token: Token) -> Result<(), TextFault>
         requires order { token.start ≤ token.end }
-        requires top { top ≤ 7 }
+        requires top { top ≤ MOST_DIMENSION }
         ensures { Gives (λ _. self.new) result (reading.taken_at top sight token self.old) }
     {
         let place = token.start;
@@ -320,7 +318,7 @@ impl Reader {
     /// What the token passes, where it can stand.
     fn passed(&self, top: u8, sight: Sight, token: Token) -> Option<Passing>
         requires order { token.start ≤ token.end }
-        requires top { top ≤ 7 }
+        requires top { top ≤ MOST_DIMENSION }
         ensures { passed_of result ≡ reading.passed_in top self.now.spot (reading.been_of self.now) sight (token.end - token.start) }
     {
         if let Sight::Number(n) = sight {
@@ -337,7 +335,7 @@ impl Reader {
 
     /// Holds what is seen, where it can stand.
     fn hold(&mut self, top: u8, sight: Sight, token: Token) -> Result<(), TextFault>
-        requires top { top ≤ 7 }
+        requires top { top ≤ MOST_DIMENSION }
         requires good { reading.passed_in top self.old.spot (reading.been_of self.old) sight (token.end - token.start) ≡ None }
         ensures ok { OnOk result (self.new ≡ reading.hold self.old.spot sight token self.old) }
         ensures err { IfErr result (λ fault. fault ≡ TextFault.OutOfMemory) }
@@ -366,7 +364,7 @@ impl Reader {
     }
 
     fn begin(&mut self, head: Head, token: Token)
-        requires { self.old.begun < 100000 }
+        requires { self.old.begun < MOST_LINES }
         ensures { self.new ≡ reading.begun head token self.old }
     {
         self.begun += 1;
@@ -386,7 +384,7 @@ impl Reader {
 
     /// Holds a hook, a label, or a number of a value.
     fn number(&mut self, top: u8, n: u64) -> Result<(), TextFault>
-        requires top { top ≤ 7 }
+        requires top { top ≤ MOST_DIMENSION }
         requires good { reading.number_passes top self.old.spot self.old.stat.labels n ≡ None }
         ensures ok { OnOk result (self.new ≡ reading.hold_number self.old.spot n self.old) }
         ensures err { IfErr result (λ fault. fault ≡ TextFault.OutOfMemory) }
@@ -424,7 +422,7 @@ impl Reader {
     }
 
     fn label(&mut self, label: u8)
-        requires { label ≤ 7 }
+        requires { label ≤ MOST_DIMENSION }
         ensures { self.new ≡ reading.with_orbit label self.old }
     {
         self.stat.labels = with_label(self.stat.labels, label);
@@ -476,7 +474,7 @@ fn limit_where(passed: bool, what: LimitKind) -> Option<Passing>
 }
 
 fn number_passes(top: u8, spot: Spot, labels: Mask, n: u64) -> Option<Passing>
-    requires { top ≤ 7 }
+    requires { top ≤ MOST_DIMENSION }
     ensures { passed_of result ≡ reading.number_passes top spot labels n }
 {
     match spot {
@@ -487,7 +485,7 @@ fn number_passes(top: u8, spot: Spot, labels: Mask, n: u64) -> Option<Passing>
 }
 
 fn label_passes(top: u8, labels: Mask, label: u64) -> Option<Passing>
-    requires { top ≤ 7 }
+    requires { top ≤ MOST_DIMENSION }
     ensures { passed_of result ≡ reading.label_passes top labels label }
 {
     if label > u64::from(top) {

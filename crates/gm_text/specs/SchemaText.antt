@@ -2,6 +2,7 @@
 use Rattle.std.specs.Prelude.{◌≡◌, ◌≢◌, ℕ, zero, suc, ◌+◌, ◌^◌, Bool, false, true, ◌||◌, ◌==◌, nat_lt, if◌then◌else◌, List, [], ◌∷◌, ◌++◌, length, map, Option, Some, None, codes, decimal}
 use Rattle.std.specs.Int.Bits.{bit_or}
 use Rattle.std.specs.List.{flat_map, AllByRecursion}
+use Rattle.gm_model.specs.declared.limit.TheConstants.{MOST_DIMENSION, MOST_EMBEDS, MOST_LABELS, MOST_NAME_BYTES}
 use Rattle.gm_model.specs.declared.limit.LimitKind.{LimitKind}
 use Rattle.gm_model.specs.declared.limit.LimitKind.TheVariants as limits
 use Rattle.gm_model.specs.declared.schema.Embed.{Embed}
@@ -77,9 +78,9 @@ pub data Role : Type 0 where
 
 -- the limit that a symbol passes in a role
 abbrev pub limit_of : Role → Symbol → Option LimitKind
-limit_of Dimension (Numeral n) = if (n == 0) || nat_lt 7 n then Some limits.Dimension else None
-limit_of (EmbedWord k) (Word word) = if nat_lt 8 k then Some limits.Embeddings else None
-limit_of (NameAt names place) (Word name) = if nat_lt 32 (length name) then Some limits.Name else None
+limit_of Dimension (Numeral n) = if (n == 0) || nat_lt MOST_DIMENSION n then Some limits.Dimension else None
+limit_of (EmbedWord k) (Word word) = if nat_lt MOST_EMBEDS k then Some limits.Embeddings else None
+limit_of (NameAt names place) (Word name) = if nat_lt MOST_NAME_BYTES (length name) then Some limits.Name else None
 limit_of (LabelAt n mask place) (Numeral label) = if nat_lt n label then Some limits.Label else None
 limit_of _ _ = None
 
@@ -160,7 +161,7 @@ labels_below mask zero = []
 labels_below mask (suc k) = labels_below mask k ++ (if has mask k then k ∷ [] else [])
 
 unfoldable pub labels_in : Mask → List ℕ
-labels_in mask = labels_below mask 8
+labels_in mask = labels_below mask MOST_LABELS
 
 -- 1 2
 abbrev pub labels_text : List ℕ → List ℕ

@@ -8,6 +8,7 @@ ghost use Rattle.gm_text.specs.inner.Lexing.{IsBehindToken};
 ghost use Rattle.gm_text.specs.SchemaText.{no_labels};
 ghost use Rattle.gm_text.specs.inner.SchemaReading as states;
 ghost use Rattle.gm_text.specs.inner.SchemaAnswers.{IsSchemaRead, IsSchemaSkipped, IsSchemaFault, IsSkipFault, Reads, Stops, StopsOrLost, ReadsName, StopsAtName, ReadsLabel, StopsAtLabel, IsNoEmbedNext, IsEmbedNext, EndsEmbeds, SkipsEmbeds, SkipsSchema, ReadsDeclaration, StopsAtDeclaration, ReadsEmbed, StopsAtEmbed, marks_left};
+ghost use Rattle.gm_model.specs.declared.limit.TheConstants.{MOST_DIMENSION, MOST_EMBEDS};
 
 use crate::lexer::Lexer;
 use crate::schema_fault::SchemaFault;
@@ -98,7 +99,7 @@ fn read_label(
     mask: Mask,
     strict: bool,
 ) -> Result<Option<u8>, SchemaFault>
-    ensures small { IfOk result (λ found. IfSome found (λ label. label ≤ 7)) }
+    ensures small { IfOk result (λ found. IfSome found (λ label. label ≤ MOST_DIMENSION)) }
     ensures reads { IfOk result (ReadsLabel strict dim mask lexer.old lexer.new) }
     ensures stops { IfErr result (StopsAtLabel strict dim mask lexer.old) }
     ensures text { IfOk result (λ found. lexer.new.text ≡ lexer.old.text) }
@@ -191,7 +192,7 @@ fn next_embed(
 ) -> Result<Option<Embed>, SchemaFault>
     ensures reads { IfOk result (ReadsEmbed strict dim count known.now lexer.old lexer.new) }
     ensures stops { IfErr result (StopsAtEmbed strict dim count known.now lexer.old) }
-    ensures few { IfOk result (λ found. IfSome found (λ embed. count < 8)) }
+    ensures few { IfOk result (λ found. IfSome found (λ embed. count < MOST_EMBEDS)) }
     ensures text { IfOk result (λ found. lexer.new.text ≡ lexer.old.text) }
     ensures onward { IfOk result (λ found. IfSome found (λ embed. lexer.old.place < lexer.new.place)) }
     ensures within { IfOk result (λ found. IfSome found (λ embed. lexer.new.place ≤ length lexer.new.text)) }

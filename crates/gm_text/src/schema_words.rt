@@ -9,6 +9,7 @@ ghost use Rattle.gm_model.specs.Symbols.{Word, Sign};
 ghost use Rattle.gm_text.specs.SchemaText.{with_label};
 ghost use Rattle.gm_text.specs.inner.SchemaReading as reading;
 ghost use Rattle.gm_text.specs.inner.SchemaAnswers.{IsToken, IsNext, LacksToken, symbol_at};
+ghost use Rattle.gm_model.specs.declared.limit.TheConstants.{MOST_DIMENSION};
 
 use crate::lexer::Lexer;
 use crate::schema_fault::SchemaFault;
@@ -98,7 +99,7 @@ pub(crate) fn kind_named(lexer: &Lexer<'_>, token: &Token) -> Option<Kind>
 
 /// The labels of the mask, and this one.
 pub fn with_label(mask: Mask, label: u8) -> Mask
-    requires { label ≤ 7 }
+    requires { label ≤ MOST_DIMENSION }
     ensures { result ≡ with_label mask label }
 {
     Mask {

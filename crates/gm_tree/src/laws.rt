@@ -11,24 +11,25 @@ ghost use Rattle.gm_parse.specs.declared.fault.SyntaxFault.{SyntaxFault};
 ghost use Rattle.gm_parse.specs.inner.Answers.{HasFirstFault, IsExprRead, IsSyntaxFault};
 ghost use Rattle.gm_parse.specs.Meaning.{NameFault, Names, names_in};
 ghost use Rattle.gm_tree.specs.inner.FirstNames.{first_names};
+ghost use Rattle.gm_model.specs.declared.limit.TheConstants.{MOST_DIMENSION};
 
 /// Under the same names one tree at most stands at a place of a text, with the same tokens behind
 /// it: `a - b - c` has one grouping, and no reader can choose another.
 pub fn one_tree_at_most()
-    ensures { (n : ℕ) (names : Names) (old new other : Cursor) (tree second : Tree) → n ≤ 7 → IsExprRead n names old new tree → IsExprRead n names old other second → (tree ≡ second) × (marks_left new ≡ marks_left other) }
+    ensures { (n : ℕ) (names : Names) (old new other : Cursor) (tree second : Tree) → n ≤ MOST_DIMENSION → IsExprRead n names old new tree → IsExprRead n names old other second → (tree ≡ second) × (marks_left new ≡ marks_left other) }
 {}
 
 /// There is one first fault at most, its kind and place included: by the grammar and its limits, or
 /// else, of an expression that stands there, by its names.
 pub fn one_fault_at_most()
-    ensures names { (n : ℕ) (names : Names) (marks : List Mark) (fault other : NameFault) → n ≤ 7 → HasFirstFault n names marks fault → HasFirstFault n names marks other → fault ≡ other }
+    ensures names { (n : ℕ) (names : Names) (marks : List Mark) (fault other : NameFault) → n ≤ MOST_DIMENSION → HasFirstFault n names marks fault → HasFirstFault n names marks other → fault ≡ other }
     ensures syntax { (n : ℕ) (marks : List Mark) (fault other : SyntaxFault) → IsSyntaxFault n marks fault → IsSyntaxFault n marks other → fault ≡ other }
     ensures either { (n : ℕ) (names : Names) (marks : List Mark) (fault : NameFault) (other : SyntaxFault) → HasFirstFault n names marks fault → IsSyntaxFault n marks other → ⊥ }
 {}
 
 /// Where there is a fault no tree is read.
 pub fn no_tree_at_a_fault()
-    ensures names { (n : ℕ) (names : Names) (old new : Cursor) (tree : Tree) (fault : NameFault) → n ≤ 7 → IsExprRead n names old new tree → HasFirstFault n names (marks_left old) fault → ⊥ }
+    ensures names { (n : ℕ) (names : Names) (old new : Cursor) (tree : Tree) (fault : NameFault) → n ≤ MOST_DIMENSION → IsExprRead n names old new tree → HasFirstFault n names (marks_left old) fault → ⊥ }
     ensures syntax { (n : ℕ) (names : Names) (old new : Cursor) (tree : Tree) (fault : SyntaxFault) → IsExprRead n names old new tree → IsSyntaxFault n (marks_left old) fault → ⊥ }
 {}
 

@@ -134,6 +134,7 @@ fn collect(collector: Collector, mask: Mask, term: DartTerm, embed: u8) -> Expr
 }
 
 impl Builder {
+    ghost use Rattle.gm_model.specs.declared.limit.TheConstants.{MOST_DIMENSION};
     /// Goes on behind a name.
     pub(crate) fn go_behind_name(
         &mut self,
@@ -168,7 +169,7 @@ impl Builder {
     }
 
     pub(crate) fn label(&mut self, head: Head, mask: Mask, label: u8, place: usize) -> Partial
-        requires { label ≤ 7 }
+        requires { label ≤ MOST_DIMENSION }
         ensures { work_of self.new result ≡ labelled (frames_of self.old.waiting.items) (option_map name_fault self.old.least) head mask label place }
     {
         self.expect_once(mask.has(label), place);

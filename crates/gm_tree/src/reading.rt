@@ -11,6 +11,7 @@ ghost use Rattle.gm_tree.specs.inner.Built.{IsBuiltOver, IsLeastOrLost};
 ghost use Rattle.std.specs.Option.{option_map};
 ghost use Rattle.gm_parse.specs.Meaning.{IsUnsigned};
 ghost use Rattle.gm_tree.specs.inner.FirstNames.{first_names};
+ghost use Rattle.gm_model.specs.declared.limit.TheConstants.{MOST_DIMENSION};
 
 use crate::builder::Builder;
 use crate::partial::Partial;
@@ -41,7 +42,7 @@ fn go_on(lexer: &mut Lexer<'_>, dim: Dim, count: usize, state: &mut State) -> Op
 
 fn build(alloc: Global, lexer: &mut Lexer<'_>, env: &Env<'_>) -> Result<Built, OutOfMemory>
     requires { HasExpr env.now.schema.now.dim lexer.old }
-    ensures top { IfOk result (λ _. env.now.schema.now.dim ≤ 7) }
+    ensures top { IfOk result (λ _. env.now.schema.now.dim ≤ MOST_DIMENSION) }
     ensures over { IfOk result (λ built. IsBuiltOver env.now.schema.now.dim (first_names env.now.schema.now env.now.params.now env.now.nodes.now) lexer.old lexer.new (work_of built.builder built.partial)) }
 {
     let dim = env.schema.dim;

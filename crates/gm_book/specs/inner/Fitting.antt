@@ -1,6 +1,7 @@
 -- What of a rule's form passes no limit.
 use Rattle.std.specs.Prelude.{ℕ, ◌≤◌, length}
 use Rattle.std.specs.List.{AllByRecursion}
+use Rattle.gm_model.specs.declared.limit.TheConstants.{MOST_LINKS, MOST_NODES, MOST_PARAMS}
 use Rattle.gm_model.specs.Structure.{HasLabelsUpTo}
 use Rattle.gm_forms.specs.BookText.{Item, NodeItem, LinkItem, RuleForm, IsItem, IsPre, counted, no_count, nodes_of}
 use Rattle.gm_model.specs.declared.rule.Side.TheVariants.{Right}
@@ -12,10 +13,10 @@ IsLowItem n (LinkItem from label to) = label ≤ n
 
 -- the parts of the rule pass no limit
 pub record IsFitting (n : ℕ) (rule : RuleForm) : Type 0 where
-  pub nodes : length (nodes_of rule) ≤ 32
-  pub params : length rule.params ≤ 8
-  pub left_links : (counted no_count rule.left).links ≤ 256
-  pub right_links : (counted no_count rule.right).links ≤ 256
+  pub nodes : length (nodes_of rule) ≤ MOST_NODES
+  pub params : length rule.params ≤ MOST_PARAMS
+  pub left_links : (counted no_count rule.left).links ≤ MOST_LINKS
+  pub right_links : (counted no_count rule.right).links ≤ MOST_LINKS
   pub left : AllByRecursion (IsLowItem n) rule.left
   pub right : AllByRecursion (IsLowItem n) rule.right
 

@@ -3,6 +3,7 @@ use Rattle.std.specs.Prelude.{◌≡◌, ℕ, ◌+◌, ◌^◌, ◌-◌, ◌<◌
 use Rattle.std.specs.List.{list_any}
 use Rattle.std.specs.Option.{option_map}
 use Rattle.std.specs.Str.{bytes_eq}
+use Rattle.gm_model.specs.declared.limit.TheConstants.{MOST_LINES, MOST_NAME_BYTES}
 use Rattle.gm_model.specs.declared.limit.LimitKind.TheVariants as limits
 use Rattle.gm_model.specs.declared.token.Token.{Token}
 use Rattle.gm_model.specs.declared.token.TokenKind.TheVariants as tokens
@@ -300,14 +301,14 @@ number_passes n spots.Orbit labels m = label_passes n labels m
 number_passes n spot labels m = if nat_lt (greatest (is_minus spot)) m then Some (LimitOf limits.Integer) else None
 
 abbrev pub name_passes : ℕ → Option Passed
-name_passes size = if nat_lt 32 size then Some (LimitOf limits.Name) else None
+name_passes size = if nat_lt MOST_NAME_BYTES size then Some (LimitOf limits.Name) else None
 
 -- what is passed at the spot, where so much has been and the token has so many bytes
 abbrev pub passed_in : ℕ → Spot → Been → Sight → ℕ → Option Passed
 passed_in n spot been (sights.Number m) size = number_passes n spot been.labels m
 passed_in n spots.Apply been sight size = name_passes size
 passed_in n spots.Over been sight size = name_passes size
-passed_in n spot been (sights.Begins head) size = if nat_lt 100000 (been.begun + 1) then Some (LimitOf limits.Lines) else None
+passed_in n spot been (sights.Begins head) size = if nat_lt MOST_LINES (been.begun + 1) then Some (LimitOf limits.Lines) else None
 passed_in n _ been _ _ = None
 
 -- ---- what is held of it

@@ -3,7 +3,7 @@ use Rattle.std.specs.List.{slice_get}
 use Rattle.std.proofs.lemmas.List.{length-map}
 use Rattle.gm_model.specs.declared.rule.Node.{Node}
 use Rattle.gm_model.specs.Rules.{rule_of, node_of, assignment_of}
-use Rattle.gm_model.proofs.Assigned.{node_here}
+use Rattle.gm_model.proofs.Nodes.{node_here}
 use Rattle.gm_apply.proofs.Assignments.{set_is_there, set_is_assigned, assigned_within}
 use Rattle.gm_apply.proofs.reading.assignment.Goals as goal
 

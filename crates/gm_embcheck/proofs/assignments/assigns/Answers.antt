@@ -2,7 +2,7 @@ use Rattle.std.proofs.Common.{◌≡◌, get_or, map, Some, sym, ◌∙◌, ap}
 use Rattle.std.specs.List.{slice_get}
 use Rattle.gm_model.specs.declared.rule.Node.{Node}
 use Rattle.gm_model.specs.Rules.{rule_of, node_of, assignment_of}
-use Rattle.gm_model.proofs.Assigned.{node_here}
+use Rattle.gm_model.proofs.Nodes.{node_here}
 use Rattle.gm_embcheck.proofs.Assigned.{is_assigned, sets_embed}
 use Rattle.gm_embcheck.proofs.assignments.assigns.Goals as goal
 

@@ -3,7 +3,7 @@ use Rattle.std.specs.List.{slice_get}
 use Rattle.std.proofs.lemmas.Bool.{false≢true}
 use Rattle.std.proofs.lemmas.Option.{slice_get-get_or, slice_get_within}
 use Rattle.gm_model.specs.declared.rule.Set.{Set}
-use Rattle.gm_model.proofs.Each.{each_more}
+use Rattle.gm_embcheck.proofs.Each.{each_more}
 use Rattle.gm_embcheck.proofs.assignments.sets_embed.Goals as goal
 
 pub loop-set-init : goal.loop-set-init

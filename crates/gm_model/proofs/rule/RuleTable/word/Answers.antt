@@ -3,7 +3,7 @@ use Rattle.std.specs.List.{slice_get}
 use Rattle.std.proofs.lemmas.List.{length-map}
 use Rattle.gm_model.specs.declared.rule.Node.{Node}
 use Rattle.gm_model.specs.Rules.{node_of}
-use Rattle.gm_model.proofs.Assigned.{node_here}
+use Rattle.gm_model.proofs.Nodes.{node_here}
 use Rattle.gm_model.proofs.rule.RuleTable.word.Goals as goal
 
 pub returns-in-Left : goal.returns-in-Left
