@@ -16,7 +16,7 @@ use Rattle.gm_eval.specs.declared.kept.Entry.{Entry as KeptEntry}
 use Rattle.gm_eval.specs.inner.Keeping.{KeptOf}
 use Rattle.gm_eval.specs.inner.Sharing.{AreKeptOnce, HasRoom, HasUnitsBeside, IsAtHand, IsShared, Reads, StillKept, collectors_of}
 use Rattle.gm_eval.proofs.Adding.{has_room}
-use Rattle.gm_eval.proofs.Sharing.{none_to_read, still_at_hand, units_more}
+use Rattle.gm_eval.proofs.Sharing.{none_to_read, own_among_all, still_at_hand, units_more}
 use Rattle.gm_pending.specs.declared.deciding_instance.DecidingInstance.{DecidingInstance as Entry}
 use Rattle.gm_pending.specs.inner.Results.{PendingOf, given_at, instances_of, place_of}
 use Rattle.gm_apply.specs.declared.reading.Reading.{Reading}
@@ -198,7 +198,7 @@ module _ (reading : Reading) (e : ℕ) (places : List (ℕ × ℕ)) (count : ℕ
         now_left opened tree expression c (j, q, less, there, reads, shared, few) = go (cases_eq j i)
           where
             room : HasRoom new.entries
-            room = has_room new.entries (collectors_of tree) (some_stays old.entries new.entries still (h.some opened)) (once h.once) (now_among tree expression) few
+            room = has_room new.entries (collectors_of tree) (some_stays old.entries new.entries still (h.some opened)) (once h.once) (now_among tree expression) (let own = own_among_all tree in omega (arith, own, few))
 
             go : (j ≡ i) ⊎ (j ≡ i → ⊥) → IsAtHand new.entries c
             go (inl same) =

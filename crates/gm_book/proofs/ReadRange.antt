@@ -15,6 +15,7 @@ use Rattle.gm_model.specs.declared.schema.Schema.{Schema}
 use Rattle.gm_model.specs.declared.schema.Embed.{Embed}
 use Rattle.gm_model.specs.declared.value.Kind.{Kind}
 use Rattle.gm_model.specs.declared.value.Kind.TheVariants as kinds
+use Rattle.gm_model.specs.inner.Collectors.{collector_count, most_collectors, HasFewCollectors}
 use Rattle.gm_model.specs.Kinds.{IsTermInRange, IsTreeInRange, HasKind, IsTyped, embed_kind, param_kinds}
 use Rattle.gm_model.specs.Rules.{Rule, RuleNode, Assignment, Assigns, has_word, word_on, letters, links_on}
 use Rattle.gm_model.specs.Structure.{HasLabelsUpTo, IsLinkInRange, IsInRange, IsWithinLimits}
@@ -22,6 +23,7 @@ use Rattle.gm_model.specs.Trees.{Tree, Number, Truth, Param as Parameter, Field,
 use Rattle.gm_parse.specs.Meaning.{IsUnsigned}
 use Rattle.gm_expr.specs.ExprText.{embed_name}
 use Rattle.gm_expr.specs.inner.Writable as trees
+use Rattle.gm_expr.proofs.CanonicalLength.{few_collectors}
 use Rattle.gm_expr.proofs.Found.{param_low, embed_low, node_there}
 use Rattle.gm_forms.specs.BookText.{BookText}
 use Rattle.gm_book.specs.inner.Unsigned.{HasUnsignedExprs}
@@ -243,6 +245,9 @@ module _ (schema : Schema) (rule : Rule) (ok : IsWritable schema.dim rule) where
     value_typed : (tree : Tree) (kind : Kind) → IsGoodValue schema rule tree (Some kind) → HasKind schema rule tree kind
     value_typed tree kind good = record { in_range = tree_in_range tree good.can; kind_is = good.kind_is }
 
+    value_few : (tree : Tree) (kind : Option Kind) → IsGoodValue schema rule tree kind → collector_count tree ≤ most_collectors
+    value_few tree kind good = few_collectors schema.embeds rule.params rule.nodes schema.dim tree [] (good.short [])
+
     assigned_value : (x e : ℕ) (tree : Tree) → Assigns rule x e tree → IsGoodValue schema rule tree (embed_kind schema.embeds (param_kinds rule.params) e)
     assigned_value x e tree (node, here, has) = let (k, there) = placed node _ has in (good_set x node k _ here there).value
 
@@ -257,6 +262,12 @@ module _ (schema : Schema) (rule : Rule) (ok : IsWritable schema.dim rule) where
     writable_unsigned = record {
       pre = λ tree is. tree_unsigned tree (exprs.pre tree is).can;
       sets = λ x e tree assigns. tree_unsigned tree (assigned_value x e tree assigns).can;
+    }
+
+    pub writable_few : HasFewCollectors rule
+    writable_few = record {
+      pre = λ tree is. value_few tree (Some kinds.Bool) (exprs.pre tree is);
+      sets = λ x e tree assigns. value_few tree _ (assigned_value x e tree assigns);
     }
 
   pub writable_within : IsWithinLimits rule
@@ -276,3 +287,11 @@ each_good schema (rule ∷ rules) ok exprs =
 pub range_from_text : (whole : List ℕ) (version : ℕ) (schema : Schema) (rules : List Rule) → BookText whole version schema rules → All (λ rule. IsInRange schema rule × IsWithinLimits rule × IsTyped schema rule × HasUnsignedExprs rule) rules
 range_from_text whole version schema rules stands =
     All-from_recursion (IsGoodRead schema) rules (each_good schema rules (writable_from_text whole version schema rules stands).each (exprs_from_text whole version schema rules stands))
+
+each_few : (schema : Schema) (rules : List Rule) → AllByRecursion (IsWritable schema.dim) rules → AllByRecursion (HasGoodExprs schema) rules → AllByRecursion HasFewCollectors rules
+each_few schema [] ok exprs = tt
+each_few schema (rule ∷ rules) ok exprs = (writable_few schema rule ok.0 exprs.0, each_few schema rules ok.1 exprs.1)
+
+pub few_from_text : (whole : List ℕ) (version : ℕ) (schema : Schema) (rules : List Rule) → BookText whole version schema rules → All HasFewCollectors rules
+few_from_text whole version schema rules stands =
+    All-from_recursion HasFewCollectors rules (each_few schema rules (writable_from_text whole version schema rules stands).each (exprs_from_text whole version schema rules stands))

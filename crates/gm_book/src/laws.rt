@@ -1,6 +1,8 @@
 //! What holds of the texts of books, whoever reads or prints them.
 ghost use Rattle.std.specs.Prelude.{◌≡◌, ◌≢◌, ◌≤◌, ℕ, List, All, length};
 ghost use Rattle.gm_model.specs.declared.schema.Schema.{Schema};
+ghost use Rattle.gm_model.specs.declared.limit.TheConstants.{MOST_RULES};
+ghost use Rattle.gm_model.specs.inner.Collectors.{HasFewCollectors};
 ghost use Rattle.gm_model.specs.Kinds.{IsTyped};
 ghost use Rattle.gm_model.specs.Rules.{Rule};
 ghost use Rattle.gm_model.specs.Structure.{IsInRange, IsWithinLimits};
@@ -36,7 +38,7 @@ pub fn what_is_printed_is_read_again()
 
 /// A text stands for a book of 256 rules at most.
 pub fn few_rules_at_most()
-    ensures { (text : List ℕ) (version : ℕ) (schema : Schema) (rules : List Rule) → BookText text version schema rules → length rules ≤ 256 }
+    ensures { (text : List ℕ) (version : ℕ) (schema : Schema) (rules : List Rule) → BookText text version schema rules → length rules ≤ MOST_RULES }
 {}
 
 /// In version 1 a rule that a text stands for has one hook at most.
@@ -49,4 +51,10 @@ pub fn one_hook_at_most_in_version_one()
 /// negative.
 pub fn what_is_read_is_in_range()
     ensures { (text : List ℕ) (version : ℕ) (schema : Schema) (rules : List Rule) → BookText text version schema rules → All (λ rule. IsInRange schema rule × IsWithinLimits rule × IsTyped schema rule × HasUnsignedExprs rule) rules }
+{}
+
+/// An expression of a rule that a text stands for has 36 collectors at most, so what an application
+/// keeps of them for its later readings has room for each.
+pub fn few_collectors_at_most()
+    ensures { (text : List ℕ) (version : ℕ) (schema : Schema) (rules : List Rule) → BookText text version schema rules → All HasFewCollectors rules }
 {}

@@ -9,6 +9,7 @@ use Rattle.gm_model.specs.declared.value.Value.{Value}
 use Rattle.gm_model.specs.declared.value.Value.TheVariants as values
 use Rattle.gm_model.specs.declared.word.Mask.{Mask}
 use Rattle.gm_model.specs.Expressions.{Reading, HasValue, HasNoValue, HasUnits}
+use Rattle.gm_model.specs.inner.Collectors.{collector_count}
 use Rattle.gm_model.specs.Trees.{Tree, Number, Truth, Param, Field, Same, Count, Sum, Least, Greatest, Unary, Binary, If, MakeVec2, MakeVec3, MakeRgb}
 use Rattle.gm_theory.proofs.Lists.{none_some, some_same}
 use Rattle.gm_theory.proofs.ReadingsDecided.{not_both_truths}
@@ -21,7 +22,7 @@ use Rattle.gm_eval.specs.declared.reader.Reader.{Reader}
 use Rattle.gm_eval.specs.inner.Keeping.{collector_at}
 use Rattle.gm_eval.specs.inner.Places.{IsWithinUnits}
 use Rattle.gm_eval.specs.inner.Readers.{AreLeft, IsOfMean, IsWithin, MeanUnits, OwnUnits, Read, UnitsBeside, reading_of}
-use Rattle.gm_eval.specs.inner.Sharing.{HasOwnUnits, HasRoom, HasUnitsBeside, IsAtHand, IsOwn, Reads, StillKept}
+use Rattle.gm_eval.specs.inner.Sharing.{HasOwnUnits, HasRoom, HasUnitsBeside, IsAtHand, IsOwn, Reads, StillKept, collectors_of, own_collector, where_empty}
 use Rattle.gm_eval.proofs.Costs.{both_within, one_within}
 
 -- ---- what was kept still is
@@ -67,6 +68,36 @@ pub of_mean_in : (mask : Mask) (term : DartTerm) (e : ℕ) (c : Collector) (kept
     → IsAtHand kept (record { form = forms.Count; mask = mask; node = term.node; embed = 0 }) → IsAtHand kept c
 of_mean_in mask term e c kept (inl own) sum count = subst (IsAtHand kept) (sym own.1) sum
 of_mean_in mask term e c kept (inr own) sum count = subst (IsAtHand kept) (sym own.1) count
+
+-- ---- how many there are
+
+one_at_most : (path : List ℕ) (c : Collector) → length (where_empty path c) ≤ 1
+one_at_most [] c = omega arith
+one_at_most (i ∷ path) c = omega arith
+
+own_at_most : (form : Form) (mask : Mask) (term : DartTerm) (e : ℕ) → length (own_collector form mask term e) ≤ 1
+own_at_most form mask term e = one_at_most term.path _
+
+two_at_most : (xs ys : List Collector) (m n : ℕ) → length xs ≤ m → length ys ≤ n → length (xs ++ ys) ≤ m + n
+two_at_most xs ys m n few others = let both = length-append xs ys in omega (arith, both, few, others)
+
+-- those over the orbit of a node's own dart are no more than all
+pub own_among_all : (tree : Tree) → length (collectors_of tree) ≤ collector_count tree
+own_among_all (Number n) = omega arith
+own_among_all (Truth b) = omega arith
+own_among_all (Param k) = omega arith
+own_among_all (Field d e) = omega arith
+own_among_all (Same d d') = omega arith
+own_among_all (Count o d) = own_at_most forms.Count o d 0
+own_among_all (Sum o d e) = own_at_most forms.Sum o d e
+own_among_all (Least o d e) = own_at_most forms.Least o d e
+own_among_all (Greatest o d e) = own_at_most forms.Greatest o d e
+own_among_all (Unary op a) = own_among_all a
+own_among_all (Binary op a b) = two_at_most (collectors_of a) (collectors_of b) _ _ (own_among_all a) (own_among_all b)
+own_among_all (If c a b) = two_at_most (collectors_of c) (collectors_of a ++ collectors_of b) _ _ (own_among_all c) (two_at_most (collectors_of a) (collectors_of b) _ _ (own_among_all a) (own_among_all b))
+own_among_all (MakeVec2 a b) = two_at_most (collectors_of a) (collectors_of b) _ _ (own_among_all a) (own_among_all b)
+own_among_all (MakeVec3 a b c) = two_at_most (collectors_of a) (collectors_of b ++ collectors_of c) _ _ (own_among_all a) (two_at_most (collectors_of b) (collectors_of c) _ _ (own_among_all b) (own_among_all c))
+own_among_all (MakeRgb a b c) = two_at_most (collectors_of a) (collectors_of b ++ collectors_of c) _ _ (own_among_all a) (two_at_most (collectors_of b) (collectors_of c) _ _ (own_among_all b) (own_among_all c))
 
 -- ---- units beside what is at hand
 

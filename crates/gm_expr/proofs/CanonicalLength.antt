@@ -18,6 +18,7 @@ use Rattle.gm_model.specs.Names.{Mention}
 use Rattle.gm_model.specs.Reading.{Part, word, sign}
 use Rattle.gm_model.specs.Rules.{RuleNode, name_at}
 use Rattle.gm_model.specs.Symbols.{Word, Mark}
+use Rattle.gm_model.specs.inner.Collectors.{collector_count, most_collectors}
 use Rattle.gm_model.specs.Trees.{Tree, Number, Truth, Param as Parameter, Field, Same, Count, Sum, Least, Greatest, Unary, Binary, If, MakeVec2, MakeVec3, MakeRgb}
 use Rattle.gm_text.specs.SchemaText.{LabelForm, labels_in}
 use Rattle.gm_parse.specs.declared.function.Function.{Function}
@@ -134,6 +135,24 @@ tree_size (If c a b) = tree_size c + tree_size a + tree_size b + 3
 tree_size (MakeVec2 a b) = tree_size a + tree_size b + 4
 tree_size (MakeVec3 a b c) = tree_size a + tree_size b + tree_size c + 5
 tree_size (MakeRgb a b c) = tree_size a + tree_size b + tree_size c + 5
+
+-- a collector takes six parts, and one stands between two
+collectors_take : (tree : Tree) → 7 * collector_count tree ≤ tree_size tree + 1
+collectors_take (Number z) = omega arith
+collectors_take (Truth b) = omega arith
+collectors_take (Parameter k) = omega arith
+collectors_take (Field d e) = omega arith
+collectors_take (Same d d') = omega arith
+collectors_take (Count o d) = omega arith
+collectors_take (Sum o d e) = omega arith
+collectors_take (Least o d e) = omega arith
+collectors_take (Greatest o d e) = omega arith
+collectors_take (Unary op a) = let part = collectors_take a in omega (arith, part)
+collectors_take (Binary op a b) = let left = collectors_take a in let right = collectors_take b in omega (arith, left, right)
+collectors_take (If c a b) = let first = collectors_take c in let second = collectors_take a in let third = collectors_take b in omega (arith, first, second, third)
+collectors_take (MakeVec2 a b) = let first = collectors_take a in let second = collectors_take b in omega (arith, first, second)
+collectors_take (MakeVec3 a b c) = let first = collectors_take a in let second = collectors_take b in let third = collectors_take c in omega (arith, first, second, third)
+collectors_take (MakeRgb a b c) = let first = collectors_take a in let second = collectors_take b in let third = collectors_take c in omega (arith, first, second, third)
 
 labels_many : (marks : List Mark) (labels : List ℕ) → length (labels_at marks labels) ≡ length labels
 labels_many marks [] = refl
@@ -500,3 +519,13 @@ module _ (embeds : List Embed) (params : List Param) (nodes : List RuleNode) (go
       let many = within_many 0 (spell n form []) (omega arith) within in
       let shorter = no_form_is_shorter embeds params nodes n names form tree good_form means marks in
       short_within tree is marks (omega (arith, many, shorter))
+
+-- a tree whose canonical form passes no limit has few collectors
+pub few_collectors : (embeds : List Embed) (params : List Param) (nodes : List RuleNode) (n : ℕ) (tree : Tree) (marks : List Mark) → AreWithin (parts_of n (form_at embeds params nodes marks tree)) → collector_count tree ≤ most_collectors
+few_collectors embeds params nodes n tree marks within =
+    let form = form_at embeds params nodes marks tree in
+    let many = within_many 0 (spell n form []) (omega arith) within in
+    let long = spell_length n form [] in
+    let size = canonical_size embeds params nodes tree marks in
+    let taken = collectors_take tree in
+    omega (arith, many, long, size, taken)

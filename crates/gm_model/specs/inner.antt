@@ -1,3 +1,4 @@
 pub mod Padded
 pub mod Entries
 pub mod NodeSteps
+pub mod Collectors

@@ -3,12 +3,13 @@ use Rattle.std.specs.Prelude.{◌≡◌, ℕ, ◌+◌, ◌*◌, ◌<◌, ◌≤�
 use Rattle.std.specs.List.{Contains, AllZip}
 use Rattle.gm_model.specs.Applications.{Application, Decider, IsDecider, IsDeciderBefore, IsExpressionAt, IsPreUnits, IsReachedSum, IsRead, IsReady, IsUnfolded, reading_at}
 use Rattle.gm_model.specs.Expressions.{IsCollected}
+use Rattle.gm_model.specs.inner.Collectors.{collector_count, most_collectors}
 use Rattle.gm_model.specs.Maps.{dimension}
 use Rattle.gm_model.specs.Matches.{Placement}
 use Rattle.gm_model.specs.Trees.{Tree}
 use Rattle.gm_eval.specs.declared.kept.Collector.{Collector}
 use Rattle.gm_eval.specs.inner.Keeping.{own_term}
-use Rattle.gm_eval.specs.inner.Sharing.{HasUnitsBeside, Reads, collectors_of}
+use Rattle.gm_eval.specs.inner.Sharing.{HasUnitsBeside, Reads}
 
 module _ (app : Application) where
   module _ (place : Placement) where
@@ -19,14 +20,14 @@ module _ (app : Application) where
     -- Over the neighbours of the unfolded map:
     module _ (IsLive : ℕ → Type 0) (alpha : ℕ → ℕ → ℕ) where
       -- The node decides at an earlier position too, for the same embedding, and there its expression reads the collector,
-      -- whose orbit the positions share. The expression has at most 36 collectors.
+      -- whose orbit the positions share. The expression has no more collectors than one of a book can have.
       pub record IsReadBefore (decider : Decider) (tree : Tree) (c : Collector) : Type 0 where
         pub position : ℕ
         pub before : position < decider.position
         pub decides : IsDecider app place IsLive alpha (record { embed = decider.embed; node = decider.node; position = position })
         pub reads : Reads (reading_at app place position) tree c
         pub shared : IsSharedAt position c
-        pub few : length (collectors_of tree) ≤ 36
+        pub few : collector_count tree ≤ most_collectors
 
       -- what reading the expression of a deciding instance takes, where a collector that was read before may be left out
       abbrev pub IsReadOnce : Decider → ℕ → Type 0

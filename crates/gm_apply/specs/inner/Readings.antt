@@ -1,11 +1,12 @@
 -- Where the expressions of an embedding are read, and what earlier readings read. No public clause cites this module.
-use Rattle.std.specs.Prelude.{◌≡◌, ℕ, ◌<◌, ◌≤◌, List, length, map, slice_get, Some}
+use Rattle.std.specs.Prelude.{◌≡◌, ℕ, ◌<◌, ◌≤◌, List, map, slice_get, Some}
 use Rattle.gm_model.specs.Expressions as model
+use Rattle.gm_model.specs.inner.Collectors.{collector_count, most_collectors}
 use Rattle.gm_model.specs.Rules.{Assigns, rule_of}
 use Rattle.gm_model.specs.Trees.{Tree}
 use Rattle.gm_eval.specs.declared.kept.Collector.{Collector}
 use Rattle.gm_eval.specs.inner.Places.{reading_in}
-use Rattle.gm_eval.specs.inner.Sharing.{IsShared, Reads, collectors_of}
+use Rattle.gm_eval.specs.inner.Sharing.{IsShared, Reads}
 use Rattle.gm_pending.specs.inner.Results.{PendingOf, instances_of, place_of}
 use Rattle.gm_apply.specs.declared.reading.Reading.{Reading}
 
@@ -23,6 +24,6 @@ module _ (reading : Reading) (e : ℕ) where
   IsExpression x tree = Assigns (rule_of reading.plan.now.table) x e tree
 
   module _ (places : List (ℕ × ℕ)) where
-    -- before the i-th, a reading of the node's expression read the collector, whose orbit there holds the collector's node at every position; the expression has at most 36 of them
+    -- before the i-th, a reading of the node's expression read the collector, whose orbit there holds the collector's node at every position; the expression has no more of them than one of a book can have
     abbrev pub WasRead : ℕ → ℕ → Tree → Collector → Type 0
-    WasRead i x tree c = (j : ℕ) × (p : ℕ) × (j < i) × (slice_get places j ≡ Some (x, p)) × Reads (read_at reading p) tree c × IsShared reading.arena.now reading.found.now p c × (length (collectors_of tree) ≤ 36)
+    WasRead i x tree c = (j : ℕ) × (p : ℕ) × (j < i) × (slice_get places j ≡ Some (x, p)) × Reads (read_at reading p) tree c × IsShared reading.arena.now reading.found.now p c × (collector_count tree ≤ most_collectors)
