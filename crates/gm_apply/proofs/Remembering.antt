@@ -5,6 +5,7 @@ use Rattle.std.specs.List.{Contains}
 use Rattle.std.proofs.lemmas.Bool.{cases_eq, cases_lt, false≢true}
 use Rattle.std.proofs.lemmas.Option.{slice_get-get_or, slice_get_within}
 use Rattle.gm_model.specs.declared.value.Value.{Value}
+use Rattle.gm_model.specs.inner.Collectors.{collector_count}
 use Rattle.gm_model.specs.Orbits.{IsPairBefore}
 use Rattle.gm_model.specs.Rules.{rule_of}
 use Rattle.gm_model.specs.Trees.{Tree}
@@ -198,7 +199,7 @@ module _ (reading : Reading) (e : ℕ) (places : List (ℕ × ℕ)) (count : ℕ
         now_left opened tree expression c (j, q, less, there, reads, shared, few) = go (cases_eq j i)
           where
             room : HasRoom new.entries
-            room = has_room new.entries (collectors_of tree) (some_stays old.entries new.entries still (h.some opened)) (once h.once) (now_among tree expression) (let own = own_among_all tree in omega (arith, own, few))
+            room = has_room new.entries (collectors_of tree) (some_stays old.entries new.entries still (h.some opened)) (once h.once) (now_among tree expression) (let own = own_among_all tree in let all : collector_count tree ≤ 36 = few in omega (arith, own, all))
 
             go : (j ≡ i) ⊎ (j ≡ i → ⊥) → IsAtHand new.entries c
             go (inl same) =

@@ -7,6 +7,7 @@ ghost use Rattle.gm_model.specs.Limits.{most_darts, most_names};
 ghost use Rattle.std.specs.Vec.{vec_capacity};
 ghost use Rattle.slab.specs.Slab as slab;
 ghost use Rattle.gm_arena.specs.inner.Inside.{no_slot, names_in, name_in, linked, slot_numbered, links_in, place_names, IsWritten, HasParts, AreNumbered, AreNamesSlots};
+ghost use Rattle.gm_model.specs.declared.limit.TheConstants.{MOST_EMBEDS, MOST_LABELS};
 
 use crate::slot::Slot;
 use crate::steps::Steps;
@@ -595,8 +596,8 @@ fn put_lines(
     requires places { places.old.slots ≡ [] }
     requires capacity { places.old.capacity ≡ 0 }
     requires neighbours { neighbours.old.items ≡ [] }
-    requires labels { labels ≤ 8 }
-    requires width { width ≤ 8 }
+    requires labels { labels ≤ MOST_LABELS }
+    requires width { width ≤ MOST_EMBEDS }
     requires few { length lines.items / (labels + 1) ≤ most_darts }
     ensures numbered { OnOk result (AreNumbered (length lines.items / (labels + 1)) places.new) }
     ensures len { OnOk result (slab_len places.new ≡ length lines.items / (labels + 1)) }
@@ -620,7 +621,7 @@ fn put_lines(
 /// memory.
 // The compiler is told the labels of a surface and of a solid, and does each line without a loop.
 fn put_neighbours(neighbours: &mut Vec<Slot>, labels: usize, lines: &[u32])
-    requires labels { labels ≤ 8 }
+    requires labels { labels ≤ MOST_LABELS }
     requires room { length neighbours.old.items + length lines.now / (labels + 1) * labels ≤ vec_capacity neighbours.old }
     ensures items { neighbours.new.items ≡ neighbours.old.items ++ links_in labels (length lines.now / (labels + 1)) lines.now }
     ensures capacity { vec_capacity neighbours.old ≤ vec_capacity neighbours.new }
@@ -635,7 +636,7 @@ fn put_neighbours(neighbours: &mut Vec<Slot>, labels: usize, lines: &[u32])
 /// The same for labels of which the caller may tell how many there are.
 #[inline(always)]
 fn put_each_line(neighbours: &mut Vec<Slot>, labels: usize, lines: &[u32])
-    requires labels { labels ≤ 8 }
+    requires labels { labels ≤ MOST_LABELS }
     requires room { length neighbours.old.items + length lines.now / (labels + 1) * labels ≤ vec_capacity neighbours.old }
     ensures items { neighbours.new.items ≡ neighbours.old.items ++ links_in labels (length lines.now / (labels + 1)) lines.now }
     ensures capacity { vec_capacity neighbours.old ≤ vec_capacity neighbours.new }
@@ -689,8 +690,8 @@ fn reserve_places(
 ) -> Result<(), OutOfMemory>
     requires fits { places.old.capacity ≤ no_slot }
     requires few { slab_len places.old + more ≤ most_darts }
-    requires labels { labels ≤ 8 }
-    requires width { width ≤ 8 }
+    requires labels { labels ≤ MOST_LABELS }
+    requires width { width ≤ MOST_EMBEDS }
     requires parts { HasParts places.old.capacity labels width (vec_capacity neighbours.old) (vec_capacity values.old) }
     ensures room { OnOk result (HasRoomFor places.new more) }
     ensures fits { places.new.capacity ≤ no_slot }
@@ -720,8 +721,8 @@ fn widen_parts(
     slots: usize,
 ) -> Result<(), OutOfMemory>
     requires slots { slots ≤ no_slot }
-    requires labels { labels ≤ 8 }
-    requires width { width ≤ 8 }
+    requires labels { labels ≤ MOST_LABELS }
+    requires width { width ≤ MOST_EMBEDS }
     ensures parts { OnOk result (HasParts slots labels width (vec_capacity neighbours.new) (vec_capacity values.new)) }
     ensures neighbours { neighbours.new.items ≡ neighbours.old.items }
     ensures values { values.new.items ≡ values.old.items }

@@ -10,6 +10,7 @@ ghost use Rattle.gm_model.specs.Runs.{AreLeads};
 ghost use Rattle.gm_arena.specs.inner.ArenaAsMap.{as_map};
 ghost use Rattle.gm_walk.specs.inner.Room.{Fits};
 ghost use Rattle.gm_walk.specs.inner.Walks.{letters_of};
+ghost use Rattle.gm_model.specs.declared.limit.TheConstants.{MOST_DIMENSION};
 
 use gm_arena::{Arena, Steps};
 use gm_model::{Mask, OutOfMemory};
@@ -27,7 +28,7 @@ pub fn leads<L: Ledger>(
     steps: &mut Steps<L>,
 ) -> Result<Vec<u32>, OutOfMemory>
     requires generalised { IsGeneralised (as_map arena.now) }
-    requires mask { (label : ℕ) → label ≤ 7 → IsTrue (has mask label) → label ≤ arena.now.schema.dim }
+    requires mask { (label : ℕ) → label ≤ MOST_DIMENSION → IsTrue (has mask label) → label ≤ arena.now.schema.dim }
     ensures leads { IfOk result (λ leads. AreLeads (as_map arena.now) mask leads.items) }
     ensures cost { steps.new ≤ steps.old + 8 * (arena.now.schema.dim + 1) * arena.now.count }
     ensures least { steps.old ≤ steps.new }

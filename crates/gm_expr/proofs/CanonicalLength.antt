@@ -1,5 +1,5 @@
 -- No good form of a tree has fewer parts than the canonical one, which passes no limit where some form passes none.
-use Rattle.std.proofs.Common.{◌≡◌, ℕ, ◌+◌, ◌≤◌, ℤ, Bool, true, false, if◌then◌else◌, List, [], ◌∷◌, ◌++◌, length, Option, Some, None, codes, refl, sym, ap, ap₂, ◌∙◌, arith}
+use Rattle.std.proofs.Common.{◌≡◌, ℕ, ◌+◌, ◌*◌, ◌≤◌, ℤ, Bool, true, false, if◌then◌else◌, List, [], ◌∷◌, ◌++◌, length, Option, Some, None, codes, refl, sym, ap, ap₂, ◌∙◌, arith}
 use Rattle.std.specs.List.{AllByRecursion}
 use Rattle.std.specs.Prelude.{nat_lt}
 use Rattle.std.specs.Str.{bytes_eq}
@@ -528,4 +528,5 @@ few_collectors embeds params nodes n tree marks within =
     let long = spell_length n form [] in
     let size = canonical_size embeds params nodes tree marks in
     let taken = collectors_take tree in
-    omega (arith, many, long, size, taken)
+    let few : collector_count tree ≤ 36 = omega (arith, many, long, size, taken) in
+    few

@@ -52,12 +52,12 @@ refused_for app (refusals.NoValue e x) other h = (causes.NoValue e x, refl, h)
 refused_for app refusals.OutOfMemory other h = absurd (other refl)
 
 -- the outcome of a line is that of its rule's application
-outcome_here : (rules : List Rule) (before after : Map) (line : Line) (rule : Rule) (outcome : runs.Outcome) → slice_get rules line.rule ≡ Some rule → IsLineOutcome rules before line outcome after → IsOutcome (runs.application_of before rule line) outcome after
-outcome_here rules before after line rule outcome is h = subst (λ r. IsOutcome (runs.application_of before r line) outcome after) (same_Some h.rule rule (sym h.rule_is ∙ is)) h.outcome_is
+outcome_here : (rules : List Rule) (before after : Map) (line : Line) (rule : Rule) (outcome : runs.Outcome) → slice_get rules line.rule ≡ Some rule → IsLineOutcome rules before line outcome after → IsOutcome (runs.application_by before rule line) outcome after
+outcome_here rules before after line rule outcome is h = subst (λ r. IsOutcome (runs.application_by before r line) outcome after) (same_Some h.rule rule (sym h.rule_is ∙ is)) h.outcome_is
 
 -- the budget of a line is that of its rule's application
-budget_here : (rules : List Rule) (before : Map) (line : Line) (rule : Rule) (most : ℕ) → slice_get rules line.rule ≡ Some rule → IsLineBudget rules before line most → IsBudget (runs.application_of before rule line) most
-budget_here rules before line rule most is budget = subst (λ r. IsBudget (runs.application_of before r line) most) (same_Some budget.rule rule (sym budget.rule_is ∙ is)) budget.budget
+budget_here : (rules : List Rule) (before : Map) (line : Line) (rule : Rule) (most : ℕ) → slice_get rules line.rule ≡ Some rule → IsLineBudget rules before line most → IsBudget (runs.application_by before rule line) most
+budget_here rules before line rule most is budget = subst (λ r. IsBudget (runs.application_by before r line) most) (same_Some budget.rule rule (sym budget.rule_is ∙ is)) budget.budget
 
 module _ (rules : List Rule) (m n : ArenaMap) (line : Line) (rule : Rule) (rule_is : slice_get rules line.rule ≡ Some rule) (start steps : ℕ)
     (within : (most : ℕ) → IsBudget (matches.application_of m rule line.hooks line.params) most → steps ≤ start + most) where

@@ -1,9 +1,9 @@
 -- The course of a run: as a run within its bounds, with what it cost to come to each entry of the history that it leaves. So it can go on.
 use Rattle.std.proofs.Common.{◌≡◌, ℕ, ◌+◌, List, [], ◌∷◌, ◌++◌, refl, sym, ap, ap₂, subst, ◌∙◌, arith}
 use Rattle.gm_model.specs.Statements.{Stat}
-use Rattle.gm_model.specs.Budgets.{Bounds, Entries, HasBounds, IsRunWithin, up_to}
+use Rattle.gm_model.specs.Budgets.{Bounds, Entries, HasStatBounds, IsRunWithin, up_to}
 use Rattle.gm_model.specs.Rules.{Rule}
-use Rattle.gm_model.specs.Runs.{Outcome, State, IsStep, IsRun}
+use Rattle.gm_model.specs.Runs.{Outcome, State, IsStatOutcome, IsRun}
 
 -- the sum of bounds
 abbrev pub together : Bounds → Bounds → Bounds
@@ -13,7 +13,7 @@ module _ (rules : List Rule) where
   abbrev pub IsCourse : State → Entries → List Stat → List Outcome → State → Entries → Bounds → Type 0
   IsCourse before entries [] [] after behind bounds = (after ≡ before) × (behind ≡ entries) × (bounds ≡ up_to 0)
   IsCourse before entries (stat ∷ stats) (outcome ∷ outcomes) after behind bounds =
-      (between : State) × (costs : Entries) × (first : Bounds) × (rest : Bounds) × IsStep rules before stat outcome between × HasBounds rules before entries stat outcome first costs
+      (between : State) × (costs : Entries) × (first : Bounds) × (rest : Bounds) × IsStatOutcome rules before stat outcome between × HasStatBounds rules before entries stat outcome first costs
       × IsCourse between costs stats outcomes after behind rest × (bounds ≡ together first rest)
   IsCourse before entries _ _ after behind bounds = ⊥
 
@@ -35,14 +35,14 @@ module _ (rules : List Rule) where
   sum_on first rest last = ap₂ (λ (x y : ℕ). record { least = x; most = y }) (omega arith) (omega arith)
 
   pub course_on : (before between after : State) (entries costs behind : Entries) (stats : List Stat) (outcomes : List Outcome) (stat : Stat) (outcome : Outcome) (bounds last : Bounds) → IsCourse before entries stats outcomes between costs bounds
-      → IsStep rules between stat outcome after → HasBounds rules between costs stat outcome last behind → IsCourse before entries (stats ++ stat ∷ []) (outcomes ++ outcome ∷ []) after behind (together bounds last)
+      → IsStatOutcome rules between stat outcome after → HasStatBounds rules between costs stat outcome last behind → IsCourse before entries (stats ++ stat ∷ []) (outcomes ++ outcome ∷ []) after behind (together bounds last)
   course_on before between after entries costs behind [] [] stat outcome bounds last (e, f, g) step has = (
     after,
     behind,
     last,
     up_to 0,
-    subst (λ m. IsStep rules m stat outcome after) e step,
-    subst (λ x. HasBounds rules before x stat outcome last behind) f (subst (λ m. HasBounds rules m costs stat outcome last behind) e has),
+    subst (λ m. IsStatOutcome rules m stat outcome after) e step,
+    subst (λ x. HasStatBounds rules before x stat outcome last behind) f (subst (λ m. HasStatBounds rules m costs stat outcome last behind) e has),
     (refl, refl, refl),
     ap (λ (b : Bounds). together b last) g ∙ ap₂ (λ (x y : ℕ). record { least = x; most = y }) (omega arith) (omega arith),
   )

@@ -9,13 +9,13 @@ use Rattle.gm_model.specs.declared.schema.Schema.{Schema}
 use Rattle.gm_model.specs.Statements as statements
 use Rattle.gm_model.specs.declared.value.Value.{Value}
 use Rattle.gm_model.specs.declared.word.Mask.{Mask}
-use Rattle.gm_model.specs.Budgets.{Bounds, Entries, HasBounds, OfEach, IsLineBudget, AreTurnCosts, each_entered, entered, group_entered}
+use Rattle.gm_model.specs.Budgets.{Bounds, Entries, HasStatBounds, OfEach, IsLineBudget, each_entered, entered, group_entered}
 use Rattle.gm_model.specs.Histories.{Group, History, begun_at, changed, done_at, kept, past_behind}
 use Rattle.gm_model.specs.Limits.{most_darts}
 use Rattle.gm_model.specs.Maps.{Map, IsDart, dimension}
 use Rattle.gm_model.specs.Orbits.{HasCount}
 use Rattle.gm_model.specs.Rules.{Rule}
-use Rattle.gm_model.specs.Runs.{State, Turn, Taken, Passed, AreLeads, AreTurns, IsStep, GoesOver, behind_each, is_done_turn, is_passed, is_refused_turn, line_at, told}
+use Rattle.gm_model.specs.Runs.{State, Turn, Taken, Passed, AreLeads, AreTurns, IsStatOutcome, GoesOver, behind_each, is_done_turn, is_passed, is_refused_turn, line_at, told}
 use Rattle.gm_model.specs.Runs as runs
 use Rattle.gm_arena.specs.inner.ArenaAsMap.{as_map}
 use Rattle.gm_arena.specs.inner.ArenaMap.{ArenaMap}
@@ -40,7 +40,7 @@ use Rattle.gm_run.specs.inner.Progress.{IsLeft, BehindAll, WithinEach}
 use Rattle.gm_run.specs.inner.Standing.{HasLine, WasDone, WasRefused, HasOpen, HasStep, IsStopped, MayGoBack, Remembers, StandsAt, entered_by, told_behind}
 use Rattle.gm_run.specs.inner.Turns.{AreTallied, HasTurn, HaveTurns, StopsAtTurn, StopsWithin, counted, entered_by_turn, entered_turns, told_by, within_turns}
 use Rattle.gm_run.proofs.OneRun.{one_each_leads}
-use Rattle.gm_run.proofs.Tallies.{costs_of, costs_together, cost_of, no_costs, passed_on, taken_on, tallied_sound, turns_of, unchanged, within_all}
+use Rattle.gm_run.proofs.Tallies.{costs_together, cost_of, no_costs, passed_on, taken_on, turns_sound, unchanged, within_all}
 
 -- ---- counts
 
@@ -128,7 +128,7 @@ module _ (schema : Schema) (rules : List Rule) (index : ℕ) (params : List Valu
           → (budget : (most : ℕ) × IsLineBudget rules (as_map m) (line_at index params d) most) → MayGoBack new n.schema.dim (entered_by outcome here.group budget.0 costs_here)
           → HaveTurns rules index params before history entries (leads ++ d ∷ []) (counted counts (Some outcome)) new n start steps
       taken _ live (WasDone applied is most least) stands budget costs =
-          let turn : Turn = Taken (runs.Done applied.added applied.removed) in
+          let turn : Turn = Taken (as_map m) (line_at index params d) (runs.Done applied.added applied.removed) in
           let more : count_by is_done_turn (have.turns ++ turn ∷ []) ≡ suc (count_by is_done_turn have.turns) = count_on is_done_turn have.turns turn ∙ omega arith in
           record {
             turns = have.turns ++ turn ∷ [];
@@ -146,7 +146,7 @@ module _ (schema : Schema) (rules : List Rule) (index : ℕ) (params : List Valu
             most = (let first = have.most in let last = most budget.0 budget.1 in omega (arith, first, last, longer));
           }
       taken _ live (WasRefused refusal cause tells is most rises) stands budget costs =
-          let turn : Turn = Taken (runs.Refused cause) in
+          let turn : Turn = Taken (as_map m) (line_at index params d) (runs.Refused cause) in
           let same : count_by is_done_turn (have.turns ++ turn ∷ []) ≡ count_by is_done_turn have.turns = count_on is_done_turn have.turns turn ∙ omega arith in
           let cost : have.costs.done + 0 ≡ have.costs.done = omega arith in
           record {
@@ -197,7 +197,7 @@ module _ (schema : Schema) (rules : List Rule) (index : ℕ) (params : List Valu
         → ((behind : History) (costs : Entries) (most : ℕ) → Remembers old m behind → MayGoBack old m.schema.dim costs → IsLineBudget rules (as_map m) (line_at index params d) most → MayGoBack new n.schema.dim (entered_by_turn turn behind.group most costs))
         → HaveTurns rules index params before history entries (take (k + 1) leads) (counted counts turn) new n start steps
     turns_more leads k d x counts old new m n start middle steps within is sound turn have has stands costs =
-        let now : IsSoundOf schema (as_map m) = tallied_sound rules index params schema of good before (as_map m) (take k leads) have.turns have.costs sound have.tallied in
+        let now : IsSoundOf schema (as_map m) = turns_sound rules index params schema of good before (as_map m) (take k leads) have.turns sound have.tallied.0 in
         let budget = some_budget (as_map m) d now in
         subst (λ ds. HaveTurns rules index params before history entries ds (counted counts turn) new n start steps) (ap (λ y. take k leads ++ y ∷ []) is ∙ sym (take_more leads k x within))
         (turn_on (take k leads) counts old new m n start middle steps d have turn has (stands (within_turns before history (count_by is_done_turn have.turns)) have.stands) budget
@@ -212,10 +212,10 @@ module _ (schema : Schema) (rules : List Rule) (index : ℕ) (params : List Valu
     stops_at leads k d x counts old m n start middle steps within is sound have (live, stopped) = record {
       some = k;
       turns = have.turns;
-      are = subst (AreTurns rules index params before (take k leads) have.turns) (sym stopped.same) (turns_of rules index params before (as_map m) (take k leads) have.turns have.costs have.tallied);
-      most = λ other others all alike costs.
-          let both : have.costs.most + (steps - (middle + 1)) ≤ all.most = within_all rules index params schema of good (take k leads) d (drop (k + 1) leads) before (as_map m) other have.turns others have.costs all (steps - (middle + 1)) sound alike have.tallied
-          (subst (λ ds. AreTurnCosts rules index params other ds others all) split costs) live (λ most budget. let h = stopped.most most budget in omega (arith, h)) in
+      are = subst (AreTurns rules index params before (take k leads) have.turns) (sym stopped.same) have.tallied.0;
+      most = λ other end others all alike turns costs.
+          let both : have.costs.most + (steps - (middle + 1)) ≤ all.most = within_all rules index params schema of good (take k leads) d (drop (k + 1) leads) before (as_map m) other end have.turns others have.costs all (steps - (middle + 1)) sound alike have.tallied
+          (subst (λ ds. AreTurns rules index params other ds others end) split turns, costs) live (λ most budget. let h = stopped.most most budget in omega (arith, h)) in
           let so_far = have.most in
           let long : length (take k leads) ≡ k = length-take-le k leads (omega arith) in
           omega (arith, both, so_far, long, within);
@@ -270,8 +270,8 @@ module _ (schema : Schema) (rules : List Rule) (mask : Mask) (index : ℕ) (para
       after = behind_each state (count_by is_done_turn have.turns) (as_map n);
       step = GoesOver mask index params leads have.turns (as_map n) closed.0 (leads_here leads are) turns;
       bounds = record { least = have.costs.least; most = have.costs.most + 12 * (dimension state.map + 1) * (m.count + 1) };
-      behind = each_entered (told have.turns) have.costs.done entries;
-      has = OfEach mask index params leads have.turns have.costs m.count (leads_here leads are) costs darts;
+      behind = each_entered (count_by is_done_turn have.turns) have.costs.done entries;
+      has = OfEach mask index params leads have.turns (as_map n) have.costs m.count (leads_here leads are) turns have.tallied.1 darts;
       stands = record {
         map = map_is (count_by is_done_turn have.turns) refl;
         history = history_is;
@@ -283,10 +283,7 @@ module _ (schema : Schema) (rules : List Rule) (mask : Mask) (index : ℕ) (para
     }
       where
         turns : AreTurns rules index params state.map leads have.turns (as_map n)
-        turns = subst (λ map. AreTurns rules index params map leads have.turns (as_map n)) (sym stands.map) (turns_of rules index params (as_map m) (as_map n) leads have.turns have.costs have.tallied)
-
-        costs : AreTurnCosts rules index params state.map leads have.turns have.costs
-        costs = subst (λ map. AreTurnCosts rules index params map leads have.turns have.costs) (sym stands.map) (costs_of rules index params (as_map m) (as_map n) leads have.turns have.costs have.tallied)
+        turns = subst (λ map. AreTurns rules index params map leads have.turns (as_map n)) (sym stands.map) have.tallied.0
 
         map_is : (k : ℕ) → (count_by is_done_turn have.turns) ≡ k → (behind_each state k (as_map n)).map ≡ as_map n
         map_is zero e = sym (unchanged rules index params state.map (as_map n) leads have.turns turns e)
@@ -305,12 +302,12 @@ module _ (schema : Schema) (rules : List Rule) (mask : Mask) (index : ℕ) (para
         open_is zero = closed
         open_is (suc k) = (ap (option_map changed) closed.0, closed.1)
 
-        costs_are : (k : ℕ) → (count_by is_done_turn have.turns) ≡ k → MayGoBack new n.schema.dim (each_entered (runs.Each k (count_by is_refused_turn have.turns) (count_by is_passed have.turns)) have.costs.done entries)
+        costs_are : (k : ℕ) → (count_by is_done_turn have.turns) ≡ k → MayGoBack new n.schema.dim (each_entered k have.costs.done entries)
         costs_are zero e =
-            λ keeps. any_group new.history n n.schema.dim (behind_each state (count_by is_done_turn have.turns) (as_map n)).history entries.past entries.future 0 entries.group (history_is keeps) (open_is (count_by is_done_turn have.turns)).0
+            λ keeps. any_group new.history n n.schema.dim (behind_each state (count_by is_done_turn have.turns) (as_map n)).history entries.past entries.future have.costs.done entries.group (history_is keeps) (open_is (count_by is_done_turn have.turns)).0
             (subst (λ k. MayGoBack new n.schema.dim (group_entered (group_within (as_map m) k) (entered_turns entries k have.costs.done))) e kept_costs keeps)
         costs_are (suc k) e =
-            λ keeps. any_group new.history n n.schema.dim (behind_each state (count_by is_done_turn have.turns) (as_map n)).history (have.costs.done ∷ entries.past) [] 0 entries.group (history_is keeps) (open_is (count_by is_done_turn have.turns)).0
+            λ keeps. any_group new.history n n.schema.dim (behind_each state (count_by is_done_turn have.turns) (as_map n)).history (have.costs.done ∷ entries.past) [] have.costs.done entries.group (history_is keeps) (open_is (count_by is_done_turn have.turns)).0
             (subst (λ k. MayGoBack new n.schema.dim (group_entered (group_within (as_map m) k) (entered_turns entries k have.costs.done))) e kept_costs keeps)
 
     -- ---- memory was wanting
@@ -323,11 +320,11 @@ module _ (schema : Schema) (rules : List Rule) (mask : Mask) (index : ℕ) (para
         most = within;
       }
         where
-          within : (other end : State) (costs behind : Entries) (outcome : runs.Outcome) (bounds : Bounds) → AreAlikeStates other state → IsStep rules other (statements.Each mask index params) outcome end → HasBounds rules other costs (statements.Each mask index params) outcome bounds behind → steps ≤ start + bounds.most
-          within other end costs behind _ _ alike step (OfEach _ _ _ others turns all count are' costs' counted') =
+          within : (other end : State) (costs behind : Entries) (outcome : runs.Outcome) (bounds : Bounds) → AreAlikeStates other state → IsStatOutcome rules other (statements.Each mask index params) outcome end → HasStatBounds rules other costs (statements.Each mask index params) outcome bounds behind → steps ≤ start + bounds.most
+          within other end costs behind _ _ alike step (OfEach _ _ _ others turns left all count are' turns' costs' counted') =
               let maps : AreAlike other.map (as_map m) = subst (AreAlike other.map) stands.map alike.map in
               let same : others ≡ leads = one_each_leads schema rules other.map (as_map m) mask index params good sound maps others leads are' are in
-              let first = stopped.most other.map turns all maps (subst (λ ds. AreTurnCosts rules index params other.map ds turns all) same costs') in
+              let first = stopped.most other.map left turns all maps (subst (λ ds. AreTurns rules index params other.map ds turns left) same turns') costs' in
               let number : count ≡ m.count = one_count (IsDart (as_map m)) count m.count (count_same (IsDart other.map) (IsDart (as_map m)) count maps.same.darts counted') (darts_counted m lawful) in
               subst (λ (s : Schema). steps ≤ start + (all.most + 12 * (s.dim + 1) * (count + 1))) (sym maps.schema)
               (subst (λ k. steps ≤ start + (all.most + 12 * (m.schema.dim + 1) * (k + 1))) (sym number) (omega (arith, first, besides)))
@@ -339,8 +336,8 @@ module _ (schema : Schema) (rules : List Rule) (mask : Mask) (index : ℕ) (para
     most = within;
   }
     where
-      within : (other end : State) (costs behind : Entries) (outcome : runs.Outcome) (bounds : Bounds) → AreAlikeStates other state → IsStep rules other (statements.Each mask index params) outcome end → HasBounds rules other costs (statements.Each mask index params) outcome bounds behind → steps ≤ start + bounds.most
-      within other end costs behind _ _ alike step (OfEach _ _ _ others turns all count are' costs' counted') =
+      within : (other end : State) (costs behind : Entries) (outcome : runs.Outcome) (bounds : Bounds) → AreAlikeStates other state → IsStatOutcome rules other (statements.Each mask index params) outcome end → HasStatBounds rules other costs (statements.Each mask index params) outcome bounds behind → steps ≤ start + bounds.most
+      within other end costs behind _ _ alike step (OfEach _ _ _ others turns left all count are' turns' costs' counted') =
           let maps : AreAlike other.map (as_map m) = subst (AreAlike other.map) stands.map alike.map in
           let number : count ≡ m.count = one_count (IsDart (as_map m)) count m.count (count_same (IsDart other.map) (IsDart (as_map m)) count maps.same.darts counted') (darts_counted m lawful) in
           let besides = within_besides m.schema.dim m.count 0 start steps cost (omega arith) in

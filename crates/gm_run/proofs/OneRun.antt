@@ -1,24 +1,25 @@
 -- From states that are alike the same statements have one run at most, with one pair of bounds, and leave states that are alike.
-use Rattle.std.proofs.Common.{◌≡◌, ℕ, zero, suc, ◌+◌, ◌*◌, ◌<◌, ◌≤◌, Bool, true, false, IsTrue, List, [], ◌∷◌, Option, Some, None, slice_get, refl, sym, ap, ap₂, subst, ◌∙◌, arith, if◌then◌else◌}
+use Rattle.std.proofs.Common.{◌≡◌, ℕ, zero, suc, ◌+◌, ◌*◌, ◌<◌, ◌≤◌, Bool, true, false, IsTrue, List, [], ◌∷◌, Option, Some, None, slice_get, refl, sym, ap, ap₂, subst, ◌∙◌, arith, cond, if◌then◌else◌}
 use Rattle.std.specs.List.{AllByRecursion, count_by}
 use Rattle.std.specs.List.Sorted.{IsStrictlyIncreasing}
 use Rattle.std.specs.Option.{option_map}
 use Rattle.std.specs.Prelude.{is_some}
 use Rattle.std.proofs.lemmas.List.Kept.{AllPairs-from_increasing}
+use Rattle.std.proofs.lemmas.List.Sums.{sum_by-append}
 use Rattle.std.proofs.lemmas.Option.{slice_get_within, get_or_from_slice_get, same_Some}
 use Rattle.gm_model.specs.declared.schema.Schema.{Schema}
 use Rattle.gm_model.specs.Statements.{Line, Stat}
 use Rattle.gm_model.specs.declared.value.Value.{Value}
 use Rattle.gm_model.specs.declared.word.Mask.{Mask}
 use Rattle.gm_model.specs.Applications.{IsBudget}
-use Rattle.gm_model.specs.Budgets.{Bounds, Entries, HasBounds, OfDone, OfRefused, OfSkipped, OfUndone, OfNoPast, OfRedone, OfNoFuture, OfBegun, OfKept, OfDropped, OfEach, IsLineBudget, IsRunWithin, TurnCosts, AreTurnCosts, changed_darts, done_part, entered, group_entered, each_entered, up_to}
+use Rattle.gm_model.specs.Budgets.{Bounds, Entries, HasStatBounds, OfDone, OfRefused, OfSkipped, OfUndone, OfNoPast, OfRedone, OfNoFuture, OfBegun, OfKept, OfDropped, OfEach, IsLineBudget, IsRunWithin, TurnCosts, AreTurnCosts, changed_darts, done_part, entered, group_entered, each_entered, up_to}
 use Rattle.gm_model.specs.Histories.{Group, changed, past_behind}
 use Rattle.gm_model.specs.Kinds.{AreGoodParams}
 use Rattle.gm_model.specs.Labels.{has}
 use Rattle.gm_model.specs.Maps.{Map, IsDart, IsGeneralised, IsSchema, dimension}
 use Rattle.gm_model.specs.Orbits.{IsLead}
 use Rattle.gm_model.specs.Rules.{Rule}
-use Rattle.gm_model.specs.Runs.{Outcome, Done, Refused, State, Turn, Taken, Passed, AreLeads, AreTurns, IsLineOutcome, IsOutcome, IsStep, IsDoneHere, IsRefusedHere, IsSkipped, GoesBack, HasNoPast, GoesForth, HasNoFuture, Begins, Ends, IsTakenBack, GoesOver, IsRun, application_of, behind_done, behind_each, is_done_turn, line_at, standing_at, told}
+use Rattle.gm_model.specs.Runs.{Outcome, Done, Refused, Skipped, Undone, Redone, NothingToUndo, NothingToRedo, Begun, Kept, Dropped, Each, State, Turn, Taken, Passed, AreLeads, AreTurns, IsLineOutcome, IsOutcome, IsStatOutcome, IsDoneHere, IsRefusedHere, IsSkipped, GoesBack, HasNoPast, GoesForth, HasNoFuture, Begins, Ends, IsTakenBack, GoesOver, IsRun, application_by, behind_done, behind_each, is_done_turn, is_passed, is_refused_turn, line_at, standing_at, told}
 use Rattle.gm_theory.specs.inner.Outcomes.{IsGoodEach, IsGoodLine, IsSoundOf}
 use Rattle.gm_theory.specs.inner.Suited.{IsRuleOf, IsSuited}
 use Rattle.gm_theory.proofs.RunsFound.{GoesOn, Stands, goes_on}
@@ -64,6 +65,50 @@ module _ (mask : Mask) where
 
 -- ---- lines
 
+-- what a line may take at a map, it may where both are called otherwise
+pub moved : (rules : List Rule) (map before : Map) (line other : Line) (most : ℕ) → map ≡ before → line ≡ other → IsLineBudget rules map line most → IsLineBudget rules before other most
+moved rules map before line other most at asks budget = subst (λ m. IsLineBudget rules m other most) at (subst (λ l. IsLineBudget rules map l most) asks budget)
+
+-- ---- turns
+
+-- as many were done, refused and passed over
+pub record AreSameTurns (turns others : List Turn) : Type 0 where
+  pub done : count_by is_done_turn turns ≡ count_by is_done_turn others
+  pub refused : count_by is_refused_turn turns ≡ count_by is_refused_turn others
+  pub passed : count_by is_passed turns ≡ count_by is_passed others
+
+-- whether a turn was refused is told by its outcome alone
+refused_alike : (a b : Map) (line other : Line) (outcome : Outcome) → is_refused_turn (Taken a line outcome) ≡ is_refused_turn (Taken b other outcome)
+refused_alike a b line other (Done added removed) = refl
+refused_alike a b line other (Refused cause) = refl
+refused_alike a b line other Skipped = refl
+refused_alike a b line other Undone = refl
+refused_alike a b line other Redone = refl
+refused_alike a b line other NothingToUndo = refl
+refused_alike a b line other NothingToRedo = refl
+refused_alike a b line other Begun = refl
+refused_alike a b line other Kept = refl
+refused_alike a b line other Dropped = refl
+refused_alike a b line other (Each done refused passed) = refl
+
+same_told : (turns others : List Turn) → AreSameTurns turns others → told turns ≡ told others
+same_told turns others same =
+    ap (λ (n : ℕ). Each n (count_by is_refused_turn turns) (count_by is_passed turns)) same.done ∙ ap (λ (n : ℕ). Each (count_by is_done_turn others) n (count_by is_passed turns)) same.refused
+    ∙ ap (λ (n : ℕ). Each (count_by is_done_turn others) (count_by is_refused_turn others) n) same.passed
+
+count_first : (p : Turn → Bool) (turn : Turn) (turns : List Turn) → count_by p (turn ∷ turns) ≡ cond (p turn) 1 0 + count_by p turns
+count_first p turn turns = sum_by-append (λ (t : Turn). cond (p t) 1 0) (turn ∷ []) turns ∙ ap (λ n. n + count_by p turns) (omega arith)
+
+count_same_first : (p : Turn → Bool) (turn other : Turn) (turns others : List Turn) → p turn ≡ p other → count_by p turns ≡ count_by p others → count_by p (turn ∷ turns) ≡ count_by p (other ∷ others)
+count_same_first p turn other turns others first rest = count_first p turn turns ∙ ap₂ (λ (b : Bool) (n : ℕ). cond b 1 0 + n) first rest ∙ sym (count_first p other others)
+
+same_first : (turn other : Turn) (turns others : List Turn) → is_done_turn turn ≡ is_done_turn other → is_refused_turn turn ≡ is_refused_turn other → is_passed turn ≡ is_passed other → AreSameTurns turns others → AreSameTurns (turn ∷ turns) (other ∷ others)
+same_first turn other turns others done refused passed same = record {
+  done = count_same_first is_done_turn turn other turns others done same.done;
+  refused = count_same_first is_refused_turn turn other turns others refused same.refused;
+  passed = count_same_first is_passed turn other turns others passed same.passed;
+}
+
 module _ (schema : Schema) (rules : List Rule) where
   suits : (a : Map) (index : ℕ) (rule : Rule) → IsRuleOf schema rules index → IsSoundOf schema a → slice_get rules index ≡ Some rule → Suits rule a
   suits a index rule of sound is = record {
@@ -76,7 +121,7 @@ module _ (schema : Schema) (rules : List Rule) where
       → (outcome ≡ other) × AreAlike after end
   one_line a b line of sound alike outcome other after end first second =
       one_outcome first.rule line.hooks line.params a b (suits b line.rule first.rule of sound first.rule_is) alike outcome other after end first.outcome_is
-      (subst (λ r. IsOutcome (application_of b r line) other end) (same_Some second.rule first.rule (sym second.rule_is ∙ first.rule_is)) second.outcome_is)
+      (subst (λ r. IsOutcome (application_by b r line) other end) (same_Some second.rule first.rule (sym second.rule_is ∙ first.rule_is)) second.outcome_is)
 
   -- what a line may take at a map, it may take at a map alike
   pub budget_alike : (a b : Map) (line : Line) → IsRuleOf schema rules line.rule → IsSoundOf schema b → AreAlike a b → (most : ℕ) → IsLineBudget rules a line most → IsLineBudget rules b line most
@@ -88,8 +133,8 @@ module _ (schema : Schema) (rules : List Rule) where
 
   pub one_line_budget : (a b : Map) (line : Line) → IsRuleOf schema rules line.rule → IsGoodLine rules line → IsSoundOf schema b → AreAlike a b → (most other : ℕ) → IsLineBudget rules a line most → IsLineBudget rules b line other → most ≡ other
   one_line_budget a b line of good sound alike most other first second =
-      one_budget (application_of b second.rule line) (suits b line.rule second.rule of sound second.rule_is) params most other
-      (subst (λ r. IsBudget (application_of b r line) most) (same_Some there.rule second.rule (sym there.rule_is ∙ second.rule_is)) there.budget) second.budget
+      one_budget (application_by b second.rule line) (suits b line.rule second.rule of sound second.rule_is) params most other
+      (subst (λ r. IsBudget (application_by b r line) most) (same_Some there.rule second.rule (sym there.rule_is ∙ second.rule_is)) there.budget) second.budget
     where
       there : IsLineBudget rules b line most
       there = budget_alike a b line of sound alike most first
@@ -104,38 +149,41 @@ module _ (schema : Schema) (rules : List Rule) where
     sound_between b d outcome between sound is = (line_costs schema rules b (line_at index params d) of sound (good d) outcome between is).sound
 
     pub one_turns : (leads : List ℕ) (turns others : List Turn) (a b after end : Map) → IsSoundOf schema b → AreAlike a b → AreTurns rules index params a leads turns after → AreTurns rules index params b leads others end
-        → (turns ≡ others) × AreAlike after end
-    one_turns [] [] [] a b after end sound alike e f = (refl, subst (λ m. AreAlike m end) (sym e) (subst (AreAlike a) (sym f) alike))
+        → AreSameTurns turns others × AreAlike after end
+    one_turns [] [] [] a b after end sound alike e f = (record { done = refl; refused = refl; passed = refl }, subst (λ m. AreAlike m end) (sym e) (subst (AreAlike a) (sym f) alike))
     one_turns [] [] (other ∷ others) a b after end sound alike e f = absurd f
     one_turns [] (turn ∷ turns) others a b after end sound alike e f = absurd e
     one_turns (d ∷ leads) [] others a b after end sound alike e f = absurd e
     one_turns (d ∷ leads) (turn ∷ turns) [] a b after end sound alike e f = absurd f
-    one_turns (d ∷ leads) (Taken outcome ∷ turns) (Taken other ∷ others) a b after end sound alike (live, m, is, rest) (live', n, is', rest') =
+    one_turns (d ∷ leads) (Taken map line outcome ∷ turns) (Taken map' line' other ∷ others) a b after end sound alike (live, at, asks, m, is, rest) (live', at', asks', n, is', rest') =
         let one : (outcome ≡ other) × AreAlike m n = one_line a b (line_at index params d) of sound alike outcome other m n is is' in
-        let further : (turns ≡ others) × AreAlike after end = one_turns leads turns others m n after end (sound_between b d other n sound is') one.1 rest rest' in
-        (ap₂ (λ (o : Outcome) (ts : List Turn). Taken o ∷ ts) one.0 further.0, further.1)
-    one_turns (d ∷ leads) (Taken outcome ∷ turns) (Passed ∷ others) a b after end sound alike (live, m, is, rest) (dead, rest') = absurd (dead ((alike.same.darts d).0 live))
-    one_turns (d ∷ leads) (Passed ∷ turns) (Taken other ∷ others) a b after end sound alike (dead, rest) (live, n, is, rest') = absurd (dead ((alike.same.darts d).1 live))
+        let further : AreSameTurns turns others × AreAlike after end = one_turns leads turns others m n after end (sound_between b d other n sound is') one.1 rest rest' in
+        (same_first (Taken map line outcome) (Taken map' line' other) turns others (ap (λ o. is_done_turn (Taken map line o)) one.0) (ap (λ o. is_refused_turn (Taken map line o)) one.0 ∙ refused_alike map map' line line' other) refl further.0, further.1)
+    one_turns (d ∷ leads) (Taken map line outcome ∷ turns) (Passed ∷ others) a b after end sound alike (live, at, asks, m, is, rest) (dead, rest') = absurd (dead ((alike.same.darts d).0 live))
+    one_turns (d ∷ leads) (Passed ∷ turns) (Taken map line other ∷ others) a b after end sound alike (dead, rest) (live, at, asks, n, is, rest') = absurd (dead ((alike.same.darts d).1 live))
     one_turns (d ∷ leads) (Passed ∷ turns) (Passed ∷ others) a b after end sound alike (dead, rest) (dead', rest') =
-        let further : (turns ≡ others) × AreAlike after end = one_turns leads turns others a b after end sound alike rest rest' in
-        (ap (λ (ts : List Turn). Passed ∷ ts) further.0, further.1)
+        let further : AreSameTurns turns others × AreAlike after end = one_turns leads turns others a b after end sound alike rest rest' in
+        (same_first Passed Passed turns others refl refl refl further.0, further.1)
 
-    pub one_costs : (leads : List ℕ) (turns others : List Turn) (a b : Map) (costs other : TurnCosts) → IsSoundOf schema b → AreAlike a b → AreTurnCosts rules index params a leads turns costs → AreTurnCosts rules index params b leads others other → costs ≡ other
-    one_costs [] [] [] a b costs other sound alike e f = e ∙ sym f
-    one_costs [] [] (t ∷ others) a b costs other sound alike e f = absurd f
-    one_costs [] (t ∷ turns) others a b costs other sound alike e f = absurd e
-    one_costs (d ∷ leads) [] others a b costs other sound alike e f = absurd e
-    one_costs (d ∷ leads) (t ∷ turns) [] a b costs other sound alike e f = absurd f
-    one_costs (d ∷ leads) (Taken o ∷ turns) (Taken p ∷ others) a b costs other sound alike (live, m, most, rest, is, budget, are, e) (live', n, most', rest', is', budget', are', f) =
+    pub one_costs : (leads : List ℕ) (turns others : List Turn) (a b after end : Map) (costs other : TurnCosts) → IsSoundOf schema b → AreAlike a b → AreTurns rules index params a leads turns after → AreTurns rules index params b leads others end
+        → AreTurnCosts rules turns costs → AreTurnCosts rules others other → costs ≡ other
+    one_costs [] [] [] a b after end costs other sound alike are are' e f = e ∙ sym f
+    one_costs [] [] (t ∷ others) a b after end costs other sound alike are are' e f = absurd are'
+    one_costs [] (t ∷ turns) others a b after end costs other sound alike are are' e f = absurd are
+    one_costs (d ∷ leads) [] others a b after end costs other sound alike are are' e f = absurd are
+    one_costs (d ∷ leads) (t ∷ turns) [] a b after end costs other sound alike are are' e f = absurd are'
+    one_costs (d ∷ leads) (Taken map line o ∷ turns) (Taken map' line' p ∷ others) a b after end costs other sound alike (live, at, asks, m, is, are) (live', at', asks', n, is', are') (most, rest, budget, cost, e) (most', rest', budget', cost', f) =
+        let here : IsLineBudget rules a (line_at index params d) most = moved rules map a line (line_at index params d) most at asks budget in
+        let there : IsLineBudget rules b (line_at index params d) most' = moved rules map' b line' (line_at index params d) most' at' asks' budget' in
         let one : (o ≡ p) × AreAlike m n = one_line a b (line_at index params d) of sound alike o p m n is is' in
-        let same : most ≡ most' = one_line_budget a b (line_at index params d) of (good d) sound alike most most' budget budget' in
-        let further : rest ≡ rest' = one_costs leads turns others m n rest rest' (sound_between b d p n sound is') one.1 are are' in
+        let same : most ≡ most' = one_line_budget a b (line_at index params d) of (good d) sound alike most most' here there in
+        let further : rest ≡ rest' = one_costs leads turns others m n after end rest rest' (sound_between b d p n sound is') one.1 are are' cost cost' in
         e
         ∙ ap (λ (x : Outcome). record { least = changed_darts x + rest.least; most = most + rest.most; done = done_part x most + rest.done }) one.0
         ∙ ap₂ (λ (x : ℕ) (r : TurnCosts). record { least = changed_darts p + r.least; most = x + r.most; done = done_part p x + r.done }) same further ∙ sym f
-    one_costs (d ∷ leads) (Taken o ∷ turns) (Passed ∷ others) a b costs other sound alike (live, m, most, rest, is, budget, are, e) (dead, are') = absurd (dead ((alike.same.darts d).0 live))
-    one_costs (d ∷ leads) (Passed ∷ turns) (Taken p ∷ others) a b costs other sound alike (dead, are) (live, n, most, rest, is, budget, are', e) = absurd (dead ((alike.same.darts d).1 live))
-    one_costs (d ∷ leads) (Passed ∷ turns) (Passed ∷ others) a b costs other sound alike (dead, are) (dead', are') = one_costs leads turns others a b costs other sound alike are are'
+    one_costs (d ∷ leads) (Taken map line o ∷ turns) (Passed ∷ others) a b after end costs other sound alike (live, at, asks, m, is, are) (dead, are') cost cost' = absurd (dead ((alike.same.darts d).0 live))
+    one_costs (d ∷ leads) (Passed ∷ turns) (Taken map line p ∷ others) a b after end costs other sound alike (dead, are) (live, at, asks, n, is, are') cost cost' = absurd (dead ((alike.same.darts d).1 live))
+    one_costs (d ∷ leads) (Passed ∷ turns) (Passed ∷ others) a b after end costs other sound alike (dead, are) (dead', are') cost cost' = one_costs leads turns others a b after end costs other sound alike are are' cost cost'
 
   pub one_each_leads : (a b : Map) (mask : Mask) (index : ℕ) (params : List Value) → IsGoodEach rules schema.dim mask index params → IsSoundOf schema b → AreAlike a b → (leads others : List ℕ) → AreLeads a mask leads → AreLeads b mask others → leads ≡ others
   one_each_leads a b mask index params good sound alike leads others first second =
@@ -209,7 +257,7 @@ module _ (schema : Schema) (rules : List Rule) where
   broken_back : (a b : State) → AreAlikeStates a b → a.is_broken ≡ true → b.is_broken ≡ false → ⊥
   broken_back a b alike e f = let same : true ≡ false = sym e ∙ alike.broken ∙ f in absurd cc
 
-  pub one_step : (a b : State) (stat : Stat) (outcome other : Outcome) (after end : State) → IsSoundOf schema b.map → IsSuited schema rules stat → AreAlikeStates a b → IsStep rules a stat outcome after → IsStep rules b stat other end → AreOne outcome other after end
+  pub one_step : (a b : State) (stat : Stat) (outcome other : Outcome) (after end : State) → IsSoundOf schema b.map → IsSuited schema rules stat → AreAlikeStates a b → IsStatOutcome rules a stat outcome after → IsStatOutcome rules b stat other end → AreOne outcome other after end
   one_step a b _ _ _ _ _ sound suited alike (IsDoneHere line added removed after whole is) (IsDoneHere _ added' removed' end whole' is') =
       let one = one_line a.map b.map line suited.1 sound alike.map (Done added removed) (Done added' removed') after end is is' in
       (one.0, alike_done a b after end alike one.1)
@@ -236,9 +284,9 @@ module _ (schema : Schema) (rules : List Rule) where
             (subst (λ h. AreAlikeStates (standing_at m (record { past = is.rest; future = a.map ∷ a.history.future; group = None })) (standing_at n h)) (sym is'.after)
             (record { map = nearest.0; past = nearest.1; future = (alike.map, alike.future); group = tt; broken = refl })),
       )
-  one_step a b _ _ _ _ _ sound suited alike (GoesBack m history is) (HasNoPast none) = absurd (not_empty a.history.past b.history.past m is.rest alike.past is.past none)
-  one_step a b _ _ _ _ _ sound suited alike (HasNoPast none) (GoesBack n history is) = absurd (not_empty_back a.history.past b.history.past n is.rest alike.past none is.past)
-  one_step a b _ _ _ _ _ sound suited alike (HasNoPast none) (HasNoPast none') = (refl, alike)
+  one_step a b _ _ _ _ _ sound suited alike (GoesBack m history is) (HasNoPast outside none) = absurd (not_empty a.history.past b.history.past m is.rest alike.past is.past none)
+  one_step a b _ _ _ _ _ sound suited alike (HasNoPast outside none) (GoesBack n history is) = absurd (not_empty_back a.history.past b.history.past n is.rest alike.past none is.past)
+  one_step a b _ _ _ _ _ sound suited alike (HasNoPast outside none) (HasNoPast outside' none') = (refl, alike)
   one_step a b _ _ _ _ _ sound suited alike (GoesForth m history is) (GoesForth n history' is') =
       let nearest = pasts_meet a.history.future b.history.future m n is.rest is'.rest alike.future is.future is'.future in (
         refl,
@@ -246,9 +294,9 @@ module _ (schema : Schema) (rules : List Rule) where
             (subst (λ h. AreAlikeStates (standing_at m (record { past = a.map ∷ a.history.past; future = is.rest; group = None })) (standing_at n h)) (sym is'.after)
             (record { map = nearest.0; past = (alike.map, alike.past); future = nearest.1; group = tt; broken = refl })),
       )
-  one_step a b _ _ _ _ _ sound suited alike (GoesForth m history is) (HasNoFuture none) = absurd (not_empty a.history.future b.history.future m is.rest alike.future is.future none)
-  one_step a b _ _ _ _ _ sound suited alike (HasNoFuture none) (GoesForth n history is) = absurd (not_empty_back a.history.future b.history.future n is.rest alike.future none is.future)
-  one_step a b _ _ _ _ _ sound suited alike (HasNoFuture none) (HasNoFuture none') = (refl, alike)
+  one_step a b _ _ _ _ _ sound suited alike (GoesForth m history is) (HasNoFuture outside none) = absurd (not_empty a.history.future b.history.future m is.rest alike.future is.future none)
+  one_step a b _ _ _ _ _ sound suited alike (HasNoFuture outside none) (GoesForth n history is) = absurd (not_empty_back a.history.future b.history.future n is.rest alike.future none is.future)
+  one_step a b _ _ _ _ _ sound suited alike (HasNoFuture outside none) (HasNoFuture outside' none') = (refl, alike)
   one_step a b _ _ _ _ _ sound suited alike (Begins outside) (Begins outside') = (refl, record { map = alike.map; past = alike.past; future = alike.future; group = (alike.map, refl); broken = refl })
   one_step a b _ _ _ _ _ sound suited alike (Ends g e whole) (Ends h f whole') =
       let same = groups_meet a.history.group b.history.group g h alike.group e f in
@@ -260,7 +308,7 @@ module _ (schema : Schema) (rules : List Rule) where
   one_step a b _ _ _ _ _ sound suited alike (GoesOver mask index params leads turns after outside are are_turns) (GoesOver _ _ _ others turns' end outside' are' are_turns') =
       let same : leads ≡ others = one_each_leads a.map b.map mask index params suited.0 sound alike.map leads others are are' in
       let one = one_turns index params suited.1 (each_line rules schema.dim mask index params suited.0) others turns turns' a.map b.map after end sound alike.map (subst (λ ds. AreTurns rules index params a.map ds turns after) same are_turns) are_turns' in
-      (ap told one.0, subst (λ n. AreAlikeStates (behind_each a (count_by is_done_turn turns) after) (behind_each b n end)) (ap (count_by is_done_turn) one.0) (alike_each a b after end alike one.1 (count_by is_done_turn turns)))
+      (same_told turns turns' one.0, subst (λ n. AreAlikeStates (behind_each a (count_by is_done_turn turns) after) (behind_each b n end)) one.0.done (alike_each a b after end alike one.1 (count_by is_done_turn turns)))
 
   -- ---- its bounds
 
@@ -271,7 +319,7 @@ module _ (schema : Schema) (rules : List Rule) where
   entered_alike (Some group) (Some other) most entries groups = refl
 
   kept_entered : (g h : Group) (entries : Entries) → g.is_changed ≡ h.is_changed → group_entered g entries ≡ group_entered h entries
-  kept_entered g h entries same = ap (λ (c : Bool). record { past = if c then entries.group ∷ entries.past else entries.past; future = entries.future; group = 0 }) same
+  kept_entered g h entries same = ap (λ (c : Bool). record { past = if c then entries.group ∷ entries.past else entries.past; future = entries.future; group = entries.group }) same
 
   -- the first of a list, and the others
   heads_same : (xs ys zs : List ℕ) (x y : ℕ) → zs ≡ x ∷ xs → zs ≡ y ∷ ys → (x ≡ y) × (xs ≡ ys)
@@ -281,7 +329,7 @@ module _ (schema : Schema) (rules : List Rule) where
   AreSameBounds bounds other behind further = (bounds ≡ other) × (behind ≡ further)
 
   pub one_bounds : (a b : State) (entries : Entries) (stat : Stat) (outcome other : Outcome) (bounds bounds' : Bounds) (behind behind' : Entries) → IsSoundOf schema b.map → IsSuited schema rules stat → AreAlikeStates a b → outcome ≡ other
-      → HasBounds rules a entries stat outcome bounds behind → HasBounds rules b entries stat other bounds' behind' → AreSameBounds bounds bounds' behind behind'
+      → HasStatBounds rules a entries stat outcome bounds behind → HasStatBounds rules b entries stat other bounds' behind' → AreSameBounds bounds bounds' behind behind'
   one_bounds a b entries _ _ _ _ _ _ _ sound suited alike e (OfDone line added removed most budget) (OfDone _ added' removed' most' budget') =
       let same = one_line_budget a.map b.map line suited.1 suited.0 sound alike.map most most' budget budget' in
       let counts : (added ≡ added') × (removed ≡ removed') = (cc, cc) in (
@@ -314,13 +362,16 @@ module _ (schema : Schema) (rules : List Rule) where
   one_bounds a b entries _ _ _ _ _ _ _ sound suited alike e (OfKept g is) OfDropped = absurd cc
   one_bounds a b entries _ _ _ _ _ _ _ sound suited alike e OfDropped (OfKept h is) = absurd cc
   one_bounds a b entries _ _ _ _ _ _ _ sound suited alike e OfDropped OfDropped = (refl, refl)
-  one_bounds a b entries _ _ _ _ _ _ _ sound suited alike e (OfEach mask index params leads turns costs darts are are_costs count) (OfEach _ _ _ others turns' costs' darts' are' are_costs' count') =
+  one_bounds a b entries _ _ _ _ _ _ _ sound suited alike e (OfEach mask index params leads turns after costs darts are are_turns are_costs count) (OfEach _ _ _ others turns' end costs' darts' are' are_turns' are_costs' count') =
       let same : leads ≡ others = one_each_leads a.map b.map mask index params suited.0 sound alike.map leads others are are' in
-      let both : costs ≡ costs' = one_costs index params suited.1 (each_line rules schema.dim mask index params suited.0) others turns turns' a.map b.map costs costs' sound alike.map (subst (λ ds. AreTurnCosts rules index params a.map ds turns costs) same are_costs) are_costs' in
+      let here : AreTurns rules index params a.map others turns after = subst (λ ds. AreTurns rules index params a.map ds turns after) same are_turns in
+      let lines : (d : ℕ) → IsGoodLine rules (line_at index params d) = each_line rules schema.dim mask index params suited.0 in
+      let one : AreSameTurns turns turns' × AreAlike after end = one_turns index params suited.1 lines others turns turns' a.map b.map after end sound alike.map here are_turns' in
+      let both : costs ≡ costs' = one_costs index params suited.1 lines others turns turns' a.map b.map after end costs costs' sound alike.map here are_turns' are_costs are_costs' in
       let counted : darts ≡ darts' = one_count (IsDart b.map) darts darts' (count_same (IsDart a.map) (IsDart b.map) darts (alike.map.same.darts) count) count' in (
         ap₂ (λ (c : TurnCosts) (n : ℕ). record { least = c.least; most = c.most + 12 * (dimension a.map + 1) * (n + 1) }) both counted
             ∙ ap (λ (s : Schema). record { least = costs'.least; most = costs'.most + 12 * (s.dim + 1) * (darts' + 1) }) alike.map.schema,
-        ap₂ (λ (o : Outcome) (c : TurnCosts). each_entered o c.done entries) e both,
+        ap₂ (λ (n : ℕ) (c : TurnCosts). each_entered n c.done entries) one.0.done both,
       )
 
   -- ---- all statements

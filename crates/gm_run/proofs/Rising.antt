@@ -6,7 +6,7 @@ use Rattle.gm_model.specs.Statements.{Line, Stat}
 use Rattle.gm_model.specs.Histories.{Group, History}
 use Rattle.gm_model.specs.Maps.{Map}
 use Rattle.gm_model.specs.Rules.{Rule}
-use Rattle.gm_model.specs.Runs.{Outcome, Done, Refused, Skipped, Undone, Redone, NothingToUndo, NothingToRedo, Begun, Kept, Dropped, Each, Turn, Taken, Passed, State, AreTurns, IsLineOutcome, IsStep, IsDoneHere, IsRefusedHere, IsSkipped, GoesBack, HasNoPast, GoesForth, HasNoFuture, Begins, Ends, IsTakenBack, GoesOver, IsRun, behind_done, behind_each, is_done_turn, start_of}
+use Rattle.gm_model.specs.Runs.{Outcome, Done, Refused, Skipped, Undone, Redone, NothingToUndo, NothingToRedo, Begun, Kept, Dropped, Each, Turn, Taken, Passed, State, AreTurns, IsLineOutcome, IsStatOutcome, IsDoneHere, IsRefusedHere, IsSkipped, GoesBack, HasNoPast, GoesForth, HasNoFuture, Begins, Ends, IsTakenBack, GoesOver, IsRun, behind_done, behind_each, is_done_turn, start_of}
 
 -- ---- applications
 
@@ -27,7 +27,7 @@ turns_rise : (rules : List Rule) (rule : ℕ) (params : List Value) (before : Ma
 turns_rise rules rule params before [] [] after same = let e : after.next ≡ before.next = ap (λ (m : Map). m.next) same in omega (arith, e)
 turns_rise rules rule params before [] (turn ∷ turns) after none = absurd none
 turns_rise rules rule params before (d ∷ ds) [] after none = absurd none
-turns_rise rules rule params before (d ∷ ds) (Taken outcome ∷ turns) after (live, between, is, rest) =
+turns_rise rules rule params before (d ∷ ds) (Taken map line outcome ∷ turns) after (live, same, asks, between, is, rest) =
     let first = line_rises rules before between (record { rule = rule; hooks = d ∷ []; params = params }) outcome is in
     let others = turns_rise rules rule params between ds turns after rest in
     omega (arith, first, others)
@@ -94,7 +94,7 @@ each_in_order state after less order (suc done) = done_in_order state.map after 
 
 module _ (rules : List Rule) where
   -- what is remembered stays in order
-  step_in_order : (state : State) (stat : Stat) (outcome : Outcome) (after : State) → IsInOrder state → IsStep rules state stat outcome after → IsInOrder after
+  step_in_order : (state : State) (stat : Stat) (outcome : Outcome) (after : State) → IsInOrder state → IsStatOutcome rules state stat outcome after → IsInOrder after
   step_in_order state _ _ _ order (IsDoneHere line added removed after whole is) = done_in_order state.map after state.history state.is_broken (line_rises rules state.map after line (Done added removed) is) order
   step_in_order state _ _ _ order (IsRefusedHere line cause whole is) = record { begun = order.begun; past = order.past; future = order.future }
   step_in_order state _ _ _ order (IsSkipped line broken) = order
@@ -102,12 +102,12 @@ module _ (rules : List Rule) where
       let past = subst (AreFalling (begun_next state.map.next state.history.group)) is.past order.past in
       let here = subst (λ g. AreFalling (begun_next state.map.next g) (before ∷ is.rest)) is.outside past in
       rw is.after (record { begun = omega arith; past = here.1; future = (here.0, order.future) })
-  step_in_order state _ _ _ order (HasNoPast none) = order
+  step_in_order state _ _ _ order (HasNoPast outside none) = order
   step_in_order state _ _ _ order (GoesForth after history is) =
       let future = subst (AreRising state.map.next) is.future order.future in
       let past = subst (λ g. AreFalling (begun_next state.map.next g) state.history.past) is.outside order.past in
       rw is.after (record { begun = omega arith; past = (future.0, past); future = future.1 })
-  step_in_order state _ _ _ order (HasNoFuture none) = order
+  step_in_order state _ _ _ order (HasNoFuture outside none) = order
   step_in_order state _ _ _ order (Begins outside) = record { begun = omega arith; past = subst (λ g. AreFalling (begun_next state.map.next g) state.history.past) outside order.past; future = order.future }
   step_in_order state _ _ _ order (Ends group is whole) =
       let past = subst (λ g. AreFalling (begun_next state.map.next g) state.history.past) is order.past in
@@ -128,14 +128,14 @@ module _ (rules : List Rule) where
   each_rises state after less (suc done) = less
 
   -- the next name falls by an undo and a dropped group alone
-  pub step_rises : (state : State) (stat : Stat) (outcome : Outcome) (after : State) → IsInOrder state → IsStep rules state stat outcome after → outcome ≢ Undone → outcome ≢ Dropped → state.map.next ≤ after.map.next
+  pub step_rises : (state : State) (stat : Stat) (outcome : Outcome) (after : State) → IsInOrder state → IsStatOutcome rules state stat outcome after → outcome ≢ Undone → outcome ≢ Dropped → state.map.next ≤ after.map.next
   step_rises state _ _ _ order (IsDoneHere line added removed after whole is) other no_drop = line_rises rules state.map after line (Done added removed) is
   step_rises state _ _ _ order (IsRefusedHere line cause whole is) other no_drop = omega arith
   step_rises state _ _ _ order (IsSkipped line broken) other no_drop = omega arith
   step_rises state _ _ _ order (GoesBack before history is) other no_drop = absurd (other refl)
-  step_rises state _ _ _ order (HasNoPast none) other no_drop = omega arith
+  step_rises state _ _ _ order (HasNoPast outside none) other no_drop = omega arith
   step_rises state _ _ _ order (GoesForth after history is) other no_drop = (subst (AreRising state.map.next) is.future order.future).0
-  step_rises state _ _ _ order (HasNoFuture none) other no_drop = omega arith
+  step_rises state _ _ _ order (HasNoFuture outside none) other no_drop = omega arith
   step_rises state _ _ _ order (Begins outside) other no_drop = omega arith
   step_rises state _ _ _ order (Ends group is whole) other no_drop = omega arith
   step_rises state _ _ _ order (IsTakenBack group is broken) other no_drop = absurd (no_drop refl)

@@ -12,7 +12,7 @@ use Rattle.gm_model.specs.Histories.{Group, History, begun_at, changed, dropped,
 use Rattle.gm_model.specs.Maps.{Map, IsDart, IsSchema}
 use Rattle.gm_model.specs.Rules.{Rule}
 use Rattle.gm_model.specs.Runs as runs
-use Rattle.gm_model.specs.Runs.{Outcome, Turn, Taken, Passed, State, AreInOrder, AreLeads, AreTurns, IsLineOutcome, IsStep, IsDoneHere, IsRefusedHere, IsSkipped, GoesBack, HasNoPast, GoesForth, HasNoFuture, Begins, Ends, IsTakenBack, GoesOver, IsRun, application_of, behind_done, behind_each, behind_refused, is_done_turn, line_at, standing_at, told}
+use Rattle.gm_model.specs.Runs.{Outcome, Turn, Taken, Passed, State, AreInOrder, AreLeads, AreTurns, IsLineOutcome, IsStatOutcome, IsDoneHere, IsRefusedHere, IsSkipped, GoesBack, HasNoPast, GoesForth, HasNoFuture, Begins, Ends, IsTakenBack, GoesOver, IsRun, application_by, behind_done, behind_each, behind_refused, is_done_turn, line_at, standing_at, told}
 use Rattle.gm_theory.proofs.LeadsFound.{leads_exist}
 use Rattle.gm_theory.proofs.Lists.{none_some, some_same}
 use Rattle.gm_theory.proofs.RunsFound.{GoesOn, Stands, goes_on}
@@ -95,7 +95,7 @@ module _ (schema : Schema) (rules : List Rule) (IsSuch : Map → Type 0) (settle
       settled added removed after is (other, alike, new) = record {
         outcome = runs.Done added removed;
         after = other;
-        is = record { rule = is.rule; rule_is = is.rule_is; outcome_is = done_alike (application_of before is.rule line) (suits is.rule is.rule_is) after other alike added removed is.outcome_is };
+        is = record { rule = is.rule; rule_is = is.rule_is; outcome_is = done_alike (application_by before is.rule line) (suits is.rule is.rule_is) after other alike added removed is.outcome_is };
         kind = new;
       }
 
@@ -122,7 +122,7 @@ module _ (schema : Schema) (rules : List Rule) (IsSuch : Map → Type 0) (settle
             let first : LineThrough before (line_at index params d) = line_through before (line_at index params d) of sound kind (good d) in
             let costs : LineCosts schema rules before (line_at index params d) first.outcome first.after = line_costs schema rules before (line_at index params d) of sound (good d) first.outcome first.after first.is in
             let rest : TurnsThrough first.after leads = further first.after costs.sound first.kind in
-            record { turns = Taken first.outcome ∷ rest.turns; after = rest.after; are = (live, first.after, first.is, rest.are); kind = rest.kind }
+            record { turns = Taken before (line_at index params d) first.outcome ∷ rest.turns; after = rest.after; are = (live, refl, refl, first.after, first.is, rest.are); kind = rest.kind }
         go (inr dead) further =
             let rest : TurnsThrough before leads = further before sound kind in
             record { turns = Passed ∷ rest.turns; after = rest.after; are = (λ live. not_both (before.live d) live dead, rest.are); kind = rest.kind }
@@ -132,7 +132,7 @@ module _ (schema : Schema) (rules : List Rule) (IsSuch : Map → Type 0) (settle
   record StepThrough (next : Bool) (state : State) (stat : Stat) : Type 0 where
     outcome : Outcome
     after : State
-    step : IsStep rules state stat outcome after
+    step : IsStatOutcome rules state stat outcome after
     group : HasGroup next after.history.group
     through : IsThrough IsSuch after
 
@@ -168,7 +168,7 @@ module _ (schema : Schema) (rules : List Rule) (IsSuch : Map → Type 0) (settle
   undo_through state through outside = go state.history.past refl
     where
       go : (past : List Map) → state.history.past ≡ past → StepThrough false state statements.Undo
-      go [] e = record { outcome = runs.NothingToUndo; after = state; step = HasNoPast e; group = outside; through = through }
+      go [] e = record { outcome = runs.NothingToUndo; after = state; step = HasNoPast outside e; group = outside; through = through }
       go (before ∷ rest) e =
           let history : History = record { past = rest; future = state.map ∷ state.history.future; group = None } in
           let kinds : AllByRecursion IsSuch (before ∷ rest) = subst (AllByRecursion IsSuch) e through.past in
@@ -184,7 +184,7 @@ module _ (schema : Schema) (rules : List Rule) (IsSuch : Map → Type 0) (settle
   redo_through state through outside = go state.history.future refl
     where
       go : (future : List Map) → state.history.future ≡ future → StepThrough false state statements.Redo
-      go [] e = record { outcome = runs.NothingToRedo; after = state; step = HasNoFuture e; group = outside; through = through }
+      go [] e = record { outcome = runs.NothingToRedo; after = state; step = HasNoFuture outside e; group = outside; through = through }
       go (after ∷ rest) e =
           let history : History = record { past = state.map ∷ state.history.past; future = rest; group = None } in
           let kinds : AllByRecursion IsSuch (after ∷ rest) = subst (AllByRecursion IsSuch) e through.future in

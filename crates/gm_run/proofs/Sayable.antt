@@ -12,7 +12,7 @@ use Rattle.gm_model.specs.Applications.{Application, Cause, IsRefused, NoHookDar
 use Rattle.gm_model.specs.Budgets.{Entries}
 use Rattle.gm_model.specs.Maps.{Map}
 use Rattle.gm_model.specs.Rules.{Rule}
-use Rattle.gm_model.specs.Runs.{State, IsOutcome, IsLineOutcome, IsStep, IsDoneHere, IsRefusedHere, IsSkipped, GoesBack, HasNoPast, GoesForth, HasNoFuture, Begins, Ends, IsTakenBack, GoesOver, IsRun}
+use Rattle.gm_model.specs.Runs.{State, IsOutcome, IsLineOutcome, IsStatOutcome, IsDoneHere, IsRefusedHere, IsSkipped, GoesBack, HasNoPast, GoesForth, HasNoFuture, Begins, Ends, IsTakenBack, GoesOver, IsRun}
 use Rattle.gm_model.specs.Runs as runs
 use Rattle.gm_theory.specs.inner.Suited.{IsSuited}
 use Rattle.gm_theory.proofs.Lists.{none_some}
@@ -44,18 +44,18 @@ module _ (schema : Schema) (rules : List Rule) where
   line_sayable before after line outcome same is = record {
     named = slice_get_within rules line.rule is.rule is.rule_is;
     speaks = subst (λ found. SpeaksOf (length (unwrap_or (option_map (λ (r : Rule). r.nodes) found) [])) (length schema.embeds) outcome) (sym is.rule_is)
-        (subst (λ (s : Schema). SpeaksOf (length is.rule.nodes) (length s.embeds) outcome) same (speaks_of (runs.application_of before is.rule line) outcome after is.outcome_is));
+        (subst (λ (s : Schema). SpeaksOf (length is.rule.nodes) (length s.embeds) outcome) same (speaks_of (runs.application_by before is.rule line) outcome after is.outcome_is));
   }
 
   -- what a step tells can be said of its statement
-  step_sayable : (before after : State) (stat : Stat) (outcome : runs.Outcome) → before.map.schema ≡ schema → IsSuited schema rules stat → IsStep rules before stat outcome after → IsSayable schema rules stat outcome
+  step_sayable : (before after : State) (stat : Stat) (outcome : runs.Outcome) → before.map.schema ≡ schema → IsSuited schema rules stat → IsStatOutcome rules before stat outcome after → IsSayable schema rules stat outcome
   step_sayable before _ _ _ same suited (IsDoneHere line added removed after whole is) = line_sayable before.map after line (runs.Done added removed) same is
   step_sayable before _ _ _ same suited (IsRefusedHere line cause whole is) = line_sayable before.map before.map line (runs.Refused cause) same is
   step_sayable before _ _ _ same suited (IsSkipped line broken) = record { named = slice_get_within rules line.rule suited.0.rule suited.0.rule_is; speaks = tt }
   step_sayable before _ _ _ same suited (GoesBack map history is) = record { named = tt; speaks = tt }
-  step_sayable before _ _ _ same suited (HasNoPast none) = record { named = tt; speaks = tt }
+  step_sayable before _ _ _ same suited (HasNoPast outside none) = record { named = tt; speaks = tt }
   step_sayable before _ _ _ same suited (GoesForth map history is) = record { named = tt; speaks = tt }
-  step_sayable before _ _ _ same suited (HasNoFuture none) = record { named = tt; speaks = tt }
+  step_sayable before _ _ _ same suited (HasNoFuture outside none) = record { named = tt; speaks = tt }
   step_sayable before _ _ _ same suited (Begins outside) = record { named = tt; speaks = tt }
   step_sayable before _ _ _ same suited (Ends group is whole) = record { named = tt; speaks = tt }
   step_sayable before _ _ _ same suited (IsTakenBack group is broken) = record { named = tt; speaks = tt }

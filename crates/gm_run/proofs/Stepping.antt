@@ -7,11 +7,11 @@ use Rattle.gm_model.specs.declared.memory.OutOfMemory.{OutOfMemory}
 use Rattle.gm_model.specs.declared.schema.Schema.{Schema}
 use Rattle.gm_model.specs.Statements.{Line}
 use Rattle.gm_model.specs.Statements as statements
-use Rattle.gm_model.specs.Budgets.{Bounds, Entries, HasBounds, OfDone, OfRefused, OfSkipped, OfUndone, OfNoPast, OfRedone, OfNoFuture, OfBegun, OfKept, OfDropped, IsLineBudget, entered, group_entered, up_to}
+use Rattle.gm_model.specs.Budgets.{Bounds, Entries, HasStatBounds, OfDone, OfRefused, OfSkipped, OfUndone, OfNoPast, OfRedone, OfNoFuture, OfBegun, OfKept, OfDropped, IsLineBudget, entered, group_entered, up_to}
 use Rattle.gm_model.specs.Histories.{Group, History, IsRedone, IsUndone, begun_at, changed, done_at, dropped, kept}
 use Rattle.gm_model.specs.Maps.{Map, IsSound}
 use Rattle.gm_model.specs.Rules.{Rule}
-use Rattle.gm_model.specs.Runs.{State, IsLineOutcome, IsStep, IsDoneHere, IsRefusedHere, IsSkipped, GoesBack, HasNoPast, GoesForth, HasNoFuture, Begins, Ends, IsTakenBack, behind_done, behind_refused, standing_at}
+use Rattle.gm_model.specs.Runs.{State, IsLineOutcome, IsStatOutcome, IsDoneHere, IsRefusedHere, IsSkipped, GoesBack, HasNoPast, GoesForth, HasNoFuture, Begins, Ends, IsTakenBack, behind_done, behind_refused, standing_at}
 use Rattle.gm_model.specs.Runs as runs
 use Rattle.gm_apply.specs.declared.refusal.Refusal.{Refusal}
 use Rattle.gm_apply.specs.declared.refusal.Refusal.TheVariants as refusals
@@ -182,7 +182,7 @@ module _ (rules : List Rule) (line : Line) (m n : ArenaMap) (old new : Standing)
         moved : (first : State) (most : ℕ) → AreAlikeStates first state → IsLineBudget rules first.map line most → steps ≤ start + most
         moved first most alike given = stopped.most most (budget_alike m.schema rules first.map (as_map m) line of sound (subst (AreAlike first.map) stands.map alike.map) most given)
 
-        within : (first end : State) (costs behind : Entries) (outcome : runs.Outcome) (bounds : Bounds) → AreAlikeStates first state → IsStep rules first (statements.Apply line) outcome end → HasBounds rules first costs (statements.Apply line) outcome bounds behind → steps ≤ start + bounds.most
+        within : (first end : State) (costs behind : Entries) (outcome : runs.Outcome) (bounds : Bounds) → AreAlikeStates first state → IsStatOutcome rules first (statements.Apply line) outcome end → HasStatBounds rules first costs (statements.Apply line) outcome bounds behind → steps ≤ start + bounds.most
         within first end costs behind _ _ alike step (OfDone _ added removed most given) = moved first most alike given
         within first end costs behind _ _ alike step (OfRefused _ cause most given) = moved first most alike given
         within first end costs behind _ _ alike (IsSkipped _ broken) (OfSkipped _) = let same = alike.broken in let here = whole old.group state other stands.group in absurd cc
@@ -242,7 +242,7 @@ module _ (rules : List Rule) (m n : ArenaMap) (old new : Standing) (state : Stat
     told = runs.NothingToUndo;
     tells = refl;
     after = state;
-    step = HasNoPast none;
+    step = HasNoPast none_open.0 none;
     bounds = up_to 0;
     behind = entries;
     has = OfNoPast;
@@ -256,7 +256,7 @@ module _ (rules : List Rule) (m n : ArenaMap) (old new : Standing) (state : Stat
     told = runs.NothingToRedo;
     tells = refl;
     after = state;
-    step = HasNoFuture none;
+    step = HasNoFuture none_open.0 none;
     bounds = up_to 0;
     behind = entries;
     has = OfNoFuture;
@@ -307,7 +307,7 @@ module _ (rules : List Rule) (m n : ArenaMap) (old new : Standing) (state : Stat
       most = omega arith;
     }
 
-    pub was_dropped : (group : Group) → state.history.group ≡ Some group → state.is_broken ≡ true → as_map n ≡ group.map → StandsFor new.history n (dropped state.history) → MayTake new.history n.schema.dim (record { past = entries.past; future = entries.future; group = 0 })
+    pub was_dropped : (group : Group) → state.history.group ≡ Some group → state.is_broken ≡ true → as_map n ≡ group.map → StandsFor new.history n (dropped state.history) → MayTake new.history n.schema.dim entries
         → start ≤ steps → steps ≤ start + entries.group → HasStep rules state entries statements.End outcomes.Dropped new n start steps
     was_dropped group is broken map history costs rises within = record {
       told = runs.Dropped;
@@ -315,7 +315,7 @@ module _ (rules : List Rule) (m n : ArenaMap) (old new : Standing) (state : Stat
       after = standing_at group.map (dropped state.history);
       step = IsTakenBack group is broken;
       bounds = up_to entries.group;
-      behind = record { past = entries.past; future = entries.future; group = 0 };
+      behind = entries;
       has = OfDropped;
       stands = record { map = sym map; history = λ _. history; costs = λ _. costs; group = open_none group.map (dropped state.history) refl };
       least = omega (arith, rises);

@@ -7,11 +7,11 @@ use Rattle.std.specs.Prelude.{is_some, slice_get}
 use Rattle.std.proofs.lemmas.List.{take_all, take-append-drop}
 use Rattle.gm_model.specs.Statements.{Stat}
 use Rattle.gm_model.specs.Statements as statements
-use Rattle.gm_model.specs.Budgets.{Bounds, Entries, HasBounds, IsRunWithin, no_entries, up_to}
+use Rattle.gm_model.specs.Budgets.{Bounds, Entries, HasStatBounds, IsRunWithin, no_entries, up_to}
 use Rattle.gm_model.specs.Histories.{Group, History, changed, no_history}
 use Rattle.gm_model.specs.Maps.{Map, IsSound}
 use Rattle.gm_model.specs.Rules.{Rule}
-use Rattle.gm_model.specs.Runs.{State, start_of, AreInOrder, IsRun, IsStep, IsDoneHere, IsRefusedHere, IsSkipped, GoesBack, HasNoPast, GoesForth, HasNoFuture, Begins, Ends, IsTakenBack, GoesOver, behind_each, is_done_turn}
+use Rattle.gm_model.specs.Runs.{State, start_of, AreInOrder, IsRun, IsStatOutcome, IsDoneHere, IsRefusedHere, IsSkipped, GoesBack, HasNoPast, GoesForth, HasNoFuture, Begins, Ends, IsTakenBack, GoesOver, behind_each, is_done_turn}
 use Rattle.gm_model.specs.Runs as runs
 use Rattle.gm_arena.specs.inner.ArenaAsMap.{as_map}
 use Rattle.gm_arena.specs.inner.ArenaMap.{ArenaMap}
@@ -93,14 +93,14 @@ each_open state after zero = refl
 each_open state after (suc done) = still_open state.history.group
 
 -- behind a step the order goes on
-order_behind : (rules : List Rule) (state : State) (stat : Stat) (outcome : runs.Outcome) (after : State) (rest : List Stat) → IsStep rules state stat outcome after → AreInOrder (is_some state.history.group) (stat ∷ rest) → AreInOrder (is_some after.history.group) rest
+order_behind : (rules : List Rule) (state : State) (stat : Stat) (outcome : runs.Outcome) (after : State) (rest : List Stat) → IsStatOutcome rules state stat outcome after → AreInOrder (is_some state.history.group) (stat ∷ rest) → AreInOrder (is_some after.history.group) rest
 order_behind rules state _ _ _ rest (IsDoneHere line added removed after whole is) order = subst (λ o. AreInOrder o rest) (still_open state.history.group) order
 order_behind rules state _ _ _ rest (IsRefusedHere line cause whole is) order = order
 order_behind rules state _ _ _ rest (IsSkipped line broken) order = order
 order_behind rules state _ _ _ rest (GoesBack before history is) order = subst (λ o. AreInOrder o rest) (order.0 ∙ sym (ap (λ (h : History). is_some h.group) is.after)) order.1
-order_behind rules state _ _ _ rest (HasNoPast none) order = order.1
+order_behind rules state _ _ _ rest (HasNoPast outside none) order = order.1
 order_behind rules state _ _ _ rest (GoesForth after history is) order = subst (λ o. AreInOrder o rest) (order.0 ∙ sym (ap (λ (h : History). is_some h.group) is.after)) order.1
-order_behind rules state _ _ _ rest (HasNoFuture none) order = order.1
+order_behind rules state _ _ _ rest (HasNoFuture outside none) order = order.1
 order_behind rules state _ _ _ rest (Begins outside) order = order.1
 order_behind rules state _ _ _ rest (Ends group is whole) order = order.1
 order_behind rules state _ _ _ rest (IsTakenBack group is broken) order = order.1
@@ -182,7 +182,7 @@ module _ (rules : List Rule) (before : Map) (sound : IsSound before) where
         })
       where
         -- what the step costs is one
-        same_behind : (told : runs.Outcome) (after : State) (bounds : Bounds) (behind : Entries) → HasBounds rules through.state through.costs stat told bounds behind → (on : GoesOn before.schema rules through.state through.costs stat told after) → on.behind ≡ behind
+        same_behind : (told : runs.Outcome) (after : State) (bounds : Bounds) (behind : Entries) → HasStatBounds rules through.state through.costs stat told bounds behind → (on : GoesOn before.schema rules through.state through.costs stat told after) → on.behind ≡ behind
         same_behind told after bounds behind has on =
             (one_bounds before.schema rules through.state through.state through.costs stat told told on.bounds bounds on.behind behind through.sound.sound.map suited (states_alike_self through.state) refl on.has has).1
 

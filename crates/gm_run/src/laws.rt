@@ -5,7 +5,7 @@ ghost use Rattle.gm_model.specs.Acceptance.{IsAccepted};
 ghost use Rattle.gm_model.specs.Budgets.{Bounds, no_entries, IsRunWithin};
 ghost use Rattle.gm_model.specs.Maps.{Map, IsSchema, IsSound};
 ghost use Rattle.gm_model.specs.Rules.{Rule};
-ghost use Rattle.gm_model.specs.Runs.{Outcome, Undone, Dropped, State, start_of, IsRun, IsStep};
+ghost use Rattle.gm_model.specs.Runs.{Outcome, Undone, Dropped, State, start_of, IsRun, IsStatOutcome};
 ghost use Rattle.gm_theory.specs.inner.Outcomes.{IsGoodStat};
 ghost use Rattle.gm_run.specs.inner.Alike.{AreAlikeStates};
 
@@ -27,5 +27,5 @@ pub fn one_run_at_most()
 /// The next name never falls in a run but by an undo, or by a group that is dropped.
 pub fn next_never_falls()
     ensures { (rules : List Rule) (before : Map) (stats : List Stat) (outcomes : List Outcome) (state after : State) (stat : Stat) (outcome : Outcome) →
-        IsRun rules (start_of before) stats outcomes state → IsStep rules state stat outcome after → outcome ≢ Undone → outcome ≢ Dropped → state.map.next ≤ after.map.next }
+        IsRun rules (start_of before) stats outcomes state → IsStatOutcome rules state stat outcome after → outcome ≢ Undone → outcome ≢ Dropped → state.map.next ≤ after.map.next }
 {}

@@ -20,7 +20,10 @@ use crate::rules::RulesByName;
 use crate::sight::{Head, Sight};
 use crate::spot::Spot;
 use crate::values::fit;
-use gm_model::{Dim, LimitKind, LineRef, MOST_LINES, MOST_NAME_BYTES, MOST_NAMES, Mask, Param, StatRef, Token, Value};
+use gm_model::{
+    Dim, LimitKind, LineRef, MOST_LINES, MOST_NAME_BYTES, MOST_NAMES, Mask, Param, StatRef, Token,
+    Value,
+};
 use gm_text::with_label;
 use std::alloc::{AllocError, AllocFailed, Global};
 use std::marker::Model;

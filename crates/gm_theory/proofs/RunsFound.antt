@@ -10,13 +10,13 @@ use Rattle.gm_model.specs.Statements as statements
 use Rattle.gm_model.specs.declared.value.Value.{Value}
 use Rattle.gm_model.specs.declared.word.Mask.{Mask}
 use Rattle.gm_model.specs.Acceptance.{IsAccepted}
-use Rattle.gm_model.specs.Budgets.{Bounds, Entries, HasBounds, OfDone, OfRefused, OfSkipped, OfUndone, OfNoPast, OfRedone, OfNoFuture, OfBegun, OfKept, OfDropped, OfEach, entered, group_entered, each_entered, no_entries, up_to}
+use Rattle.gm_model.specs.Budgets.{Bounds, Entries, HasStatBounds, OfDone, OfRefused, OfSkipped, OfUndone, OfNoPast, OfRedone, OfNoFuture, OfBegun, OfKept, OfDropped, OfEach, entered, group_entered, each_entered, no_entries, up_to}
 use Rattle.gm_model.specs.Histories.{Group, History, IsRedone, IsUndone, begun_at, changed, dropped, kept, past_behind}
 use Rattle.gm_model.specs.Maps.{Map, IsDart, IsSchema, IsSound, dimension}
 use Rattle.gm_model.specs.Orbits.{IsListOf}
 use Rattle.gm_model.specs.Rules.{Rule}
 use Rattle.gm_model.specs.Runs as runs
-use Rattle.gm_model.specs.Runs.{Outcome, Turn, State, AreInOrder, AreLeads, AreTurns, IsLineOutcome, IsStep, IsDoneHere, IsRefusedHere, IsSkipped, GoesBack, HasNoPast, GoesForth, HasNoFuture, Begins, Ends, IsTakenBack, GoesOver, IsRun, behind_done, behind_each, behind_refused, is_done_turn, is_refused_turn, is_passed, standing_at, start_of, told}
+use Rattle.gm_model.specs.Runs.{Outcome, Turn, State, AreInOrder, AreLeads, AreTurns, IsLineOutcome, IsStatOutcome, IsDoneHere, IsRefusedHere, IsSkipped, GoesBack, HasNoPast, GoesForth, HasNoFuture, Begins, Ends, IsTakenBack, GoesOver, IsRun, behind_done, behind_each, behind_refused, is_done_turn, standing_at, start_of, told}
 use Rattle.gm_theory.proofs.LeadsFound.{leads_exist}
 use Rattle.gm_theory.proofs.Lists.{some_same, none_some}
 use Rattle.gm_theory.proofs.OrbitsListed.{list_all_of}
@@ -91,10 +91,10 @@ module _ (schema : Schema) where
     future = future_long state.history.group most entries;
   }
 
-  stands_each : (state : State) (entries : Entries) (after : Map) (most refused passed : ℕ) → state.history.group ≡ None → Stands state entries → IsSoundOf schema after
-      → (done : ℕ) → Stands (behind_each state done after) (each_entered (runs.Each done refused passed) most entries)
-  stands_each state entries after most refused passed outside here sound zero = here
-  stands_each state entries after most refused passed outside here sound (suc done) =
+  stands_each : (state : State) (entries : Entries) (after : Map) (most : ℕ) → state.history.group ≡ None → Stands state entries → IsSoundOf schema after
+      → (done : ℕ) → Stands (behind_each state done after) (each_entered done most entries)
+  stands_each state entries after most outside here sound zero = here
+  stands_each state entries after most outside here sound (suc done) =
       subst (λ group. Stands (behind_done state after) (entered group most entries)) outside (stands_done state entries after most here sound)
 
   -- ---- behind a group
@@ -119,7 +119,7 @@ module _ (schema : Schema) where
     pub record GoesOn (state : State) (entries : Entries) (stat : Stat) (outcome : Outcome) (after : State) : Type 0 where
       pub bounds : Bounds
       pub behind : Entries
-      pub has : HasBounds rules state entries stat outcome bounds behind
+      pub has : HasStatBounds rules state entries stat outcome bounds behind
       pub stands : Stands after behind
 
     undone : (state : State) (entries : Entries) (before : Map) (history : History) → Stands state entries → IsUndone state.map state.history before history → GoesOn state entries statements.Undo runs.Undone (standing_at before history)
@@ -165,15 +165,15 @@ module _ (schema : Schema) where
         → GoesOn state entries (statements.Each mask index params) (told turns) (behind_each state (count_by is_done_turn turns) after)
     went_over state entries mask index params leads turns after here of good outside are are_turns = go (turns_cost schema rules index params of (each_line rules schema.dim mask index params good) leads turns state.map after here.sound.map are_turns) (list_all_of (IsDart state.map) (decide_dart state.map) state.map.next here.sound.map.sound.is_map.below)
       where
-        go : TurnsCost schema rules index params of (each_line rules schema.dim mask index params good) state.map leads turns after → (darts : List ℕ) × IsListOf (IsDart state.map) darts → GoesOn state entries (statements.Each mask index params) (told turns) (behind_each state (count_by is_done_turn turns) after)
+        go : TurnsCost schema rules index params of (each_line rules schema.dim mask index params good) turns after → (darts : List ℕ) × IsListOf (IsDart state.map) darts → GoesOn state entries (statements.Each mask index params) (told turns) (behind_each state (count_by is_done_turn turns) after)
         go costs (darts, listed) = record {
           bounds = record { least = costs.costs.least; most = costs.costs.most + 12 * (dimension state.map + 1) * (length darts + 1) };
-          behind = each_entered (told turns) costs.costs.done entries;
-          has = OfEach mask index params leads turns costs.costs (length darts) are costs.are (darts, listed, refl);
-          stands = stands_each state entries after costs.costs.done (count_by is_refused_turn turns) (count_by is_passed turns) outside here costs.sound (count_by is_done_turn turns);
+          behind = each_entered (count_by is_done_turn turns) costs.costs.done entries;
+          has = OfEach mask index params leads turns after costs.costs (length darts) are are_turns costs.are (darts, listed, refl);
+          stands = stands_each state entries after costs.costs.done outside here costs.sound (count_by is_done_turn turns);
         }
 
-    pub goes_on : (state : State) (entries : Entries) (stat : Stat) (outcome : Outcome) (after : State) → Stands state entries → IsSuited schema rules stat → IsStep rules state stat outcome after → GoesOn state entries stat outcome after
+    pub goes_on : (state : State) (entries : Entries) (stat : Stat) (outcome : Outcome) (after : State) → Stands state entries → IsSuited schema rules stat → IsStatOutcome rules state stat outcome after → GoesOn state entries stat outcome after
     goes_on state entries _ _ _ here suited (IsDoneHere line added removed after whole is) =
         let costs : LineCosts schema rules state.map line (runs.Done added removed) after = line_costs schema rules state.map line suited.1 here.sound.map suited.0 (runs.Done added removed) after is in
         record {
@@ -192,9 +192,9 @@ module _ (schema : Schema) where
         }
     goes_on state entries _ _ _ here suited (IsSkipped line broken) = record { bounds = up_to 0; behind = entries; has = OfSkipped line; stands = here }
     goes_on state entries _ _ _ here suited (GoesBack before history is) = undone state entries before history here is
-    goes_on state entries _ _ _ here suited (HasNoPast none) = record { bounds = up_to 0; behind = entries; has = OfNoPast; stands = here }
+    goes_on state entries _ _ _ here suited (HasNoPast outside none) = record { bounds = up_to 0; behind = entries; has = OfNoPast; stands = here }
     goes_on state entries _ _ _ here suited (GoesForth after history is) = redone state entries after history here is
-    goes_on state entries _ _ _ here suited (HasNoFuture none) = record { bounds = up_to 0; behind = entries; has = OfNoFuture; stands = here }
+    goes_on state entries _ _ _ here suited (HasNoFuture outside none) = record { bounds = up_to 0; behind = entries; has = OfNoFuture; stands = here }
     goes_on state entries _ _ _ here suited (Begins outside) = record {
       bounds = up_to 0;
       behind = record { past = entries.past; future = entries.future; group = 0 };
@@ -217,7 +217,7 @@ module _ (schema : Schema) where
     }
     goes_on state entries _ _ _ here suited (IsTakenBack group e broken) = record {
       bounds = up_to entries.group;
-      behind = record { past = entries.past; future = entries.future; group = 0 };
+      behind = entries;
       has = OfDropped;
       stands = record {
         sound = record { map = here.sound.group group e; past = here.sound.past; future = here.sound.future; group = λ open_one g. none_some open_one g };
@@ -232,7 +232,7 @@ module _ (schema : Schema) where
     record StepFound (next : Bool) (state : State) (stat : Stat) : Type 0 where
       outcome : Outcome
       after : State
-      step : IsStep rules state stat outcome after
+      step : IsStatOutcome rules state stat outcome after
       group : HasGroup next after.history.group
 
     group_stays : (within : Bool) (group : Option Group) → HasGroup within group → HasGroup within (option_map changed group)
@@ -260,7 +260,7 @@ module _ (schema : Schema) where
     undo_found state outside = go state.history.past refl
       where
         go : (past : List Map) → state.history.past ≡ past → StepFound false state statements.Undo
-        go [] e = record { outcome = runs.NothingToUndo; after = state; step = HasNoPast e; group = outside }
+        go [] e = record { outcome = runs.NothingToUndo; after = state; step = HasNoPast outside e; group = outside }
         go (before ∷ rest) e =
             let history : History = record { past = rest; future = state.map ∷ state.history.future; group = None } in
             record { outcome = runs.Undone; after = standing_at before history; step = GoesBack before history (record { outside = outside; rest = rest; past = e; after = refl }); group = refl }
@@ -269,7 +269,7 @@ module _ (schema : Schema) where
     redo_found state outside = go state.history.future refl
       where
         go : (future : List Map) → state.history.future ≡ future → StepFound false state statements.Redo
-        go [] e = record { outcome = runs.NothingToRedo; after = state; step = HasNoFuture e; group = outside }
+        go [] e = record { outcome = runs.NothingToRedo; after = state; step = HasNoFuture outside e; group = outside }
         go (after ∷ rest) e =
             let history : History = record { past = state.map ∷ state.history.past; future = rest; group = None } in
             record { outcome = runs.Redone; after = standing_at after history; step = GoesForth after history (record { outside = outside; rest = rest; future = e; after = refl }); group = refl }

@@ -140,7 +140,7 @@ module _ (labels width : ℕ) (all : List Change) (m : ArenaMap) (made start : �
       }
 
     pub dropped_costs : (dim : ℕ) (entries : Entries) → start < made → MayTake grouped dim entries
-        → MayTake (record { labels = labels; width = width; changes = take start all; made = start; group = None }) dim (record { past = entries.past; future = entries.future; group = 0 })
+        → MayTake (record { labels = labels; width = width; changes = take start all; made = start; group = None }) dim entries
     dropped_costs dim entries less may =
         let low : start ≤ length all = omega (arith, less, stands.held.within) in
         let long : length (take start all) ≡ start = length-take-le start all low in
@@ -165,7 +165,7 @@ module _ (labels width : ℕ) (all : List Change) (m : ArenaMap) (made start : �
     }
 
     pub dropped_same_costs : (dim : ℕ) (entries : Entries) → start ≡ made → MayTake grouped dim entries
-        → MayTake (record { labels = labels; width = width; changes = all; made = made; group = None }) dim (record { past = entries.past; future = entries.future; group = 0 })
+        → MayTake (record { labels = labels; width = width; changes = all; made = made; group = None }) dim entries
     dropped_same_costs dim entries is may = record {
       past = subst (λ k. TellsBack all (λ s e most. cost_to dim all e ≤ cost_to dim all s + most) k entries.past) is may.past;
       future = may.future;

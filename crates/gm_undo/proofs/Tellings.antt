@@ -297,7 +297,7 @@ module _ (labels width : ℕ) (changes : List Change) where
         }
 
     kept_takes_from : (dim : ℕ) (group : Group) (told : History) (s : StandsFor (at made (Some start)) m told) → IsGroupAt m.schema (at made (Some start)) s.rows start group → (entries : Entries) → MayTake (at made (Some start)) dim entries → (changed : Bool) → group.is_changed ≡ changed
-        → MayTake (at made None) dim (record { past = if changed then entries.group ∷ entries.past else entries.past; future = entries.future; group = 0 })
+        → MayTake (at made None) dim (record { past = if changed then entries.group ∷ entries.past else entries.past; future = entries.future; group = entries.group })
     kept_takes_from dim group told s is entries may true e =
         let less : start < made = ltb-true start made (sym is.changed ∙ e) in
         record { past = (start, (is.one less).0, may.group, may.past); future = may.future; group = omega arith }

@@ -217,7 +217,7 @@ impl History {
         ensures map { (told : definition.History) (group : Group) → StandsFor self.old arena.old told → told.group ≡ Some group → as_map arena.new ≡ group.map }
         ensures history { (told : definition.History) → StandsFor self.old arena.old told → StandsFor self.new arena.new (dropped told) }
         ensures most { (entries : Entries) → MayTake self.old arena.old.schema.dim entries → steps.new ≤ steps.old + entries.group }
-        ensures entries { (entries : Entries) → MayTake self.old arena.old.schema.dim entries → MayTake self.new arena.new.schema.dim (record { past = entries.past; future = entries.future; group = 0 }) }
+        ensures entries { (entries : Entries) → MayTake self.old arena.old.schema.dim entries → MayTake self.new arena.new.schema.dim entries }
         ensures sound { IsSound (as_map arena.new) }
         ensures schema { arena.new.schema ≡ arena.old.schema }
         ensures rises { steps.old ≤ steps.new }

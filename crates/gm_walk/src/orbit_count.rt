@@ -14,6 +14,7 @@ ghost use Rattle.gm_arena.specs.inner.Lawful.{IsLawful};
 ghost use Rattle.gm_walk.specs.inner.Room.{Fits};
 ghost use Rattle.gm_walk.specs.inner.Seen.{HasFollowed, HasGrownBy, HasLettersOf, HasMet, HasSeen, IsClosed, seen_count};
 ghost use Rattle.gm_walk.specs.inner.Walks.{IsWord, letters_of, names_of, AreLive};
+ghost use Rattle.gm_model.specs.declared.limit.TheConstants.{MOST_DIMENSION};
 
 use crate::scratch::Scratch;
 use crate::walk::{walk_word, word_of};
@@ -32,7 +33,7 @@ pub fn orbits<L: Ledger>(
     steps: &mut Steps<L>,
 ) -> Result<u32, OutOfMemory>
     requires generalised { IsGeneralised (as_map arena.now) }
-    requires mask { (label : ℕ) → label ≤ 7 → IsTrue (has mask label) → label ≤ arena.now.schema.dim }
+    requires mask { (label : ℕ) → label ≤ MOST_DIMENSION → IsTrue (has mask label) → label ≤ arena.now.schema.dim }
     ensures orbits { IfOk result (HasOrbits (IsDart (as_map arena.now)) (as_map arena.now).alpha (has mask)) }
     ensures cost { steps.new ≤ steps.old + 8 * (arena.now.schema.dim + 1) * arena.now.count }
     ensures least { steps.old ≤ steps.new }

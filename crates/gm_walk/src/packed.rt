@@ -30,6 +30,7 @@ impl Model for PackedAt {
 }
 
 impl PackedAt {
+    ghost use Rattle.gm_model.specs.declared.limit.TheConstants.{MOST_NODES};
     /// The dart of the old map at the slot.
     #[inline(always)]
     pub fn old(slot: Slot) -> PackedAt
@@ -43,7 +44,7 @@ impl PackedAt {
     /// The new dart of an added node at a position.
     #[inline(always)]
     pub fn new(node: u8, position: u32) -> PackedAt
-        requires { node < 32 }
+        requires { node < MOST_NODES }
         ensures { result ≡ New node position }
     {
         PackedAt {

@@ -7,6 +7,7 @@ ghost use Rattle.gm_model.specs.Orbits.{IsWalk};
 ghost use Rattle.gm_walk.specs.inner.Room.{Fits};
 ghost use Rattle.gm_walk.specs.inner.Lent.{slots_of, bound_of, lender_of};
 ghost use Rattle.gm_walk.specs.inner.Walks.{IsWord, letters_of, along, names_of, AreLive, IsWalkedTo};
+ghost use Rattle.gm_model.specs.declared.limit.TheConstants.{MOST_DIMENSION};
 
 use crate::scratch::Scratch;
 use gm_arena::{Arena, Slot, Steps};
@@ -76,7 +77,7 @@ pub fn walk_mask<'s, L: Ledger>(
     steps: &mut Steps<L>,
 ) -> Walk<'s>
     requires live { IsLiveSlot arena.now from.at }
-    requires mask { (label : ℕ) → label ≤ 7 → IsTrue (has mask label) → label ≤ arena.now.schema.dim }
+    requires mask { (label : ℕ) → label ≤ MOST_DIMENSION → IsTrue (has mask label) → label ≤ arena.now.schema.dim }
     requires fits { Fits scratch.old arena.now }
     ensures walk { IsWalk (along arena.now (letters_of mask)) (length (letters_of mask)) (name_at arena.now from.at) (names_of arena.now (slots_of result)) }
     ensures live { AreLive arena.now (slots_of result) }

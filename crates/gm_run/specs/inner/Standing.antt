@@ -3,11 +3,11 @@ use Rattle.std.specs.Prelude.{◌≡◌, ℕ, ◌+◌, ◌≤◌, true, false, L
 use Rattle.gm_model.specs.Statements.{Line, Stat}
 use Rattle.gm_model.specs.Statements as statements
 use Rattle.gm_model.specs.Applications.{Cause}
-use Rattle.gm_model.specs.Budgets.{Bounds, Entries, HasBounds, IsLineBudget, entered}
+use Rattle.gm_model.specs.Budgets.{Bounds, Entries, HasStatBounds, IsLineBudget, entered}
 use Rattle.gm_model.specs.Histories.{Group, History, done_at}
 use Rattle.gm_model.specs.Maps.{Map}
 use Rattle.gm_model.specs.Rules.{Rule}
-use Rattle.gm_model.specs.Runs.{State, IsLineOutcome, IsStep}
+use Rattle.gm_model.specs.Runs.{State, IsLineOutcome, IsStatOutcome}
 use Rattle.gm_model.specs.Runs as runs
 use Rattle.gm_pending.specs.declared.applied.Applied.{Applied}
 use Rattle.gm_apply.specs.declared.refusal.Refusal.{Refusal}
@@ -71,10 +71,10 @@ pub record HasStep (rules : List Rule) (state : State) (entries : Entries) (stat
   pub told : runs.Outcome
   pub tells : outcome_of outcome ≡ Some told
   pub after : State
-  pub step : IsStep rules state stat told after
+  pub step : IsStatOutcome rules state stat told after
   pub bounds : Bounds
   pub behind : Entries
-  pub has : HasBounds rules state entries stat told bounds behind
+  pub has : HasStatBounds rules state entries stat told bounds behind
   pub stands : StandsAt standing m after behind
   pub least : start + bounds.least ≤ steps
   pub most : steps ≤ start + bounds.most
@@ -82,7 +82,7 @@ pub record HasStep (rules : List Rule) (state : State) (entries : Entries) (stat
 -- Memory was wanting at the statement. The map is as it was, or an `each` was done in part, and the steps are within whatever bounds the statement has at a state alike.
 pub record IsStopped (rules : List Rule) (state : State) (stat : Stat) (after : Map) (start steps : ℕ) : Type 0 where
   pub left : IsLeft rules state (Some stat) after
-  pub most : (other end : State) (entries behind : Entries) (outcome : runs.Outcome) (bounds : Bounds) → AreAlikeStates other state → IsStep rules other stat outcome end → HasBounds rules other entries stat outcome bounds behind → steps ≤ start + bounds.most
+  pub most : (other end : State) (entries behind : Entries) (outcome : runs.Outcome) (bounds : Bounds) → AreAlikeStates other state → IsStatOutcome rules other stat outcome end → HasStatBounds rules other entries stat outcome bounds behind → steps ≤ start + bounds.most
 
 -- ---- an application
 

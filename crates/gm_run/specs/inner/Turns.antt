@@ -1,12 +1,12 @@
 -- How far the applications of an `each` have come, which are done in a group of the history.
-use Rattle.std.specs.Prelude.{◌≡◌, ℕ, zero, suc, ◌+◌, ◌≤◌, true, List, [], ◌∷◌, Option, None, Some, length, take}
+use Rattle.std.specs.Prelude.{◌≡◌, ℕ, zero, suc, ◌+◌, ◌≤◌, true, List, [], Option, None, Some, length, take}
 use Rattle.std.specs.List.{count_by}
 use Rattle.gm_model.specs.declared.value.Value.{Value}
-use Rattle.gm_model.specs.Budgets.{Entries, IsLineBudget, TurnCosts, AreTurnCosts, changed_darts, done_part}
+use Rattle.gm_model.specs.Budgets.{Entries, TurnCosts, AreTurnCosts}
 use Rattle.gm_model.specs.Histories.{Group, History, begun_at}
 use Rattle.gm_model.specs.Maps.{Map, IsDart}
 use Rattle.gm_model.specs.Rules.{Rule}
-use Rattle.gm_model.specs.Runs.{Turn, Taken, Passed, IsLineOutcome, AreTurns, is_done_turn, is_passed, is_refused_turn, line_at}
+use Rattle.gm_model.specs.Runs.{Turn, AreTurns, is_done_turn, is_passed, is_refused_turn, line_at}
 use Rattle.gm_arena.specs.inner.ArenaAsMap.{as_map}
 use Rattle.gm_arena.specs.inner.ArenaMap.{ArenaMap}
 use Rattle.gm_run.specs.declared.each.Counts.{Counts}
@@ -49,15 +49,9 @@ entered_by_turn (Some outcome) group most entries = entered_by outcome group mos
 
 -- ---- turns
 
--- the turns at the darts, one after another, what they cost, and the map that they leave
+-- the turns at the darts, one after another, the map that they leave, and what they cost
 abbrev pub AreTallied : List Rule → ℕ → List Value → Map → List ℕ → List Turn → TurnCosts → Map → Type 0
-AreTallied rules rule params before [] [] costs after = (after ≡ before) × (costs ≡ record { least = 0; most = 0; done = 0 })
-AreTallied rules rule params before (d ∷ ds) (Taken outcome ∷ turns) costs after =
-    IsDart before d × (between : Map) × (most : ℕ) × (rest : TurnCosts) × IsLineOutcome rules before (line_at rule params d) outcome between × IsLineBudget rules before (line_at rule params d) most
-    × AreTallied rules rule params between ds turns rest after
-    × (costs ≡ record { least = changed_darts outcome + rest.least; most = most + rest.most; done = done_part outcome most + rest.done })
-AreTallied rules rule params before (d ∷ ds) (Passed ∷ turns) costs after = (IsDart before d → ⊥) × AreTallied rules rule params before ds turns costs after
-AreTallied rules rule params before _ _ costs after = ⊥
+AreTallied rules rule params before leads turns costs after = AreTurns rules rule params before leads turns after × AreTurnCosts rules turns costs
 
 -- so many were done, refused and passed over
 pub record Tells (counts : Counts) (turns : List Turn) : Type 0 where
@@ -87,4 +81,4 @@ pub record StopsWithin (rules : List Rule) (rule : ℕ) (params : List Value) (b
   pub some : ℕ
   pub turns : List Turn
   pub are : AreTurns rules rule params before (take some leads) turns after
-  pub most : (other : Map) (others : List Turn) (costs : TurnCosts) → AreAlike other before → AreTurnCosts rules rule params other leads others costs → steps ≤ start + costs.most + length leads
+  pub most : (other end : Map) (others : List Turn) (costs : TurnCosts) → AreAlike other before → AreTurns rules rule params other leads others end → AreTurnCosts rules others costs → steps ≤ start + costs.most + length leads
