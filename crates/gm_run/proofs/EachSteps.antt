@@ -37,7 +37,7 @@ use Rattle.gm_run.specs.declared.standing.Open.TheVariants as opens
 use Rattle.gm_run.specs.declared.standing.Standing.{Standing}
 use Rattle.gm_run.specs.inner.Alike.{AreAlike, AreAlikeStates}
 use Rattle.gm_run.specs.inner.Progress.{IsLeft, BehindAll, WithinEach}
-use Rattle.gm_run.specs.inner.Standing.{HasLine, WasDone, WasRefused, HasOpen, HasStep, IsStopped, MayGoBack, Remembers, StandsAt, entered_by, told_behind}
+use Rattle.gm_run.specs.inner.Standing.{HasLine, WasDone, WasRefused, HasOpen, HasStep, IsStopped, MayGoBack, MayRecall, Recalls, Remembers, StandsAt, entered_by, nearest, told_behind}
 use Rattle.gm_run.specs.inner.Turns.{AreTallied, HasTurn, HaveTurns, StopsAtTurn, StopsWithin, counted, entered_by_turn, entered_turns, told_by, within_turns}
 use Rattle.gm_run.proofs.OneRun.{one_each_leads}
 use Rattle.gm_run.proofs.Tallies.{costs_together, cost_of, no_costs, passed_on, taken_on, turns_sound, unchanged, within_all}
@@ -82,7 +82,7 @@ entered_within map history entries zero cost most = ap (λ n. record { past = en
 entered_within map history entries (suc done) cost most = ap (λ n. record { past = entries.past; future = []; group = n }) (omega arith)
 
 -- where no group is open, nothing need be told of its cost
-any_group : (history : HistoryOf) (m : ArenaMap) (dim : ℕ) (behind : History) (past future : List ℕ) (group other : ℕ) → StandsFor history m behind → behind.group ≡ None → MayTake history dim (record { past = past; future = future; group = group }) → MayTake history dim (record { past = past; future = future; group = other })
+pub any_group : (history : HistoryOf) (m : ArenaMap) (dim : ℕ) (behind : History) (past future : List ℕ) (group other : ℕ) → StandsFor history m behind → behind.group ≡ None → MayTake history dim (record { past = past; future = future; group = group }) → MayTake history dim (record { past = past; future = future; group = other })
 any_group history m dim behind past future group other stands none costs = record { past = costs.past; future = costs.future; group = go history.group refl behind.group none stands.group }
   where
     go : (o : Option ℕ) → history.group ≡ o → (g : Option Group) → g ≡ None → AreGroupsAlike m.schema history stands.rows o g → cost_to dim history.changes history.made ≤ cost_to dim history.changes (group_start history) + other
@@ -302,13 +302,23 @@ module _ (schema : Schema) (rules : List Rule) (mask : Mask) (index : ℕ) (para
         open_is zero = closed
         open_is (suc k) = (ap (option_map changed) closed.0, closed.1)
 
+        without_group : new.keeps.on ≡ true → (past future : List ℕ) (cost : ℕ) → MayRecall new.keeps.reach new.history n.schema.dim (record { past = past; future = future; group = cost })
+            → MayRecall new.keeps.reach new.history n.schema.dim (record { past = past; future = future; group = entries.group })
+        without_group keeps past future cost may =
+            let r = history_is keeps in
+            record {
+              past = may.past;
+              future = may.future;
+              past_far = may.past_far;
+              future_far = may.future_far;
+              costs = any_group new.history n n.schema.dim (nearest r.past r.future (behind_each state (count_by is_done_turn have.turns) (as_map n)).history) (take may.past past) (take may.future future) cost entries.group r.stands (open_is (count_by is_done_turn have.turns)).0 may.costs;
+            }
+
         costs_are : (k : ℕ) → (count_by is_done_turn have.turns) ≡ k → MayGoBack new n.schema.dim (each_entered k have.costs.done entries)
         costs_are zero e =
-            λ keeps. any_group new.history n n.schema.dim (behind_each state (count_by is_done_turn have.turns) (as_map n)).history entries.past entries.future have.costs.done entries.group (history_is keeps) (open_is (count_by is_done_turn have.turns)).0
-            (subst (λ k. MayGoBack new n.schema.dim (group_entered (group_within (as_map m) k) (entered_turns entries k have.costs.done))) e kept_costs keeps)
+            λ keeps. without_group keeps entries.past entries.future have.costs.done (subst (λ k. MayGoBack new n.schema.dim (group_entered (group_within (as_map m) k) (entered_turns entries k have.costs.done))) e kept_costs keeps)
         costs_are (suc k) e =
-            λ keeps. any_group new.history n n.schema.dim (behind_each state (count_by is_done_turn have.turns) (as_map n)).history (have.costs.done ∷ entries.past) [] have.costs.done entries.group (history_is keeps) (open_is (count_by is_done_turn have.turns)).0
-            (subst (λ k. MayGoBack new n.schema.dim (group_entered (group_within (as_map m) k) (entered_turns entries k have.costs.done))) e kept_costs keeps)
+            λ keeps. without_group keeps (have.costs.done ∷ entries.past) [] have.costs.done (subst (λ k. MayGoBack new n.schema.dim (group_entered (group_within (as_map m) k) (entered_turns entries k have.costs.done))) e kept_costs keeps)
 
     -- ---- memory was wanting
 

@@ -16,6 +16,7 @@ pub mod Rising
 pub mod RunsThrough
 pub mod EachSteps
 pub mod Sayable
+pub mod Settled
 pub mod Stepping
 pub mod Tallies
 pub mod Telling

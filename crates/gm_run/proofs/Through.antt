@@ -1,6 +1,5 @@
 -- How far a run has come, statement by statement, and what is known where it ends.
-use Rattle.std.proofs.Common.{◌≡◌, ℕ, zero, suc, ◌+◌, ◌≤◌, Bool, true, false, ltb, inl, inr, List, [], ◌∷◌, ◌++◌, take, drop, length, Option, None, Some, refl, sym, ap, subst, ◌∙◌, arith}
-use Rattle.std.proofs.lemmas.Bool.{cases_lt, false≢true, lt-ltb, ltb-true}
+use Rattle.std.proofs.Common.{◌≡◌, ℕ, zero, suc, ◌+◌, ◌≤◌, Bool, true, false, List, [], ◌∷◌, ◌++◌, take, drop, length, Option, None, Some, refl, sym, ap, subst, ◌∙◌, arith}
 use Rattle.std.specs.List.{AllByRecursion, count_by}
 use Rattle.std.specs.Option.{option_map}
 use Rattle.std.specs.Prelude.{is_some, slice_get}
@@ -60,35 +59,18 @@ is_open opens.Nothing = false
 is_open opens.Whole = true
 is_open opens.Broken = true
 
--- ---- whether the history is needed
-
-abbrev pub keeping : Bool → Standing → Standing
-keeping keeps standing = record { keeps = keeps; history = standing.history; group = standing.group; scratch = standing.scratch }
-
--- so many statements were run, and one that needs the history is at hand or to come
-pub still_kept : (keeps : Bool) (k needing : ℕ) → (keeps ≡ false → needing ≤ k) → ltb k needing ≡ true → keeps ≡ true
-still_kept true k needing past test = refl
-still_kept false k needing past test = let over = past refl in let within = ltb-true k needing test in absurd (omega (arith, over, within))
-
--- and none is
-pub past_needing : (k needing : ℕ) → ltb k needing ≡ false → needing ≤ k + 1
-past_needing k needing test = elim (cases_lt k needing) [
-  | inl within ↦ absurd (false≢true (sym test ∙ lt-ltb k needing within))
-  | inr past ↦ omega (arith, past)
-]
-
 -- ---- the order of statements
 
-open_as : (opened : Open) (state : State) → HasOpen opened state → is_open opened ≡ is_some state.history.group
+pub open_as : (opened : Open) (state : State) → HasOpen opened state → is_open opened ≡ is_some state.history.group
 open_as opens.Nothing state has = sym (ap is_some has.0)
 open_as opens.Whole state has = sym (ap is_some has.1)
 open_as opens.Broken state has = sym (ap is_some has.1)
 
-still_open : (group : Option Group) → is_some group ≡ is_some (option_map changed group)
+pub still_open : (group : Option Group) → is_some group ≡ is_some (option_map changed group)
 still_open None = refl
 still_open (Some group) = refl
 
-each_open : (state : State) (after : Map) (done : ℕ) → is_some state.history.group ≡ is_some (behind_each state done after).history.group
+pub each_open : (state : State) (after : Map) (done : ℕ) → is_some state.history.group ≡ is_some (behind_each state done after).history.group
 each_open state after zero = refl
 each_open state after (suc done) = still_open state.history.group
 
@@ -135,14 +117,19 @@ module _ (rules : List Rule) (before : Map) (sound : IsSound before) where
     course = (refl, refl, refl);
     suited = tt;
     sound = stands_first before sound;
-    stands = record { map = same; history = λ _. history; costs = λ _. costs; group = subst (λ o. HasOpen o (start_of before)) (sym outside) (refl, refl) };
+    stands = record {
+      map = same;
+      history = λ _. record { past = suc standing.keeps.reach; future = suc standing.keeps.reach; past_far = omega arith; future_far = omega arith; stands = history };
+      costs = λ _. record { past = suc standing.keeps.reach; future = suc standing.keeps.reach; past_far = omega arith; future_far = omega arith; costs = costs };
+      group = subst (λ o. HasOpen o (start_of before)) (sym outside) (refl, refl);
+    };
     least = omega arith;
     most = omega arith;
   }
 
-  -- from here on the history may be needed no more
-  pub through_as : (stats : List Stat) (lines : List Outcome) (standing : Standing) (m : ArenaMap) (start steps : ℕ) (keeps : Bool) → (keeps ≡ true → standing.keeps ≡ true) → IsThrough rules before stats lines standing m start steps → IsThrough rules before stats lines (keeping keeps standing) m start steps
-  through_as stats lines standing m start steps keeps kept through = record {
+  -- less may be kept from here on
+  pub through_as : (stats : List Stat) (lines : List Outcome) (old new : Standing) (m : ArenaMap) (start steps : ℕ) → ((state : State) (costs : Entries) → StandsAt old m state costs → StandsAt new m state costs) → IsThrough rules before stats lines old m start steps → IsThrough rules before stats lines new m start steps
+  through_as stats lines old new m start steps settled through = record {
     told = through.told;
     tells = through.tells;
     state = through.state;
@@ -151,7 +138,7 @@ module _ (rules : List Rule) (before : Map) (sound : IsSound before) where
     course = through.course;
     suited = through.suited;
     sound = through.sound;
-    stands = record { map = through.stands.map; history = λ e. through.stands.history (kept e); costs = λ e. through.stands.costs (kept e); group = through.stands.group };
+    stands = settled through.state through.costs through.stands;
     least = through.least;
     most = through.most;
   }

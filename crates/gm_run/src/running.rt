@@ -1,6 +1,7 @@
 //! A run: the statements of a script, one after another.
-ghost use Rattle.std.specs.Prelude.{◌≡◌, ℕ, ◌+◌, ◌<◌, ◌≤◌, true, false, All, IfOk, IfErr, List, MatchResult, Some, slice_get};
-ghost use Rattle.gm_model.specs.Statements.{Stat, stat_of};
+ghost use Rattle.std.specs.Prelude.{◌≡◌, ℕ, ◌+◌, ◌<◌, ◌≤◌, false, All, IfOk, IfErr, List, MatchResult, true};
+ghost use Rattle.std.specs.List.{sum_by};
+ghost use Rattle.gm_model.specs.Statements.{stat_of};
 ghost use Rattle.gm_model.specs.Budgets.{Bounds, Entries, no_entries, IsRunWithin};
 ghost use Rattle.gm_model.specs.Maps.{IsDart, IsSound};
 ghost use Rattle.gm_model.specs.Orbits.{HasCount};
@@ -14,11 +15,12 @@ ghost use Rattle.gm_run.specs.inner.Lines.{Tells};
 ghost use Rattle.gm_run.specs.inner.Printing.{CanBePrinted};
 ghost use Rattle.gm_run.specs.inner.Progress.{rules_of, ArePlansFor, IsCutShort};
 ghost use Rattle.gm_run.specs.inner.Standing.{StandsAt, HasStep, IsAllowed, IsStopped, NeedsHistory};
+ghost use Rattle.gm_run.specs.inner.Standing as definition;
 
 use crate::each::run_each;
 use crate::lines::run_line;
 use crate::outcome::{Outcome, Report};
-use crate::standing::{Open, Standing};
+use crate::standing::{Keeping, Open, Standing};
 use gm_arena::{Arena, Steps};
 use gm_model::{Items, MOST_DARTS, OutOfMemory, Script, StatRef};
 use gm_plan::Plan;
@@ -64,9 +66,11 @@ pub fn run<L: Ledger>(
     ensures spare_stays { arena.old.count + arena.old.spare ≤ arena.new.count + arena.new.spare }
     ensures reserved_stays { arena.old.reserved ≤ arena.new.reserved }
 {
-    let needing = needing(script);
     let mut standing = Standing {
-        keeps: true,
+        keeps: Keeping {
+            on: true,
+            reach: goings(script),
+        },
         history: History::new(alloc),
         group: Open::Nothing,
         scratch: Scratch::new(alloc),
@@ -76,8 +80,8 @@ pub fn run<L: Ledger>(
     let count = script.len();
     let mut outcomes = Vec::with_capacity(alloc, count)?;
     for index in 0..count {
-        standing.keeps = index < needing;
         let stat = script.get(index);
+        standing.settle(alloc, stat, arena);
         let outcome = stat_outcome(alloc, plans, stat, arena, &mut standing, steps)?;
         outcomes.push_reserved(outcome);
     }
@@ -88,26 +92,25 @@ pub fn run<L: Ledger>(
     })
 }
 
-/// So many statements there are up to the last one that needs what is kept of those before it. The
-/// applications behind it needn't be kept.
-fn needing(script: &Script) -> usize
-    ensures { (k : ℕ) (stat : Stat) → slice_get script.now.stats k ≡ Some stat → NeedsHistory stat → k < result }
+/// So many of the statements go back or on.
+fn goings(script: &Script) -> usize
+    ensures { result ≡ sum_by definition.going script.now.stats }
 {
-    for index in (0..script.len()).rev() {
-        if needs_history(script.get(index)) {
-            return index + 1;
-        }
+    let mut all = 0;
+    for index in 0..script.len() {
+        all += going(script.get(index));
     }
-    0
+    all
 }
 
-/// Whether the statement goes back or on, or stands for that at the end of its group.
-fn needs_history(stat: StatRef<'_>) -> bool
-    ensures { result ≡ false → NeedsHistory (stat_of stat.entry) → ⊥ }
+/// 1 for a statement that goes back or on.
+fn going(stat: StatRef<'_>) -> usize
+    ensures one { result ≤ 1 }
+    ensures going { result ≡ definition.going (stat_of stat.entry) }
 {
     match stat {
-        StatRef::Apply(_) | StatRef::Each { .. } => false,
-        StatRef::Undo | StatRef::Redo | StatRef::Group | StatRef::End => true,
+        StatRef::Undo | StatRef::Redo => 1,
+        StatRef::Apply(_) | StatRef::Each { .. } | StatRef::Group | StatRef::End => 0,
     }
 }
 
@@ -125,11 +128,13 @@ fn stat_outcome<L: Ledger>(
     requires good { IsGoodStat (rules_of plans.now) arena.old.schema.dim (stat_of stat) }
     requires stands { (state : State) × (entries : Entries) × StandsAt standing.old arena.old state entries }
     requires allowed { IsAllowed standing.old.group (stat_of stat) }
-    requires needs { NeedsHistory (stat_of stat) → standing.old.keeps ≡ true }
+    requires needs { NeedsHistory (stat_of stat) → standing.old.keeps.on ≡ true }
+    requires reach { definition.going (stat_of stat) ≤ standing.old.keeps.reach }
     ensures step { (state : State) (entries : Entries) → StandsAt standing.old arena.old state entries → MatchResult result
         (λ outcome. HasStep (rules_of plans.now) state entries (stat_of stat.entry) outcome standing.new arena.new steps.old steps.new)
         (λ _. IsStopped (rules_of plans.now) state (stat_of stat.entry) (as_map arena.new) steps.old steps.new) }
-    ensures keeps { standing.new.keeps ≡ standing.old.keeps }
+    ensures keeps { standing.new.keeps.on ≡ standing.old.keeps.on }
+    ensures reach { standing.new.keeps.reach + definition.going (stat_of stat.entry) ≡ standing.old.keeps.reach }
     ensures suited { IsSuited arena.old.schema (rules_of plans.now) (stat_of stat.entry) }
     ensures sound { IsSound (as_map arena.new) }
     ensures schema { arena.new.schema ≡ arena.old.schema }

@@ -1,6 +1,7 @@
 //! Where a run stands, and the statements that change no more of the map than to lead it back or on.
-ghost use Rattle.std.specs.Prelude.{◌≡◌, ◌≢◌, ◌+◌, ◌≤◌, ℕ, true, false, List, None, Some, IfOk, MatchResult, length};
+ghost use Rattle.std.specs.Prelude.{◌≡◌, ◌≢◌, ◌+◌, ◌<◌, ◌≤◌, ℕ, true, false, List, None, Some, IfOk, MatchResult, length};
 ghost use Rattle.gm_model.specs.Statements as statements;
+ghost use Rattle.gm_model.specs.Statements.{stat_of};
 ghost use Rattle.gm_model.specs.Applications.{IsBudget, IsDone};
 ghost use Rattle.gm_model.specs.Budgets.{Entries, entered, group_entered};
 ghost use Rattle.gm_model.specs.Histories as definition;
@@ -14,12 +15,12 @@ ghost use Rattle.gm_run.specs.declared.standing.Open.TheVariants as opens;
 ghost use Rattle.gm_match.specs.inner.Outcome.{application_of};
 ghost use Rattle.gm_pending.specs.inner.EditLists.{HasSameRows};
 ghost use Rattle.gm_apply.specs.inner.Outcomes.{IsRefusedFor};
-ghost use Rattle.gm_run.specs.inner.Standing.{StandsAt, HasStep, IsInGroup, MayGoBack, Remembers};
+ghost use Rattle.gm_run.specs.inner.Standing.{StandsAt, HasStep, IsAllowed, IsInGroup, KeepsEnough, MayGoBack, NeedsHistory, Remembers, going};
 
 use crate::outcome::Outcome;
 use gm_apply::{Applied, Refusal, apply};
 use gm_arena::{Arena, Steps};
-use gm_model::Value;
+use gm_model::{MOST_DARTS, StatRef, Value};
 use gm_plan::Plan;
 use gm_undo::History;
 use gm_walk::Scratch;
@@ -36,6 +37,13 @@ pub(crate) enum Open {
 }
 
 impl Open {
+    pub(crate) fn is_open(self) -> bool
+        ensures open { result ≡ true → IsInGroup self }
+        ensures outside { result ≡ false → self ≡ opens.Nothing }
+    {
+        !matches!(self, Open::Nothing)
+    }
+
     pub(crate) fn is_broken(self) -> bool
         ensures broken { result ≡ true → self ≡ opens.Broken }
         ensures whole { result ≡ false → self ≢ opens.Broken }
@@ -44,11 +52,19 @@ impl Open {
     }
 }
 
+/// What is kept of the applications that were done.
+#[derive(Clone, Copy)]
+pub(crate) struct Keeping {
+    /// Whether anything is: a statement to come goes back or on, or a group is open.
+    pub(crate) on: bool,
+    /// So many statements to come go back or on. No more entries of the past can be reached.
+    pub(crate) reach: usize,
+}
+
 /// Where a run stands, beside the map in the arena.
 #[derive(Drop)]
 pub(crate) struct Standing {
-    /// Whether a statement that needs the history is at hand or to come. Else none is kept.
-    pub(crate) keeps: bool,
+    pub(crate) keeps: Keeping,
     pub(crate) history: History,
     pub(crate) group: Open,
     pub(crate) scratch: Scratch,
@@ -96,11 +112,40 @@ impl Standing {
             scratch,
             ..
         } = self;
-        if *keeps {
+        if keeps.on {
             history.apply(alloc, plan, arena, hooks, params, scratch, steps)
         } else {
             apply(alloc, plan, arena, hooks, params, scratch, steps)
         }
+    }
+
+    /// Makes ready for the statement. Outside groups, nothing is kept for none that goes back or on;
+    /// a group needs what it began with, and no more.
+    pub(crate) fn settle(&mut self, alloc: Global, stat: StatRef<'_>, arena: &Arena)
+        requires sound { IsSound (as_map arena.now) }
+        requires enough { KeepsEnough self.old }
+        ensures stands { (state : State) (entries : Entries) → StandsAt self.old arena.now state entries → StandsAt self.new arena.now state entries }
+        ensures enough { KeepsEnough self.new }
+        ensures needs { NeedsHistory (stat_of stat.entry) → IsAllowed self.old.group (stat_of stat.entry) → going (stat_of stat.entry) ≤ self.old.keeps.reach → self.new.keeps.on ≡ true }
+        ensures reach { self.new.keeps.reach ≡ self.old.keeps.reach }
+        ensures group { self.new.group ≡ self.old.group }
+    {
+        // The arena tells here what it holds.
+        prove!(arena.count() <= MOST_DARTS);
+        let needed = self.may_go_back();
+        if needed {
+            return;
+        }
+        self.history = History::new(alloc);
+        self.keeps.on = begins_group(stat);
+    }
+
+    /// Whether something may be taken back: a statement to come goes back or on, or a group is open.
+    fn may_go_back(&self) -> bool
+        ensures kept { result ≡ true → KeepsEnough self.now → self.now.keeps.on ≡ true }
+        ensures none { result ≡ false → (self.now.group ≡ opens.Nothing) × (self.now.keeps.reach ≡ 0) }
+    {
+        self.keeps.reach > 0 || self.group.is_open()
     }
 
     /// Begins what is one entry of the history, though no group of the script.
@@ -111,7 +156,7 @@ impl Standing {
         ensures keeps { self.new.keeps ≡ self.old.keeps }
         ensures group { self.new.group ≡ self.old.group }
     {
-        if self.keeps {
+        if self.keeps.on {
             self.history.begin(arena);
         }
     }
@@ -124,22 +169,25 @@ impl Standing {
         ensures keeps { self.new.keeps ≡ self.old.keeps }
         ensures group { self.new.group ≡ self.old.group }
     {
-        if self.keeps {
+        if self.keeps.on {
             self.history.keep(arena);
         }
     }
 
     pub(crate) fn undo<L: Ledger>(&mut self, arena: &mut Arena, steps: &mut Steps<L>) -> Outcome
-        requires keeps { self.old.keeps ≡ true }
+        requires keeps { self.old.keeps.on ≡ true }
+        requires reach { 0 < self.old.keeps.reach }
         requires stands { (state : State) × (entries : Entries) × StandsAt self.old arena.old state entries }
         requires outside { self.old.group ≡ opens.Nothing }
         ensures step { (rules : List Rule) (state : State) (entries : Entries) → StandsAt self.old arena.old state entries → HasStep rules state entries statements.Undo result self.new arena.new steps.old steps.new }
-        ensures keeps { self.new.keeps ≡ self.old.keeps }
+        ensures keeps { self.new.keeps.on ≡ self.old.keeps.on }
+        ensures reach { self.new.keeps.reach + 1 ≡ self.old.keeps.reach }
         ensures sound { IsSound (as_map arena.old) → IsSound (as_map arena.new) }
         ensures schema { arena.new.schema ≡ arena.old.schema }
         ensures spare_stays { arena.old.count + arena.old.spare ≤ arena.new.count + arena.new.spare }
         ensures reserved_stays { arena.old.reserved ≤ arena.new.reserved }
     {
+        self.keeps.reach -= 1;
         match self.history.undo(arena, steps) {
             Ok(()) => Outcome::Undone,
             Err(_) => Outcome::NothingToUndo,
@@ -147,16 +195,19 @@ impl Standing {
     }
 
     pub(crate) fn redo<L: Ledger>(&mut self, arena: &mut Arena, steps: &mut Steps<L>) -> Outcome
-        requires keeps { self.old.keeps ≡ true }
+        requires keeps { self.old.keeps.on ≡ true }
+        requires reach { 0 < self.old.keeps.reach }
         requires stands { (state : State) × (entries : Entries) × StandsAt self.old arena.old state entries }
         requires outside { self.old.group ≡ opens.Nothing }
         ensures step { (rules : List Rule) (state : State) (entries : Entries) → StandsAt self.old arena.old state entries → HasStep rules state entries statements.Redo result self.new arena.new steps.old steps.new }
-        ensures keeps { self.new.keeps ≡ self.old.keeps }
+        ensures keeps { self.new.keeps.on ≡ self.old.keeps.on }
+        ensures reach { self.new.keeps.reach + 1 ≡ self.old.keeps.reach }
         ensures sound { IsSound (as_map arena.old) → IsSound (as_map arena.new) }
         ensures schema { arena.new.schema ≡ arena.old.schema }
         ensures spare_stays { arena.old.count + arena.old.spare ≤ arena.new.count + arena.new.spare }
         ensures reserved_stays { arena.old.reserved ≤ arena.new.reserved }
     {
+        self.keeps.reach -= 1;
         match self.history.redo(arena, steps) {
             Ok(()) => Outcome::Redone,
             Err(_) => Outcome::NothingToRedo,
@@ -164,7 +215,7 @@ impl Standing {
     }
 
     pub(crate) fn begin(&mut self, arena: &Arena) -> Outcome
-        requires keeps { self.old.keeps ≡ true }
+        requires keeps { self.old.keeps.on ≡ true }
         requires stands { (state : State) × (entries : Entries) × StandsAt self.old arena.now state entries }
         requires outside { self.old.group ≡ opens.Nothing }
         ensures step { (rules : List Rule) (state : State) (entries : Entries) (steps : ℕ) → StandsAt self.old arena.now state entries → HasStep rules state entries statements.Group result self.new arena.now steps steps }
@@ -178,7 +229,7 @@ impl Standing {
     /// Ends the group: what was done in it stands, or is taken back where an application of it was
     /// refused.
     pub(crate) fn end<L: Ledger>(&mut self, arena: &mut Arena, steps: &mut Steps<L>) -> Outcome
-        requires keeps { self.old.keeps ≡ true }
+        requires keeps { self.old.keeps.on ≡ true }
         requires stands { (state : State) × (entries : Entries) × StandsAt self.old arena.old state entries }
         requires inside { IsInGroup self.old.group }
         ensures step { (rules : List Rule) (state : State) (entries : Entries) → StandsAt self.old arena.old state entries → HasStep rules state entries statements.End result self.new arena.new steps.old steps.new }
@@ -197,4 +248,11 @@ impl Standing {
         self.history.keep(arena);
         Outcome::Kept
     }
+}
+
+/// Whether a group begins with the statement.
+fn begins_group(stat: StatRef<'_>) -> bool
+    ensures { result ≡ false → stat_of stat.entry ≢ statements.Group }
+{
+    matches!(stat, StatRef::Group)
 }

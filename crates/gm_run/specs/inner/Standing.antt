@@ -1,5 +1,5 @@
 -- Where a run stands in the code, and what is known of a statement that it ran.
-use Rattle.std.specs.Prelude.{◌≡◌, ℕ, ◌+◌, ◌≤◌, true, false, List, Option, None, Some}
+use Rattle.std.specs.Prelude.{◌≡◌, ℕ, ◌+◌, ◌<◌, ◌≤◌, true, false, List, take, Option, None, Some}
 use Rattle.gm_model.specs.Statements.{Line, Stat}
 use Rattle.gm_model.specs.Statements as statements
 use Rattle.gm_model.specs.Applications.{Cause}
@@ -14,6 +14,7 @@ use Rattle.gm_apply.specs.declared.refusal.Refusal.{Refusal}
 use Rattle.gm_arena.specs.inner.ArenaAsMap.{as_map}
 use Rattle.gm_arena.specs.inner.ArenaMap.{ArenaMap}
 use Rattle.gm_undo.specs.inner.Costs.{MayTake}
+use Rattle.gm_undo.specs.inner.Kept.{HistoryOf}
 use Rattle.gm_undo.specs.inner.Standing.{StandsFor}
 use Rattle.gm_run.specs.declared.outcome.Outcome.{Outcome}
 use Rattle.gm_run.specs.declared.outcome.Outcome.TheVariants as outcomes
@@ -49,13 +50,49 @@ NeedsHistory (statements.Apply line) = ⊥
 NeedsHistory (statements.Each mask rule params) = ⊥
 NeedsHistory _ = Unit {0}
 
--- where the history is needed, it stands for this one
+-- how often it goes to another map that is remembered
+abbrev pub going : Stat → ℕ
+going statements.Undo = 1
+going statements.Redo = 1
+going _ = 0
+
+-- ---- what is kept
+
+-- so many of the maps of the past and of the future, the nearest ones
+abbrev pub nearest : ℕ → ℕ → History → History
+nearest past future told = record { past = take past told.past; future = take future told.future; group = told.group }
+
+abbrev pub nearest_entries : ℕ → ℕ → Entries → Entries
+nearest_entries past future entries = record { past = take past entries.past; future = take future entries.future; group = entries.group }
+
+-- the history stands for this one as far as so many statements can go, back or on
+pub record Recalls (reach : ℕ) (history : HistoryOf) (m : ArenaMap) (told : History) : Type 0 where
+  pub past : ℕ
+  pub future : ℕ
+  pub past_far : reach ≤ past
+  pub future_far : reach ≤ future
+  pub stands : StandsFor history m (nearest past future told)
+
+-- and each entry that they can go to may take so much
+pub record MayRecall (reach : ℕ) (history : HistoryOf) (dim : ℕ) (entries : Entries) : Type 0 where
+  pub past : ℕ
+  pub future : ℕ
+  pub past_far : reach ≤ past
+  pub future_far : reach ≤ future
+  pub costs : MayTake history dim (nearest_entries past future entries)
+
+-- where the history is kept, it stands for this one as far as it is needed
 abbrev pub Remembers : Standing → ArenaMap → History → Type 0
-Remembers standing m told = standing.keeps ≡ true → StandsFor standing.history m told
+Remembers standing m told = standing.keeps.on ≡ true → Recalls standing.keeps.reach standing.history m told
 
 -- and each entry of it may take so much
 abbrev pub MayGoBack : Standing → ℕ → Entries → Type 0
-MayGoBack standing dim entries = standing.keeps ≡ true → MayTake standing.history dim entries
+MayGoBack standing dim entries = standing.keeps.on ≡ true → MayRecall standing.keeps.reach standing.history dim entries
+
+-- it is kept where a statement to come goes back or on, and where a group is open
+pub record KeepsEnough (standing : Standing) : Type 0 where
+  pub reaches : 0 < standing.keeps.reach → standing.keeps.on ≡ true
+  pub grouped : IsInGroup standing.group → standing.keeps.on ≡ true
 
 -- the arena has the state's map, and what is kept beside it is the rest of the state, with so much for each entry
 pub record StandsAt (standing : Standing) (m : ArenaMap) (state : State) (entries : Entries) : Type 0 where

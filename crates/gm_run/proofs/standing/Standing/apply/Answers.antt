@@ -1,16 +1,16 @@
-use Rattle.gm_model.specs.Budgets.{entered}
 use Rattle.std.proofs.Common.{refl}
 use Rattle.gm_arena.specs.inner.ArenaAsMap.{as_map}
-use Rattle.gm_model.specs.Histories.{done_at}
-use Rattle.gm_undo.specs.inner.Standing.{StandsFor}
-use Rattle.gm_run.proofs.Stepping.{entries_then, needs_none, then_needed}
+use Rattle.gm_run.specs.inner.Standing.{nearest, nearest_entries}
+use Rattle.gm_run.proofs.Stepping.{entries_then, history_then, needs_none}
 use Rattle.gm_run.proofs.standing.Standing.apply.Goals as goal
 
 pub returns-then-keeps-clause-entries : goal.returns-then-keeps-clause-entries
 returns-then-keeps-clause-entries g c told entries most remembers costs budget =
     let keeps = c.if-keeps.true in
-    entries_then c.apply.result c.args.self.now.keeps c.args.self.now.history c.apply.new.self c.args.arena.now c.apply.new.arena entries (entered told.group most entries) c.apply.ensures.schema
-    (c.apply.ensures.entries told entries most (remembers keeps) (costs keeps) budget) c.apply.ensures.stays (costs keeps)
+    let r = remembers keeps in
+    let may = costs keeps in
+    entries_then c.apply.result c.args.self.now.keeps.on c.args.self.now.keeps.reach c.args.self.now.history c.apply.new.self c.args.arena.now c.apply.new.arena told.group most entries c.apply.ensures.schema may
+    (c.apply.ensures.entries (nearest r.past r.future told) (nearest_entries may.past may.future entries) most r.stands may.costs budget) c.apply.ensures.stays
 
 pub returns-then-keeps-clause-outcome : goal.returns-then-keeps-clause-outcome
 returns-then-keeps-clause-outcome g c = c.apply.ensures.outcome
@@ -73,16 +73,18 @@ pub returns-else-keeps-clause-reserved_stays : goal.returns-else-keeps-clause-re
 returns-else-keeps-clause-reserved_stays g c = c.apply-else-keeps.ensures.reserved_stays
 
 pub returns-then-keeps-clause-history : goal.returns-then-keeps-clause-history
-returns-then-keeps-clause-history g c told remembers = then_needed c.apply.result c.args.self.now.keeps (StandsFor c.apply.new.self c.apply.new.arena (done_at (as_map c.args.arena.now) told)) (StandsFor c.apply.new.self c.apply.new.arena told) (c.apply.ensures.history told (remembers c.if-keeps.true))
+returns-then-keeps-clause-history g c told remembers =
+    let r = remembers c.if-keeps.true in
+    history_then c.apply.result c.args.self.now.keeps.on c.args.self.now.keeps.reach c.args.self.now.history c.apply.new.self c.args.arena.now c.apply.new.arena (as_map c.args.arena.now) told r (c.apply.ensures.history (nearest r.past r.future told) r.stands)
 
 pub returns-else-keeps-clause-history : goal.returns-else-keeps-clause-history
-returns-else-keeps-clause-history g c told remembers = needs_none c.apply-else-keeps.result c.args.self.now.keeps _ _ c.if-keeps.false
+returns-else-keeps-clause-history g c told remembers = needs_none c.apply-else-keeps.result c.args.self.now.keeps.on _ _ c.if-keeps.false
 
 pub returns-else-keeps-clause-entries : goal.returns-else-keeps-clause-entries
-returns-else-keeps-clause-entries g c told entries most remembers costs budget = needs_none c.apply-else-keeps.result c.args.self.now.keeps _ _ c.if-keeps.false
+returns-else-keeps-clause-entries g c told entries most remembers costs budget = needs_none c.apply-else-keeps.result c.args.self.now.keeps.on _ _ c.if-keeps.false
 
 pub apply-requires-clause-stands : goal.apply-requires-clause-stands
-apply-requires-clause-stands g c = (c.requires.stands.0, c.requires.stands.1 c.if-keeps.true)
+apply-requires-clause-stands g c = let r = c.requires.stands.1 c.if-keeps.true in (nearest r.past r.future c.requires.stands.0, r.stands)
 
 pub apply-requires-clause-schema : goal.apply-requires-clause-schema
 apply-requires-clause-schema g c = c.requires.schema
