@@ -13,7 +13,7 @@ using Complex = CGAL::Linear_cell_complex_for_generalized_map<2, 2, Traits>;
 using Dart = Complex::Dart_handle;
 using Point = Complex::Point;
 
-// The dart at the beginning of an edge of a square, so many edges on from the first.
+// The dart at the beginning of an edge of a square, this many edges on from the first.
 static Dart edge(Complex& complex, Dart dart, int edges) {
     for (int step = 0; step < edges; ++step) dart = complex.alpha<0, 1>(dart);
     return dart;

@@ -69,7 +69,7 @@ impl Input {
         Input { source, piece, at: 0, end: 0 }
     }
 
-    /// Has so many bytes in the piece, where the file has them.
+    /// Has this many bytes in the piece, where the file has them.
     #[inline(always)]
     fn look_ahead(&mut self) {
         if self.end - self.at < LONGEST {
@@ -116,7 +116,7 @@ impl Input {
             at += 1;
         }
         assert!(at > first && at < first + 19, "a number of 18 digits at most");
-        // What ends a number belongs to it, but for the newline behind all that is read.
+        // What ends a number belongs to it, but for the newline after all that is read.
         self.at = self.end.min(at + 1);
         if negative { -(number as i64) } else { number as i64 }
     }
@@ -822,6 +822,6 @@ fn main() {
         ["cells", map] => cells(map, held),
         ["run", map, script, out] => run(map, script, out, held),
         ["grid", size] => grid(size.parse().expect("a number")),
-        _ => panic!("show MAP, cells MAP, run MAP SCRIPT OUT, these behind whole, or grid M"),
+        _ => panic!("show MAP, cells MAP, run MAP SCRIPT OUT, these after whole, or grid M"),
     }
 }

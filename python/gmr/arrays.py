@@ -178,8 +178,8 @@ def scan_numbers(text: bytes) -> Whole:
 
 
 def join_digits(eights: NDArray[numpy.uint64], places: Whole, sizes: Whole) -> Whole:
-    """The numbers that end behind the eight letters from these places on, and have so many digits. Digits are joined by
-    twos, fours and eights within words of 64 bits; the first letter is the lowest byte of its word."""
+    """The numbers that end after the eight letters from these places on, and have this many digits. Digits are joined
+    by twos, fours and eights within words of 64 bits; the first letter is the lowest byte of its word."""
     found = eights[places]
     found &= LAST[numpy.minimum(sizes, EIGHT)]
     for times, bits, mask in ((10, 8, 0x00FF00FF00FF00FF), (100, 16, 0x0000FFFF0000FFFF), (10_000, 32, 0xFFFFFFFF)):

@@ -125,7 +125,7 @@ class Book(NamedTuple):
         return self._replace(rules=[rule for rule in self.rules if rule in kept])
 
     def join(self, *others: "Book | Rule | str") -> "Book":
-        """The book with the rules of others behind its own, or with rules given as objects or texts; ValueError where
+        """The book with the rules of others after its own, or with rules given as objects or texts; ValueError where
         the schemas differ or two rules have one name."""
         rules = list(self.rules)
         for other in others:
@@ -195,7 +195,7 @@ def split_book(text: str) -> tuple[str, list[tuple[str, str]]]:
 
 def begin_of(text: str, last: int, begin: int) -> int:
     """Where the text of a rule begins whose word `rule` stands at `begin`, and whose forerunner ends at `last`:
-    behind the rest of the forerunner's last line, and behind empty lines."""
+    after the rest of the forerunner's last line, and after empty lines."""
     line_end = text.find("\n", last, begin)
     between = line_end + 1 if line_end >= 0 else last
     return between + len(text[between:begin]) - len(text[between:begin].lstrip())

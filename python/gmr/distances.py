@@ -105,7 +105,7 @@ def rim_of(alpha: Alpha, dart: int, first: int = 0) -> list[int]:
 
 
 def corners_from(alpha: Alpha, points: Mapping[int, Place], dart: int, first: int = 0) -> list[Place]:
-    """The points round the dart's face, in the order of `rim_of`, none twice behind itself."""
+    """The points round the dart's face, in the order of `rim_of`, none twice after itself."""
     passed = [point for point, _ in groupby(points[one] for one in rim_of(alpha, dart, first))]
     return passed[:-1] if len(passed) > 1 and passed[-1] == passed[0] else passed
 

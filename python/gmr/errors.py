@@ -34,7 +34,7 @@ class Unwritten(Fault):
 class Refused(Fault):
     """What the proved program refused.
 
-    line: its own line. cause: the words behind `refused`, as 'no-match arc a 0 2', else the line itself.
+    line: its own line. cause: the words after `refused`, as 'no-match arc a 0 2', else the line itself.
     darts: the darts that the refusal concerns. sentences: why it was refused, as `why` tells it, made when asked for.
     """
 

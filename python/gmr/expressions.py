@@ -82,7 +82,7 @@ class Reader(Cursor):
         return tree
 
     def negation(self) -> Tree:
-        """What stands behind `not`, or a comparison."""
+        """What stands after `not`, or a comparison."""
         if self.peek() == "not":
             first = self.at
             self.take()
@@ -100,7 +100,7 @@ class Reader(Cursor):
         return self.chain(("+", "-"), lambda: self.chain(("*", "/", "%"), self.sign))
 
     def sign(self) -> Tree:
-        """What stands behind a sign, or an atom."""
+        """What stands after a sign, or an atom."""
         if self.peek() != "-":
             return self.atom()
         first = self.at
@@ -151,13 +151,13 @@ class Reader(Cursor):
         return self.made(first, word, name, terms=[term], labels=labels)
 
     def take_behind(self, sign: str) -> str:
-        """The word behind a sign."""
+        """The word after a sign."""
         assert self.peek() == sign, f"{sign} is missing in {self.text}"
         self.take()
         return self.take()
 
     def term(self, node: str) -> Term:
-        """A node that was read, with the labels behind it."""
+        """A node that was read, with the labels after it."""
         path = []
         while self.peek() == "@":
             path.append(int(self.take_behind("@")))

@@ -208,7 +208,7 @@ def read_map(text: str) -> Map:
 
 
 def read_columns(body: str, width: int, count: int) -> list[list[int]]:
-    """The numbers of the darts' rows, column by column; ValueError where there aren't so many."""
+    """The numbers of the darts' rows, column by column; ValueError where there aren't that many."""
     return [column.tolist() for column in read_numbers(body.encode("latin-1", "replace"), width, count).T]
 
 

@@ -64,7 +64,7 @@ def token_at(text: str, place: int) -> Token | None:
 
 
 def tokens_from(text: str, place: int, most: int) -> list[Token]:
-    """At most so many tokens from a place on."""
+    """At most this many tokens from a place on."""
     found: list[Token] = []
     while len(found) < most and (token := token_at(text, end_of_blank(text, place))):
         found.append(token)

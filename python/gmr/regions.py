@@ -1,5 +1,5 @@
-"""Cells of a map, chosen by what they are: on the border, free along a label, of so many corners, with a value, near a
-place, or as a function in Python says."""
+"""Cells of a map, chosen by what they are: on the border, free along a label, of this many corners, with a value, near
+a place, or as a function in Python says."""
 from __future__ import annotations
 
 from collections.abc import Callable, Iterator, Mapping, Sequence
@@ -129,7 +129,7 @@ class Region:
         """The cells of a dimension for which all holds that is asked.
 
         where: 'border', with a dart that is free along the greatest label, or a function that is true of the cell.
-        free: a dart is free along this label. corners: so many vertices. value: a dart has these values of embeddings.
+        free: a dart is free along this label. corners: as many vertices. value: a dart has these values of embeddings.
         near: nearest to this place, in the map's numbers, or all that are at most `within` away from it.
         ValueError where the map has no such dimension, label, embedding or points.
         """
@@ -187,7 +187,7 @@ class Region:
 
 
 def leads_of_corners(amap: Map, leads: Whole, corners: int) -> Whole:
-    """Of cells by their least darts, those that have so many vertices."""
+    """Of cells by their least darts, those that have this many vertices."""
     vertices = amap.leads(range(1, amap.dimension + 1))
     pairs = np.unique(np.stack([leads, vertices]), axis=1)
     cells, counts = np.unique(pairs[0], return_counts=True)

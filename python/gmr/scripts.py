@@ -11,7 +11,7 @@ STATEMENTS = frozenset(("apply", "each", "undo", "redo", "group", "end"))
 
 
 class Statement(NamedTuple):
-    """A statement: the word that begins it, its rule, the labels of an `each`, its hooks, the values behind `with`,
+    """A statement: the word that begins it, its rule, the labels of an `each`, its hooks, the values after `with`,
     and where it begins and ends in the text."""
     word: str
     rule: str
@@ -91,7 +91,7 @@ def read_report(text: str, statements: list[Statement]) -> list[Outcome]:
 
 
 def outcome_of(line: str, statement: Statement) -> tuple[str, str]:
-    """The first word and the rest of what a line says of its statement, behind the number and the name."""
+    """The first word and the rest of what a line says of its statement, after the number and the name."""
     name = re.escape(f"each {statement.rule}" if statement.word == "each" else statement.rule or statement.word)
     word, _, rest = re.sub(rf"^[0-9]+ {name} ", "", line).partition(" ")
     return word, rest

@@ -15,7 +15,7 @@ Alpha = list[dict[int, int]]
 
 class Unfolding(NamedTuple):
     """What a rule leaves: the darts, a neighbour of each along each label where it has one, the further neighbours of
-    darts that have several, the name behind the new ones, and the darts of each right node by position."""
+    darts that have several, the name after the new ones, and the darts of each right node by position."""
     live: set[int]
     alpha: Alpha
     further: list[tuple[int, int, int]]     # dart, label, neighbour

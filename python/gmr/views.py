@@ -165,7 +165,7 @@ def frozen(array: Whole) -> Whole:
 
 
 def least_of_orbits(steps: Sequence[Whole], count: int) -> Whole:
-    """For each of so many rows the least row that the steps lead to from it, each step being its own way back."""
+    """For each of this many rows the least row that the steps lead to from it, each step being its own way back."""
     least: Whole = np.arange(count, dtype=np.int64)
     while True:
         before = least

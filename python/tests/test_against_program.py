@@ -55,7 +55,7 @@ def draw_cases(book: Book, amap: Map, choose: random.Random) -> list[tuple[Rule,
 
 
 def test_random_applications(tmp_path: Path) -> None:
-    """Each application is tried from the same map, since an undo stands behind it."""
+    """Each application is tried from the same map, since an undo stands after it."""
     choose, compared, outcomes = random.Random(7), 0, set()
     books = sorted(LIBRARY.glob("*.gbook"))
     while compared < CASES:

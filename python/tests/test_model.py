@@ -63,7 +63,7 @@ def random_step(model: gmr.Model, choose: random.Random) -> list[gmr.Outcome]:
 @pytest.mark.parametrize("seed", range(4))
 def test_random_steps(tmp_path: Path, seed: int, monkeypatch: pytest.MonkeyPatch) -> None:
     """Sixty steps that are drawn, with undo and redo: the whole script says of each line that stays what the model said
-    of it, and saves the same bytes. With few maps kept, undo reaches behind them."""
+    of it, and saves the same bytes. With few maps kept, undo reaches back before them."""
     monkeypatch.setattr(sessions, "MOST_KEPT_BYTES", (2_000, 10_000, 2**28, 0)[seed])
     choose, model = random.Random(seed), load()
     outcomes = [outcome for _ in range(60) for outcome in random_step(model, choose)]

@@ -13,7 +13,7 @@ PATIENCE = 600      # seconds: a kernel begins slowly on a machine that is busy
 
 
 def execute(folder: Path) -> list[dict[str, Any]]:
-    """What the cells of the notebook put out, once it has run; its files are found where it lies."""
+    """What the cells of the notebook print, once it has run; its files are found where it lies."""
     command = [sys.executable, "-m", "nbconvert", "--to", "notebook", "--execute", os.fspath(NOTEBOOK),
                f"--ExecutePreprocessor.timeout={PATIENCE}", "--ExecutePreprocessor.kernel_name=python3",
                "--output", "done", "--output-dir", os.fspath(folder)]

@@ -19,7 +19,7 @@ gm_tests: gm_low
 """
 # A program that tells its words and ends with 3; but without words that it knows it refuses as gmr does.
 PROGRAM = """case $1 in show|run|book|grid) echo "ran $*"; exit 3 ;; *) echo "refused usage"; exit 2 ;; esac"""
-# It proves each crate once, and keeps that beside itself; behind each it does what the file `meanwhile` there says; and
+# It proves each crate once, and keeps that beside itself; after each it does what the file `meanwhile` there says; and
 # it counts its runs. What it leaves is the program.
 RT = f"""kit=$(dirname "$0")
 if [ "$1" = version ]; then cat "$kit/version"; exit; fi

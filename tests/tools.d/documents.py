@@ -1,4 +1,4 @@
-"""Tests of the documents: each command of README and the guide that stands behind a `$` prints what stands under it,
+"""Tests of the documents: each command of README and the guide that stands after a `$` prints what stands under it,
 and what the documents name is there."""
 import os
 import re
@@ -23,7 +23,7 @@ class Command(NamedTuple):
 
 
 def commands_of(text: str) -> Iterator[Command]:
-    """The commands of a document: indented lines behind a `$`, each with the indented lines under it."""
+    """The commands of a document: indented lines after a `$`, each with the indented lines under it."""
     lines = text.splitlines()
     for at, line in enumerate(lines):
         if line.startswith("    $ "):
@@ -65,8 +65,28 @@ def test_guide() -> None:
     run_document("docs/GUIDE.md")
 
 
+QUESTIONS = {  # what a first reader asks, and words of README and of the guide that answer
+    "where do I get it": ("**A release needs no toolchain**", ""), "what goes in": ("**What goes in and out**: OBJ", ""),
+    "how large": ("up to 1,048,576 darts", ""), "how fast": ("10,000 faces are triangulated in", ""),
+    "what if it refuses": ("a line that is refused has one cause", "A refused line has one cause"),
+    "is it free to use": ("**No licence has been chosen yet**", ""), "what is proved": ("- **Proved**:", ""),
+    "how do I undo": ("`undo` takes back what was done", "`undo` gives the map before"),
+    "how do I see it": ("**How to see it**: `tools/draw`", "**`tools/draw`: pictures.**"),
+    "from Python": ("`import gmr` in Python", "**From Python**: `import gmr`"),
+    "which formats out": ("glTF, volumes of VTK and Gmsh, in and out", "**Meshes out**"),
+    "how does it compare": ("| | gmr | Jerboa | CGAL's generalised maps | OpenMesh |", "")}
+
+
+def test_a_first_reader_is_answered() -> None:
+    """README, and the guide where it says more, answer what is asked first."""
+    texts = [(ROOT / name).read_text(encoding="utf-8") for name in ("README.md", "docs/GUIDE.md")]
+    missing = [(asked, words) for asked, answers in QUESTIONS.items() for words, text in zip(answers, texts)
+               if words not in text]
+    assert not missing, missing
+
+
 def cited(text: str) -> Iterator[tuple[str, str]]:
-    """The files that a text cites, each with a name behind it, or with none."""
+    """The files that a text cites, each with a name after it, or with none."""
     folders = r"gm\w*|tools|editors|python|bench|tests|docs|\.ci"
     for path, names in re.findall(rf"`((?:{folders})/[\w/.]*\w|gmr)`(?:: ((?:`\w+`(?:, )?)+))?", text):
         for name in re.findall(r"\w+", names) or [""]:

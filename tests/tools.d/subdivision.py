@@ -38,8 +38,8 @@ class Surface(NamedTuple):
         """Each vertex's neighbours, and the faces at it."""
         around: list[tuple[set[int], list[int]]] = [(set(), []) for _ in self.points]
         for number, face in enumerate(self.faces):
-            for before, here, behind in corners(face):
-                around[here][0].update((before, behind))
+            for before, here, after in corners(face):
+                around[here][0].update((before, after))
                 around[here][1].append(number)
         return around
 
@@ -51,7 +51,7 @@ def mix(*parts: tuple[float, Point]) -> Point:
 
 
 def corners(face: tuple[int, ...]) -> Iterator[tuple[int, int, int]]:
-    """Each corner of a face, between the one before it and the one behind it."""
+    """Each corner of a face, between the one before it and the one after it."""
     return zip(face[-1:] + face[:-1], face, face[1:] + face[:1])
 
 
@@ -67,8 +67,8 @@ def catmull_clark(old: Surface) -> Surface:
     points += middles
     at = {edge: size + len(middles) + number for number, edge in enumerate(edges)}
     points += [mix((0.5, old.mean(edge)), *((0.25, middles[face]) for face in faces)) for edge, faces in edges.items()]
-    faces = [(size + number, at[frozenset((before, here))], here, at[frozenset((here, behind))])
-             for number, face in enumerate(old.faces) for before, here, behind in corners(face)]
+    faces = [(size + number, at[frozenset((before, here))], here, at[frozenset((here, after))])
+             for number, face in enumerate(old.faces) for before, here, after in corners(face)]
     return Surface(points, faces)
 
 
@@ -86,8 +86,8 @@ def loop(old: Surface) -> Surface:
     faces = []
     for face in old.faces:
         faces.append(tuple(at[frozenset(pair)] for pair in zip(face, face[1:] + face[:1])))
-        faces += [(at[frozenset((before, here))], here, at[frozenset((here, behind))])
-                  for before, here, behind in corners(face)]
+        faces += [(at[frozenset((before, here))], here, at[frozenset((here, after))])
+                  for before, here, after in corners(face)]
     return Surface(points, faces)
 
 
@@ -106,8 +106,8 @@ def doo_sabin(old: Surface) -> Surface:
     """A round of Doo and Sabin's scheme."""
     at = {corner: number for number, corner in enumerate(
         (vertex, face) for face, vertices in enumerate(old.faces) for vertex in vertices)}
-    points = [mix((0.5, old.points[here]), (0.125, old.points[before]), (0.125, old.points[behind]),
-                  (0.25, old.mean(face))) for face in old.faces for before, here, behind in corners(face)]
+    points = [mix((0.5, old.points[here]), (0.125, old.points[before]), (0.125, old.points[after]),
+                  (0.25, old.mean(face))) for face in old.faces for before, here, after in corners(face)]
     faces = [tuple(at[vertex, number] for vertex in face) for number, face in enumerate(old.faces)]
     for edge, (one, other) in old.edges().items():
         begin, end = edge

@@ -45,7 +45,7 @@ class AddSpot(argparse.Action):
     def __call__(
         self, parser: argparse.ArgumentParser, namespace: argparse.Namespace, values: Any, option: str | None = None
     ) -> None:
-        """Adds the place behind an option."""
+        """Adds the place after an option."""
         name = (option or "")[2:]
         if len(values) not in (2, 3):
             parser.error(f"{option} takes a place of two or three numbers")

@@ -27,7 +27,7 @@ class Parser(argparse.ArgumentParser):
 
 
 def new_parser(name: str, description: str | None, examples: str, usage: str | None = None) -> Parser:
-    """The parser of a tool's words: with examples behind its help, --version, --quiet and --unproved, of which
+    """The parser of a tool's words: with examples after its help, --version, --quiet and --unproved, of which
     `run_command` sees that they can stand anywhere."""
     parser = Parser(f"tools/{name}", usage, description, examples,
                     formatter_class=argparse.RawDescriptionHelpFormatter, allow_abbrev=False)

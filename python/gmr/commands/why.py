@@ -57,7 +57,7 @@ def tell_load(path: str) -> list[str]:
 
 
 def tell_refusal(line: str, files: dict[str, str], folder: Path | None) -> list[str]:
-    """Why the program refused before it ran anything, by the line that it put. Examples go into the folder."""
+    """Why the program refused before it ran anything, by the line that it printed. Examples go into the folder."""
     _, what, *fault = line.split() + [""]
     if what == "load":
         return tell_load(files[fault[0]])
@@ -84,7 +84,7 @@ class Run:
                 if word == "refused" or self.prefixes.statements[at].word == "each" and rest.split()[2] != "0"]
 
     def tell(self, at: int, most: int) -> tuple[list[str], Map]:
-        """Why a statement is refused, and the map that it met; of an `each` so many applications at most."""
+        """Why a statement is refused, and the map that it met; of an `each` this many applications at most."""
         statement, cause = self.prefixes.statements[at], self.outcomes[at].rest
         place = tell_place(self.files["SCRIPT"], self.text, statement.begin, statement.end)
         amap = self.prefixes.before(at)
@@ -187,7 +187,7 @@ def parse_arguments(given: Sequence[str]) -> argparse.Namespace:
                         help="a map, a book and a script, as of `gmr run`; or a map, or a book, alone")
     parser.add_argument("--line", type=int, metavar="N", help="this line of the script alone, counted from 1")
     parser.add_argument("--most", type=int, default=10, metavar="N",
-                        help="so many lines at most, and so many darts of an each (10)")
+                        help="this many lines at most, and this many darts of an each (10)")
     parser.add_argument("--draw", metavar="OUT", help="draw the map that the first of these lines met, by tools/draw")
     parser.add_argument("--example", metavar="FOLDER", type=Path,
                         help="write into this folder, for each rule that isn't accepted and would break a map, this "

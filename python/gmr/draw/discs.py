@@ -14,7 +14,7 @@ Goals = Mapping[Node, tuple[complex, float]]  # where vertices would lie, and ho
 CENTRE: Node = (7, 0)  # the middle of the ring round which a closed surface is laid out
 HELD, LOOSE, NET = 5000.0, 20.0, 0.05  # the most that goals pull: first, where that bends too much, and in nets
 TOLERABLE = 9.0  # the mean energy of a triangle up to which nothing is too bent
-STAGES = ((0.002, 40), (0.02, 40), (0.2, 40), (1.0, 100))  # how strongly goals pull, one after another, and for how many rounds
+STAGES = ((0.002, 40), (0.02, 40), (0.2, 40), (1.0, 100))  # how strongly goals pull in turn, and for how many rounds
 
 
 def place_disc(disc: Disc, goals: Goals, is_mirrored: bool) -> tuple[Layout, float, bool]:

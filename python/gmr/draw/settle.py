@@ -75,7 +75,7 @@ def inverse_of(plan: Plan) -> Floats:
 
 
 def settle(plan: Plan, free: Floats, rounds: int) -> tuple[Floats, float]:
-    """The free places after so many rounds at most, and the energy there."""
+    """The free places after this many rounds at most, and the energy there."""
     energy, slope = energy_of(plan, free)
     if energy == float("inf"):
         return free, energy
