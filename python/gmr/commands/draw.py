@@ -1,9 +1,11 @@
 """Draws generalised maps of dimension 1 to 3 as a picture: flat with all darts, or as solids with hidden surfaces.
 
 A flat picture has a thick stroke for each dart in its face, from its vertex to the middle of its edge, and a line for
-each pair of neighbours in the colour of its label. A map is drawn where its points are (the first embedding of kind
-vec2 or vec3 over the vertices), or else laid out: each surface flat, a closed one round a face, whose darts stand
-outside, or cut to a net along edges, where the name of the dart across stands. Faces have the colour of the first
+each pair of neighbours in the colour of its label; along 3 one for each two faces that meet, or the names of the darts
+across where it would be long or cross another. A map is drawn where its points are (the first embedding of kind vec2 or
+vec3 over the vertices), or else laid out: each surface flat, a closed one round a face, whose darts stand outside, or
+cut to a net along edges, where the name of the dart across stands. Volumes stand apart. Maps side by side have one
+layout: what stays lies where it lay, by the names of darts. Faces have the colour of the first
 embedding of kind rgb over faces or more, thinned so that what lies behind them is seen, and edges the number of the
 first one of kind int over edges, beside their middles.
 
