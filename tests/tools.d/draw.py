@@ -99,7 +99,7 @@ def test_a_large_surface_is_drawn_as_triangles():
         many = crowd.faces_of(it, view)
     finally:
         crowd.MOST_LINES = most
-    equal((many.count, len(many.triangles), len(many.colours)), (len(few), 2 * len(few), 2 * len(few)))
+    equal((many.faces, len(many.triangles), len(many.colours)), (len(few), 2 * len(few), 2 * len(few)))
     for at in (0, len(few) // 2, len(few) - 1):
         corners, colour = few[at].corners, few[at].colour
         equal([tuple(corner) for corner in many.triangles[2 * at].tolist()], corners[:3])

@@ -48,7 +48,7 @@ class Crowd(NamedTuple):
 
     triangles: Any
     colours: Any
-    count: int
+    faces: int
 
 
 class Camera:

@@ -126,7 +126,8 @@ def is_kept(face: Sequence[int], later: Model | None) -> bool:
     """Whether the next map has the same face."""
     if later is None or later.dimension < 2 or any(dart not in later.alpha[0] for dart in face):
         return False
-    return orbits(face[:1], lambda dart, label: later.alpha[label][dart], (0, 1)) == [sorted(face)]
+    alpha = later.alpha
+    return orbits(face[:1], lambda dart, label: alpha[label][dart], (0, 1)) == [sorted(face)]
 
 
 def laid_out(
