@@ -45,6 +45,12 @@ def test_shared_options_anywhere(tmp_path: Path, place: int) -> None:
     assert run(TOP / "tools" / "mesh", *words).stdout.startswith("mesh of gmr ")
 
 
+def test_version_is_looked_for_when_asked() -> None:
+    """What finds the version is slow to import, so a tool that isn't asked for it doesn't."""
+    words = "import sys, gmr.commands.frame; print('importlib.metadata' in sys.modules)"
+    assert run("-c", words, PYTHONPATH=str(TOP / "python")).stdout == "False\n"
+
+
 def test_shared_options_first() -> None:
     """What all tools share goes before all else, but for what stands behind `--`, where no word is an option."""
     assert with_shared_first(["a", "--quiet", "-b", "--unproved"]) == ["--quiet", "--unproved", "a", "-b"]

@@ -5,7 +5,6 @@ import argparse
 import os
 import sys
 from collections.abc import Callable, Sequence
-from importlib.metadata import PackageNotFoundError, version
 from itertools import takewhile
 from typing import NoReturn
 
@@ -26,12 +25,24 @@ class Parser(argparse.ArgumentParser):
         self.exit(WRONG_WORDS, f"{name}: {message}; {self.prog} --help has more\n")
 
 
+class Version(argparse.Action):
+    """The option that tells the version, which is looked for only then: that takes longer than to read the words."""
+
+    def __init__(self, option_strings: Sequence[str], dest: str, help: str) -> None:
+        super().__init__(option_strings, argparse.SUPPRESS, nargs=0, default=argparse.SUPPRESS, help=help)
+
+    def __call__(self, parser: argparse.ArgumentParser, *_: object) -> NoReturn:
+        """Prints the version, and ends."""
+        print(f"{parser.prog.removeprefix('tools/').split()[0]} of gmr {package_version()}")
+        parser.exit()
+
+
 def new_parser(name: str, description: str | None, examples: str, usage: str | None = None) -> Parser:
     """The parser of a tool's words: with examples after its help, --version, --quiet and --unproved, of which
     `run_command` sees that they can stand anywhere."""
     parser = Parser(f"tools/{name}", usage, description, examples,
                     formatter_class=argparse.RawDescriptionHelpFormatter, allow_abbrev=False)
-    parser.add_argument("--version", action="version", version=f"{name} of gmr {package_version()}")
+    parser.add_argument("--version", action=Version, help="show program's version number and exit")
     parser.add_argument("--quiet", action="store_true", help="nothing but what was asked for, and what goes wrong")
     parser.add_argument("--unproved", action="store_true", help="ask the program that `./gmr --unproved` keeps")
     return parser
@@ -47,6 +58,8 @@ def with_shared_first(words: Sequence[str]) -> list[str]:
 
 def package_version() -> str:
     """The version of the package, where it is installed or not."""
+    from importlib.metadata import PackageNotFoundError, version    # slow to import
+
     try:
         return version("gmr")
     except PackageNotFoundError:
