@@ -136,7 +136,7 @@ def read_numbers(body: bytes, width: int, count: int) -> Whole:
     """The numbers of the darts' lines: count x width."""
     if body.translate(None, IN_ROWS):
         raise ValueError("after 'darts' stands something other than numbers and parentheses")
-    if b"-" in body:
+    if not has_plain_signs(body):
         body = SPACED_MINUS.sub(b"-", body)
         if BARE_MINUS.search(body):
             raise ValueError("a sign stands after 'darts' with no number after it")
@@ -144,6 +144,17 @@ def read_numbers(body: bytes, width: int, count: int) -> Whole:
     if len(numbers) != width * count:
         raise ValueError(f"there are {len(numbers)} numbers after 'darts', and not {width} for each of {count} darts")
     return numbers.reshape(count, width)
+
+
+def has_plain_signs(body: bytes) -> bool:
+    """Whether a digit stands right after each sign: so it is in what is printed, and no expression need look for it."""
+    letters = numpy.frombuffer(body, numpy.uint8)
+    for begin in range(0, len(letters), PIECE):
+        signs = numpy.flatnonzero(letters[begin: begin + PIECE] == MINUS)
+        signs += begin + 1
+        if len(signs) and (signs[-1] == len(letters) or (letters[signs] < ZERO).any()):
+            return False
+    return True
 
 
 def scan_numbers(text: bytes) -> Whole:

@@ -9,7 +9,7 @@ import time
 from pathlib import Path
 
 from gmr import maps, program
-from gmr.arrays import PIECE, scan_numbers
+from gmr.arrays import PIECE, has_plain_signs, scan_numbers
 from gmr.maps import Embed, Map, read_map
 
 ROOT = Path(__file__).resolve().parents[2]
@@ -95,6 +95,15 @@ def test_numbers_of_all_lengths_are_read():
             assert str(error) == "a number doesn't fit in 64 bits"
         else:
             raise AssertionError(wrong)
+
+
+def test_signs_apart_from_their_digits_are_seen():
+    for begin in (0, 1, PIECE - 2, PIECE - 1, PIECE, 2 * PIECE):
+        blank = b" " * begin
+        for plain in (b"", b"7", b"-7", b"(-7 -8)"):
+            assert has_plain_signs(blank + plain), (begin, plain)
+        for apart in (b"-", b"- 7", b"--7", b"-7 -", b"(-)"):
+            assert not has_plain_signs(blank + apart), (begin, apart)
 
 
 def test_orbits():
