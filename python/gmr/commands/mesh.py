@@ -1,5 +1,6 @@
 """Meshes in, meshes out: files of surfaces and volumes become maps, and maps such files."""
 import argparse
+import ctypes
 import gc
 from collections.abc import Sequence
 from fractions import Fraction
@@ -17,6 +18,9 @@ from gmr.mesh.surface import Wish
 from gmr.progress import tell
 
 MANY_MADE = 1_000_000   # what is made before the collector looks, which would go over long lists again and again
+# The library of C gives large arrays that are freed back to the system, which fills the next ones with zeros, page by
+# page: a third of the system's seconds. Kept, the same memory serves again.
+TRIM_THRESHOLD, MMAP_MAX, KEPT = -1, -4, 1 << 30
 NOTES = """\
 examples
   tools/mesh import model.obj model.gmap
@@ -131,10 +135,19 @@ def parse_distance(word: str) -> Fraction:
         raise ValueError(f"{word} is no distance, which is a number of 0 or more") from None
 
 
+def keep_memory() -> None:
+    """Has memory kept where it is freed, if the library of C can be told so."""
+    mallopt = getattr(ctypes.CDLL(None), "mallopt", None)
+    if mallopt is not None:
+        mallopt(MMAP_MAX, 0)
+        mallopt(TRIM_THRESHOLD, KEPT)
+
+
 def main(given: Sequence[str]) -> int:
     """Does what the command line asks for, and tells of it: the status, 1 where lines of a script were refused."""
     words = read_words(given)
     gc.set_threshold(MANY_MADE)
+    keep_memory()
     source = words.map if words.command in ("export", "scale") else words.model
     with told_with(source):
         if words.command == "run":
