@@ -13,8 +13,8 @@ PICTURES = ROOT / "docs" / "pictures" / "operations"
 SLANTED = {  # pictures with longer links, and how long: strokes lie deep in faces that are seen at a slant
     "grow_layer_from": 4.6, "hexahedra_at_middles": 4, "move_volume": 3.4, "paint_by_darts": 3.4, "scale_complex": 3.2,
     "triangulate_at_middle_3d": 4.3}
-CLOSE = {"truncate_vertex_3d": 1}  # names that touch, and how many pairs: ends of two links in one small face
-MOST_CROSSINGS, MOST_WIDE, NEAR = 240, 3800, 0.85
+LARGE = {"barycentric_3d": 3314, "hexahedra_at_middles": 2329}  # wider pictures, of 576 and of 192 darts in one map
+MOST_CROSSINGS, MOST_WIDE, NEAR = 240, 1600, 0.85
 
 
 @cache
@@ -29,9 +29,9 @@ def test_each_operation_has_a_picture() -> None:
 
 
 def test_names_stand_apart() -> None:
-    """No two names touch, nor are nearer than a letter is high (a round one of 8 pixels), but in the pictures named."""
+    """No two names touch, nor are nearer than a letter is high (a round one of 8 pixels)."""
     found = {name: one.touching for name, one in measured().items() if one.touching or one.nearest < NEAR}
-    assert all(name in CLOSE and found[name] <= CLOSE[name] for name in found), found
+    assert not found, found
 
 
 def test_links_are_short() -> None:
@@ -47,8 +47,8 @@ def test_few_links_cross() -> None:
 
 
 def test_pictures_fit_a_page() -> None:
-    """No picture is wider than is said."""
-    found = {name: one.wide for name, one in measured().items() if one.wide > MOST_WIDE}
+    """No picture is wider than a page, but those that are named."""
+    found = {name: one.wide for name, one in measured().items() if one.wide > LARGE.get(name, MOST_WIDE)}
     assert not found, found
 
 
@@ -62,7 +62,7 @@ def laid(name: str) -> list[dict[int, tuple[complex, complex]]]:
 def test_what_stays_lies_where_it_lay() -> None:
     """Vertices that stay don't move by more than a twentieth of an edge, whatever is put between them."""
     for name in ("triangulate_face_2d", "split_edge_2d", "insert_edge_2d", "flip_edge", "catmull_clark", "cut_face",
-                 "truncate_vertex_2d"):
+                 "truncate_vertex_2d", "unsew_along_0_2d", "remove_face_2d"):
         before, after = laid(name)
         ways = sorted(abs(after[dart][0] - before[dart][0]) for dart in before.keys() & after.keys())
         assert ways[len(ways) // 2] < 0.05, (name, ways[len(ways) // 2])

@@ -206,7 +206,7 @@ def ideal_of(corners: Sequence[Node], face: Node, nodes: Mapping[int, Spot]) -> 
     """The places of a face that is regular, with edges of length 1; nothing for one of two corners."""
     if len(corners) < 3:
         return {}
-    ideal: Layout = dict(zip(corners, regular(len(corners))))
+    ideal = ideal_of_open(corners, face) or dict(zip(corners, regular(len(corners))))
     ends: dict[Node, set[Node]] = defaultdict(set)
     for spot in (spot for spot in nodes.values() if spot.face == face):
         ends[spot.edge].add(spot.vertex)
@@ -214,6 +214,20 @@ def ideal_of(corners: Sequence[Node], face: Node, nodes: Mapping[int, Spot]) -> 
         ideal.setdefault(edge, sum(ideal[node] for node in of) / len(of))
     ideal.setdefault(face, 0j)
     return ideal
+
+
+def ideal_of_open(corners: Sequence[Node], face: Node) -> Layout:
+    """The places of the corners of a face that lacks the middle of one edge: they are those of the face that would be
+    closed, so that vertices stay where an edge is opened; nothing for other faces."""
+    begin = corners.index(face) if face in corners else 0
+    middle, *passed = [*corners[begin:], *corners[:begin]]
+    vertices = passed[1:-1]
+    if middle != face or len(vertices) < 3 or [kind for kind, _ in passed] != [1, *[0] * len(vertices), 1]:
+        return {}
+    polygon = regular(len(vertices))
+    first, last = polygon[0], polygon[-1]
+    ends = {passed[0]: 0.6 * first + 0.4 * last, passed[-1]: 0.4 * first + 0.6 * last}
+    return dict(zip(vertices, polygon)) | ends | {face: 0j}
 
 
 def pulls_of(

@@ -12,8 +12,10 @@ from gmr.draw.together import lay_together
 
 DART, FILL, INK, COLOURS = "#1f4e79", "#eef4fb", "#1f2933", ("#c0504d", "#4f8f3a", "#6b46a1", "#b7791f")
 MOST_NAMES, GAP, NAME, TAG = 600, 9.0, 11, 9
-WIDE = 1600  # pixels from which on maps stand one below another, where they are wide
+WIDE = 1600  # pixels from which on maps stand one below another, and are drawn smaller
 MOST_SCALE = 420  # pixels that an edge of length 1 has at most so that names have room
+LEAST_SCALE = 60  # pixels that an edge of length 1 has at least where that makes a picture narrower
+LARGE = 200  # darts from which on a map may be wider than that
 MOST_LONG = 2.5  # how many times their median links along 3 are long at most
 
 Layers = dict[int | str, list[str]]  # the parts of each layer: by the label of links, or by its name
@@ -280,35 +282,63 @@ def draw(maps: Sequence[tuple[str | None, Model]], with_names: bool | None = Non
     while with_names and scale < MOST_SCALE and any(is_crowded(one.strokes) for one in drawn):
         scale *= 1.15
         drawn = [drawn_at(it, sheets, scale) for it, sheets in zip(models, laid)]
-    corners, size, end = places_of(drawn, any(title for title, _ in maps))
-    for (title, it), one, corner in zip(maps, drawn, corners):
+    drawn = narrowed(models, laid, scale, drawn) if with_names else drawn
+    corners, tops, size, end = places_of(drawn, any(title for title, _ in maps))
+    for (title, it), one, corner, top in zip(maps, drawn, corners, tops):
         draw_map(layers, it, one, corner, with_names)
         middle = (one.low.real + one.high.real) / 2 + corner.real
-        above = min(it.low.imag for it in drawn) + corner.imag - 18 * size - 4
-        layers["titles"] += [text_at(complex(middle, above), title, 14 * size)] if title else []
+        layers["titles"] += [text_at(complex(middle, top - 18 * size - 4), title, 14 * size)] if title else []
     return text_of(layers, math.ceil(end.real), math.ceil(end.imag), max(it.dimension for it in models), size)
 
 
-def places_of(drawn: Sequence[Drawn], has_titles: bool) -> tuple[list[complex], float, complex]:
-    """By which way each map is moved in the picture, how large letters of titles and legend are, and how far the
-    picture reaches: maps stand side by side in one frame from above to below, or one below another in one frame from
-    left to right where that is far narrower."""
+def frame_of(drawn: Sequence[Drawn]) -> tuple[complex, complex]:
+    """The least and the greatest coordinates of maps that lie over each other."""
     low = complex(min(it.low.real for it in drawn), min(it.low.imag for it in drawn))
-    high = complex(max(it.high.real for it in drawn), max(it.high.imag for it in drawn))
+    return low, complex(max(it.high.real for it in drawn), max(it.high.imag for it in drawn))
+
+
+def narrowed(
+    models: Sequence[Model], laid: Sequence[Sequence[Sheet]], scale: float, drawn: list[Drawn]
+) -> list[Drawn]:
+    """Maps drawn smaller where one by itself is too wide for a page, as far as names still stand apart. Large maps need
+    the room."""
+    low, high = frame_of(drawn)
+    if any(len(it.strokes) > LARGE for it in drawn):
+        return drawn
+    while (high - low).real + 32 > WIDE and scale > LEAST_SCALE:
+        scale *= 0.95
+        smaller = [drawn_at(it, sheets, scale) for it, sheets in zip(models, laid)]
+        if any(is_crowded(one.strokes) for one in smaller):
+            break
+        drawn = smaller
+        low, high = frame_of(drawn)
+    return drawn
+
+
+def places_of(drawn: Sequence[Drawn], has_titles: bool) -> tuple[list[complex], list[float], float, complex]:
+    """By which way each map is moved in the picture, where it begins below its title, how large letters of titles and
+    legend are, and how far the picture reaches: maps stand side by side in one frame from above to below, or one below
+    another where they are too wide for a page, in one frame from left to right if that isn't too wide as well."""
+    low, high = frame_of(drawn)
     wide = sum((it.high - it.low).real for it in drawn) + 44 * (len(drawn) - 1) + 32
-    is_stacked = wide > WIDE and wide > 2.2 * (high - low).imag
+    is_stacked = wide > WIDE and len(drawn) > 1
     wide = (high - low).real + 32 if is_stacked else wide
     size = max(1.0, wide / 640)
     head = size * 26 if has_titles else 0
     step, foot = (high - low).imag + head + 14, 16 + 22 * size
     if is_stacked:
-        corners = [complex(16, 16 + head + row * step) - low for row in range(len(drawn))]
-        return corners, size, complex(wide, step * len(drawn) + foot)
+        tops = [16 + head]
+        for one in drawn:
+            tops.append(tops[-1] + (one.high - one.low).imag + 14 + head)
+        lefts = [low.real if wide <= WIDE else one.low.real for one in drawn]
+        wide = min(wide, max((one.high - one.low).real for one in drawn) + 32) if wide > WIDE else wide
+        corners = [complex(16 - left, top - one.low.imag) for left, top, one in zip(lefts, tops, drawn)]
+        return corners, tops, size, complex(wide, tops[-1] - head - 16 + foot)
     ends = [16.0]
     for one in drawn:
         ends.append(ends[-1] + (one.high - one.low).real + 44)
     corners = [complex(at - one.low.real, 16 + head - low.imag) for at, one in zip(ends, drawn)]
-    return corners, size, complex(wide, step + foot)
+    return corners, [16 + head] * len(drawn), size, complex(wide, step + foot)
 
 
 def scale_of(spots: Sequence[Spot]) -> float:

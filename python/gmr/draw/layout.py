@@ -2,7 +2,7 @@
 import cmath
 import math
 from collections import defaultdict
-from collections.abc import Mapping, Sequence
+from collections.abc import Mapping, Sequence, Set
 from functools import cache
 from typing import NamedTuple
 
@@ -147,9 +147,12 @@ def faces_to_open(darts: Sequence[int], alpha: Sequence[dict[int, int]]) -> list
     return sorted(faces, key=lambda one: (-sum(alpha[3][it] != it for it in one), -len(one)))
 
 
-def open_up(darts: Sequence[int], alpha: Sequence[dict[int, int]], dimension: int, face: Sequence[int]) -> Disc | None:
-    """A connected surface, opened so that it lies in the plane: a closed one of genus 0 at this face, or cut to a net
-    where the face is empty or there is a handle; or None where it can't be opened at this face."""
+def open_up(
+    darts: Sequence[int], alpha: Sequence[dict[int, int]], dimension: int, face: Sequence[int], outside: Set[int]
+) -> Disc | None:
+    """A connected surface, opened so that it lies in the plane: at this face where the genus is 0 and it is closed, or
+    where the face stood outside before, so that holes lie within; or cut to a net where the face is empty or there is
+    a handle; or None where it can't be opened at this face."""
     cut: set[int] = set()
     outer: set[int] = set()
 
@@ -163,11 +166,12 @@ def open_up(darts: Sequence[int], alpha: Sequence[dict[int, int]], dimension: in
     euler = len(darts) + sum((2 * len(labels) - 3) * len(orbits(darts, joined, labels)) for labels in sides)
     if euler + len(walks) != 2 or not face:
         cut.update(unfold(darts, alpha, bool(face)))
-    elif not walks:
+    elif not walks or outside >= {*face} and not any(alpha[2][dart] in face for dart in face):
         outer.update(face)
     inner, nodes = [dart for dart in darts if dart not in outer], nodes_of(darts, joined)
     walks = list(boundaries(inner, neighbour))
-    if outer and (len(walks) > 1 or any(alpha[2][dart] in outer for dart in outer)):
+    walks = [walk for walk in walks if not outer or any(alpha[2][dart] in outer for dart, *_ in walk)]
+    if outer and (len(walks) != 1 or any(alpha[2][dart] in outer for dart in outer)):
         return None
     walk = max(walks, key=lambda steps: sum(side == 2 for _, side, _ in steps))
     left = turned_left(walk, neighbour)

@@ -104,14 +104,14 @@ def best_sheet(
     faces = sorted(faces_to_open(part, alpha), key=lambda face: (-nearness(face, past), not is_kept(face, later)))
     tried: list[tuple[bool, float, int, Sheet]] = []
     for face in faces[:MOST_TRIED]:
-        disc = open_up(part, alpha, dimension, face)
+        disc = open_up(part, alpha, dimension, face, past.outer)
         if disc:
             tried.append(laid_out(disc, alpha, dimension, past, laid, len(tried)))
             is_first = is_kept(face, later) and not past.spots or past.outer >= set(face)
             if not disc.outer or is_first and not tried[-1][0]:
                 break
     if not tried or tried[-1][3].outer and all(is_bent for is_bent, *_ in tried):
-        disc = open_up(part, alpha, dimension, [])
+        disc = open_up(part, alpha, dimension, [], past.outer)
         if disc:
             tried.append(laid_out(disc, alpha, dimension, past, laid, len(tried)))
     return min(tried, key=lambda one: one[:3])[3]
