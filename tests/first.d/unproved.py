@@ -1,5 +1,5 @@
 """A test of the build without proofs by the real toolchain, from nothing, in a copy of the program's sources."""
-import os
+import resource
 import shutil
 import subprocess
 import tempfile
@@ -10,6 +10,7 @@ from standins import ROOT
 
 PARTS = ("gmr", "crates.txt", "HANDLES", "python/VERSION", "examples/square.gmap")
 UNWANTED = shutil.ignore_patterns("out", "must-fail", "__pycache__")
+MOST_WORK = 180     # seconds of the processor: some 50 on an idle machine, whose clock shows as many
 
 
 def seconds_to_answer(top: Path) -> float:
@@ -24,9 +25,15 @@ def seconds_to_answer(top: Path) -> float:
     return took
 
 
+def work_of_children() -> float:
+    """The processor seconds of the processes that this one started and that ended."""
+    used = resource.getrusage(resource.RUSAGE_CHILDREN)
+    return used.ru_utime + used.ru_stime
+
+
 def test_first_answer_and_second() -> None:
-    """The first answer comes within a minute, the second at once. Where the machine has more to do than it has
-    processors, the first takes what it takes."""
+    """What the first answer takes is told, and its work is held, since other tests run beside it; the second comes at
+    once."""
     if shutil.which("rt") is None or shutil.which("rattle") is None:
         return
     with tempfile.TemporaryDirectory() as name:
@@ -37,9 +44,10 @@ def test_first_answer_and_second() -> None:
             if (ROOT / file).exists():
                 (top / file).parent.mkdir(parents=True, exist_ok=True)
                 shutil.copy(ROOT / file, top / file)
+        before = work_of_children()
         first = seconds_to_answer(top)
-        is_busy = max(os.getloadavg()[:2]) > len(os.sched_getaffinity(0))
+        work = work_of_children() - before
         second = min(seconds_to_answer(top) for _ in range(5))
-        print(f"the first unproved answer took {first:.0f} s, the second {second * 1000:.0f} ms")
-        assert first < 60 or is_busy, f"the first answer took {first:.0f} s"
+        print(f"the first unproved answer took {first:.0f} s, {work:.0f} s of the processor, the second {second * 1000:.0f} ms")
+        assert work < MOST_WORK, f"the first answer took {work:.0f} s of the processor"
         assert second < 1 and second < first / 20, f"the second answer took {second:.1f} s"
