@@ -3,7 +3,6 @@ import os
 import signal
 import subprocess
 import sys
-import time
 from fractions import Fraction
 
 from gmr import maps
@@ -236,10 +235,8 @@ def test_a_script_runs_again_when_it_changes():
             assert "refused SCRIPT" in watching.stdout.readline() and not out.exists()
             script.write_text(LIFT)
             os.utime(script, (1, 1))
-            deadline = time.monotonic() + 120
-            while not out.exists() and time.monotonic() < deadline:
-                time.sleep(0.1)
-            assert out.exists(), "it isn't done again"
+            # What it says last it says when all is done: until then an interrupt could meet it within a cleanup.
+            assert any(line.startswith("exported") for line in watching.stdout) and out.exists(), "it isn't done again"
         finally:
             watching.send_signal(signal.SIGINT)
             assert watching.wait(timeout=120) == 130
