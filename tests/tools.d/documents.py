@@ -126,6 +126,25 @@ def test_names_of_code() -> None:
     assert not missing, missing
 
 
+def opens_untold(path: Path) -> bool:
+    """Whether a source or a definition begins without a line on what it is for, or re-exports more than that names."""
+    mark = "//! " if path.suffix == ".rt" else "-- "
+    first, _, rest = path.read_text(encoding="utf-8").partition("\n")
+    lines = [line for line in rest.splitlines() if line]
+    re_exported = [line.split()[-1] for line in lines if line.startswith("pub mod ")]
+    only_those = path.suffix == ".antt" and len(re_exported) == len(lines)
+    untold = set(re_exported) - set(re.findall(r"\w+", first)) if only_those else set()
+    return not first.startswith(mark) or bool(untold)
+
+
+def test_sources_say_what_they_are_for() -> None:
+    """Each source and each file of definitions opens with what it is for; one of modules alone names them."""
+    files = [*CRATES.rglob("src/**/*.rt"), *CRATES.rglob("specs/**/*.antt")]
+    assert len(files) > 300, len(files)
+    untold = sorted(str(path.relative_to(ROOT)) for path in files if opens_untold(path))
+    assert not untold, f"these open without a line on what they are for: {untold}"
+
+
 def test_lines_to_believe() -> None:
     """README and PROVED say how many lines the sentence rests on, as docs/definitions.py counts them."""
     counts = [sys.executable, str(ROOT / "docs" / "definitions.py"), "headline"]

@@ -1,3 +1,5 @@
+//! One application, from the hooks and values to the committed result or a refusal.
+
 ghost use Rattle.std.specs.Prelude.{◌≡◌, ◌≢◌, ℕ, ◌+◌, ◌-◌, ◌≤◌, length, max, List, IfErr, IfOk, MatchResult, OnOk};
 ghost use Rattle.gm_model.specs.declared.value.Value.{Value};
 ghost use Rattle.gm_model.specs.Applications.{IsBudget, IsDone, MeetsPre};

@@ -1,3 +1,5 @@
+//! Why an application is refused.
+
 use gm_match::MatchFault;
 use gm_model::OutOfMemory;
 

@@ -1,3 +1,4 @@
+-- The definitions of gm_arena that no clause of `tool` rests on: ArenaMap, ArenaAsMap, Lawful, InOrder, Parts, Lines, Edits, Filled, Inside and Listing.
 pub mod ArenaMap
 pub mod ArenaAsMap
 pub mod Lawful

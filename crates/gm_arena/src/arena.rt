@@ -1,3 +1,5 @@
+//! The darts of a map in slots: added, looked up, linked, given values and removed.
+
 ghost use Rattle.std.specs.Prelude.{◌≡◌, ℕ, ◌+◌, ◌*◌, ◌/◌, ◌<◌, ◌≤◌, ◌-◌, ◌++◌, ◌∷◌, [], length, replicate, take, max, map, Some, None, All, MatchOption, IfOk, IsSome, IsTrue, OnOk, OnErr};
 ghost use Rattle.std.specs.FinMap.{get, keys};
 ghost use Rattle.std.specs.List.{zip};

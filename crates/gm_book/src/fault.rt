@@ -1,3 +1,5 @@
+//! Why a text gives no book.
+
 ghost use Rattle.std.specs.Prelude.{◌≡◌};
 
 use crate::names::NameFault;

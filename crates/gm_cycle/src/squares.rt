@@ -1,3 +1,5 @@
+//! The cycle condition tested at one right node, label by label.
+
 ghost use Rattle.std.specs.Prelude.{◌≡◌, ◌↔◌, ◌+◌, ◌<◌, ◌≤◌, ℕ, IsTrue, length, MatchResult};
 ghost use Rattle.gm_model.specs.declared.rule.Side.TheVariants.{Right};
 ghost use Rattle.gm_model.specs.Rules.{rule_of, has_word};

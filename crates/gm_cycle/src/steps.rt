@@ -1,3 +1,5 @@
+//! The right steps of a rule in a table, and whether a square of labels closes there.
+
 ghost use Rattle.std.specs.Prelude.{◌≡◌, ◌<◌, ◌≤◌, ◌↔◌, ℕ, length, IsTrue};
 ghost use Rattle.gm_model.specs.Rules.{rule_of, hook_label};
 ghost use Rattle.gm_model.specs.Squares.{Closes, IsApart};

@@ -1,0 +1,1 @@
+-- gm_each has no definitions of its own.

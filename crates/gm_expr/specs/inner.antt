@@ -1,2 +1,3 @@
+-- The definitions of gm_expr that no clause of `tool` rests on: Whole and Writable.
 pub mod Whole
 pub mod Writable

@@ -1,3 +1,5 @@
+//! Why a text has no form.
+
 use gm_model::LimitKind;
 use gm_parse::SyntaxFault;
 use std::alloc::{AllocError, AllocFailed};

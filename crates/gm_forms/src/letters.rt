@@ -1,3 +1,5 @@
+//! A word that is read letter by letter.
+
 ghost use Rattle.std.specs.Prelude.{◌≡◌, ◌+◌, ◌≤◌, [], ◌∷◌, ◌++◌, length, SomeIff};
 ghost use Rattle.gm_model.specs.declared.limit.TheConstants.{MOST_LETTERS};
 

@@ -1,3 +1,5 @@
+//! The names of a rule's nodes, as they are mentioned first.
+
 ghost use Rattle.std.specs.Prelude.{◌≡◌, [], length, OnOk};
 ghost use Rattle.gm_forms.specs.BookText.{with_name};
 

@@ -1,3 +1,5 @@
+//! A count of rules or links that stops at its limit.
+
 ghost use Rattle.std.specs.Prelude.{◌≡◌, ◌+◌, ◌<◌, ◌≤◌, SomeIff};
 
 use std::marker::Model;

@@ -1,3 +1,4 @@
+-- The definitions of gm_host that no clause of `tool` rests on: FileStore, Files, MemSink, MemStore, Sink, StdSink, SureSink and SureStore.
 pub mod FileStore
 pub mod Files
 pub mod MemSink

@@ -1,3 +1,5 @@
+//! The beginning of some bytes, as a save or a put that fails may still write it.
+
 ghost use Rattle.std.specs.Prelude.{◌≡◌, take};
 
 /// The first `count` bytes, at most all.

@@ -1,3 +1,5 @@
+//! Why a load, a save or a put failed.
+
 ghost use Rattle.std.specs.Prelude.{◌≡◌};
 
 use gm_model::{Items, OutOfMemory};

@@ -1,3 +1,5 @@
+//! The table in which a store in memory keeps its files, by name.
+
 ghost use Rattle.std.specs.Prelude.{◌≡◌, ◌+◌, ◌≤◌, OnOk, OnErr, IfOk, Some, option_copied, length};
 ghost use Rattle.std.specs.FinMap as map;
 ghost use Rattle.gm_host.specs.inner.Files.{told};

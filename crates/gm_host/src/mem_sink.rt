@@ -1,3 +1,5 @@
+//! A sink in memory for tests, whose puts fail where a test says so.
+
 ghost use Rattle.std.specs.Prelude.{◌≡◌, ◌<◌, ◌≤◌, [], false, IsTrue, OnOk, OnErr, Some};
 ghost use Rattle.std.specs.FinMap as map;
 ghost use Rattle.gm_host.specs.Count.{counted, Rises};

@@ -1,3 +1,5 @@
+//! A store in memory for tests, whose loads and saves fail where a test says so.
+
 ghost use Rattle.std.specs.Prelude.{◌≡◌, ◌+◌, ◌<◌, ◌≤◌, ◌↔◌, ◌∷◌, ◌++◌, [], ℕ, List, Option, OnOk, OnErr, IfOk, IsTrue, Some, option_copied, length};
 ghost use Rattle.std.specs.FinMap as map;
 ghost use Rattle.gm_host.specs.inner.Files.{told};

@@ -1,3 +1,5 @@
+//! What a sink owes those who write to it.
+
 ghost use Rattle.std.specs.Prelude.{◌≡◌, ◌≤◌, ℕ, Bool, List, Option, IsTrue, OnOk};
 ghost use Rattle.gm_host.specs.Count.{counted, Rises};
 ghost use Rattle.gm_host.specs.inner.Sink.{extended, ExtendsInPart, OnFailed, IsOutOfMemory, OnOutOfMemory};

@@ -1,3 +1,5 @@
+//! The sink over the standard output of the process.
+
 ghost use Rattle.std.specs.Prelude.{◌≡◌, ◌≤◌, true, IsTrue, OnOk, is_err, if◌then◌else◌};
 ghost use Rattle.std.specs.Io.KnownBytes.{Appends};
 ghost use Rattle.gm_host.specs.Count.{counted, Rises};

@@ -1,3 +1,5 @@
+//! What a store of files owes those who load from it and save in it.
+
 ghost use Rattle.std.specs.Prelude.{◌≡◌, ◌+◌, ◌≤◌, ◌∷◌, ◌++◌, [], ℕ, List, Option, length, OnOk, IfOk};
 ghost use Rattle.gm_host.specs.Count.{counted, Rises};
 ghost use Rattle.gm_host.specs.Store.{Lacks, IsHeld, IsCutFromHeld, HoldsLongerFile, IsFailed, OnAbsent, OnFailed, IfTooLong, IsAbsentUnlessFailing, IsTooLongUnlessFailing};

@@ -1,3 +1,5 @@
+//! A sink in memory that keeps all that is written to it.
+
 ghost use Rattle.std.specs.Prelude.{◌≡◌, ◌≤◌, [], false, IsTrue, OnOk, Some};
 ghost use Rattle.gm_host.specs.Count.{counted, Rises};
 ghost use Rattle.gm_host.specs.inner.Sink.{extended, ExtendsInPart, IsFailed, OnFailed, IsOutOfMemory, OnOutOfMemory};

@@ -1,3 +1,5 @@
+//! A store in memory that holds all that is saved in it.
+
 ghost use Rattle.std.specs.Prelude.{◌≡◌, ◌+◌, ◌≤◌, ◌∷◌, ◌++◌, [], OnOk, OnErr, IfOk, option_copied, length};
 ghost use Rattle.std.specs.FinMap as map;
 ghost use Rattle.gm_host.specs.inner.Files.{told};

@@ -1,3 +1,5 @@
+//! The arcs at the nodes of a rule: which label is there twice, missing, or on one side alone.
+
 ghost use Rattle.std.specs.Prelude.{◌≡◌, ◌+◌, ◌<◌, ◌≤◌, ℕ, ◌↔◌, length, slice_index, MatchResult};
 ghost use Rattle.gm_model.specs.Rules.{rule_of};
 ghost use Rattle.gm_model.specs.Structure.{AreGood, HasArcs, IsArcFault, IsNodeArcFault};

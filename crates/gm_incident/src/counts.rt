@@ -1,3 +1,5 @@
+//! How often a node of a rule has each label on a side.
+
 ghost use Rattle.std.specs.Prelude.{◌≡◌, ◌+◌, ◌<◌, ◌≤◌, ℕ, length, slice_index};
 ghost use Rattle.std.specs.List.{count_by};
 ghost use Rattle.gm_model.specs.Rules.{rule_of, is_end, is_label};

@@ -1,3 +1,5 @@
+//! Which nodes of a rule its left links join to a hook.
+
 ghost use Rattle.std.specs.Prelude.{◌≡◌, ◌<◌, true, false, ℕ, ◌↔◌, length, IsTrue, IsFalse, slice_index_or};
 ghost use Rattle.std.specs.List.{All, Contains};
 ghost use Rattle.gm_model.specs.declared.rule.Link.{Link};

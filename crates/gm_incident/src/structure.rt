@@ -1,3 +1,6 @@
+//! The structure of a rule: its hooks, their words, the lengths of words, and what joins the left
+//! nodes.
+
 ghost use Rattle.std.specs.Prelude.{◌≡◌, ◌<◌, ◌≤◌, ℕ, ◌↔◌, IsTrue, length, slice_index, MatchResult, MatchOption};
 ghost use Rattle.std.specs.List.{All};
 ghost use Rattle.gm_model.specs.declared.rule.Side.TheVariants.{Left};

@@ -1,3 +1,5 @@
+//! Where a map breaks a law.
+
 use gm_model::OutOfMemory;
 
 /// Where a map breaks a law. The darts go by name.

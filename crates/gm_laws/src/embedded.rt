@@ -1,3 +1,5 @@
+//! The law that the darts of an embedding's orbit have one value.
+
 ghost use Rattle.std.specs.Prelude.{◌≡◌, ◌↔◌, ◌+◌, ◌*◌, ◌<◌, ◌≤◌, true, length, slice_get, Some, MatchOption};
 ghost use Rattle.std.specs.FinMap.{keys};
 ghost use Rattle.gm_model.specs.Maps.{IsEmbedAt};

@@ -1,3 +1,5 @@
+//! The law that each label's neighbours lead back.
+
 ghost use Rattle.std.specs.Prelude.{◌≡◌, ◌+◌, ◌*◌, ◌≤◌, length, MatchOption};
 ghost use Rattle.std.specs.FinMap.{keys};
 ghost use Rattle.gm_arena.specs.inner.ArenaMap.{IsLiveSlot, name_at};

@@ -1,3 +1,5 @@
+//! The laws of a map, tested one after another up to the first breach.
+
 ghost use Rattle.std.specs.Prelude.{◌≡◌, ◌+◌, ◌*◌, ◌≤◌, OnOk, IfErr};
 ghost use Rattle.gm_model.specs.Maps.{IsGeneralised, IsWellEmbedded};
 ghost use Rattle.gm_arena.specs.inner.ArenaAsMap.{as_map};

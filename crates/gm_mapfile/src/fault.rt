@@ -1,3 +1,5 @@
+//! Why a text gives no map.
+
 ghost use Rattle.std.specs.Prelude.{◌≡◌};
 
 use gm_laws::{LawFault, MapBreach};

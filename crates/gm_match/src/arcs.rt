@@ -1,3 +1,5 @@
+//! Whether the candidate of a match meets the left steps of its rule, and which is broken first.
+
 ghost use Rattle.std.specs.Prelude.{◌≡◌, ◌≢◌, ℕ, List, ◌+◌, ◌*◌, ◌<◌, ◌≤◌, ◌↔◌, length, MatchOption, MatchResult, IsTrue};
 ghost use Rattle.gm_arena.specs.inner.ArenaAsMap.{as_map};
 ghost use Rattle.gm_arena.specs.inner.ArenaMap.{IsLiveSlot, name_at, alpha};

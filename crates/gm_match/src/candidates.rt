@@ -1,3 +1,5 @@
+//! The one candidate for a match: the slot of each left node at each position.
+
 ghost use Rattle.std.specs.Prelude.{◌≡◌, ◌≢◌, ℕ, List, ◌++◌, ◌+◌, ◌*◌, ◌<◌, ◌≤◌, [], length, slice_index, Some, IfOk, OnOk, vec_capacity};
 ghost use Rattle.gm_arena.specs.inner.ArenaAsMap.{as_map};
 ghost use Rattle.gm_model.specs.Matches.{along_hook};

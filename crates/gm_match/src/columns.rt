@@ -1,3 +1,5 @@
+//! The candidate of a rule with one hook, made node by node.
+
 ghost use Rattle.std.specs.Prelude.{◌≡◌, ◌≢◌, ℕ, ◌+◌, ◌*◌, ◌<◌, ◌≤◌, [], length, slice_get, slice_index, Some, OnOk};
 ghost use Rattle.gm_arena.specs.inner.ArenaMap.{alpha};
 ghost use Rattle.gm_model.specs.Rules.{rule_of};

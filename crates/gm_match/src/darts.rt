@@ -1,3 +1,5 @@
+//! The slots of the darts that the hooks name.
+
 ghost use Rattle.std.specs.Prelude.{◌+◌, ◌≤◌, length, take, MatchResult};
 ghost use Rattle.gm_match.specs.inner.Layout.{AreHookSlots, IsNoDart};
 ghost use Rattle.gm_model.specs.declared.limit.TheConstants.{MOST_NODES};

@@ -1,3 +1,5 @@
+//! Why a rule doesn't match.
+
 use gm_model::OutOfMemory;
 
 /// Why a rule isn't matched. Nodes go by their index in the rule, and with a position they name an

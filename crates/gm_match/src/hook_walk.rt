@@ -1,3 +1,5 @@
+//! The walk of the first hook, with its turns.
+
 ghost use Rattle.std.specs.Prelude.{◌≡◌, ℕ, List, ◌+◌, ◌*◌, ◌≤◌, [], length, take, IfOk};
 ghost use Rattle.gm_arena.specs.inner.ArenaAsMap.{as_map};
 ghost use Rattle.gm_arena.specs.inner.ArenaMap.{IsLiveSlot, name_at};

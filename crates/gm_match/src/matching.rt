@@ -1,3 +1,5 @@
+//! A match from its hooks, and its faults in the order in which they are tested.
+
 ghost use Rattle.std.specs.Prelude.{◌≡◌, ℕ, List, ◌+◌, ◌*◌, ◌≤◌, length, MatchResult, IfErr};
 ghost use Rattle.gm_arena.specs.inner.ArenaAsMap.{as_map};
 ghost use Rattle.gm_model.specs.declared.value.Value.{Value};

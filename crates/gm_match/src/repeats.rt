@@ -1,3 +1,5 @@
+//! That no two instances of a candidate have one dart, or which two do.
+
 ghost use Rattle.std.specs.Prelude.{◌≡◌, ◌≢◌, ℕ, ◌+◌, ◌<◌, length, slice_get, IsTrue, MatchResult};
 ghost use Rattle.std.specs.List.{All};
 ghost use Rattle.gm_arena.specs.declared.slot.Slot.{Slot};

@@ -1,3 +1,5 @@
+//! The candidate of a rule, made position by position.
+
 ghost use Rattle.std.specs.Prelude.{◌≡◌, ℕ, ◌+◌, ◌/◌, ◌%◌, ◌<◌, ◌≤◌, length, slice_get, slice_index, Some};
 ghost use Rattle.std.specs.List.{Contains};
 ghost use Rattle.gm_arena.specs.inner.ArenaMap.{IsLiveSlot, name_at};

@@ -1,3 +1,4 @@
+-- The definitions of gm_model that clauses of `tool` rest on: Tokens, Symbols, GMap, Reading, Labels, Limits, Names, Values, Trees, Rules, Orbits, Maps, Histories, Structure, Squares, Components, Matches, Unfolding, Kinds, Expressions, Acceptance, NewValues, Applications, Statements, Runs, Budgets, Reports and Breaches; `inner` has the others.
 pub mod Tokens
 pub mod Symbols
 pub mod GMap

@@ -1,3 +1,5 @@
+//! The dimension of a map.
+
 ghost use Rattle.std.specs.Prelude.{◌≡◌, ◌<◌, ◌≤◌, SomeIff};
 
 use crate::limit::MOST_DIMENSION;

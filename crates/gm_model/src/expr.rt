@@ -1,3 +1,5 @@
+//! Expressions of rules as trees.
+
 use crate::word::Mask;
 use std::marker::Model;
 

@@ -1,3 +1,5 @@
+//! The list that public types hold.
+
 use std::marker::Model;
 
 /// A list in a public type: a vector that contracts see as its list. It is made from a vector

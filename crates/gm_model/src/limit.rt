@@ -1,5 +1,5 @@
-/// The limits of maps, books and scripts, each said once: code and definitions cite these.
-///
+//! The limits of maps, books and scripts, each said once: code and definitions cite these.
+
 /// The greatest dimension of a map, and so its greatest label.
 pub const MOST_DIMENSION: u8 = 7;
 

@@ -1,3 +1,5 @@
+//! The answer of a call for which memory ran out.
+
 ghost use Rattle.std.specs.Prelude.{◌≡◌};
 ghost use Rattle.gm_model.specs.declared.memory.OutOfMemory.{OutOfMemory};
 

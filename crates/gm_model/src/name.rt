@@ -1,3 +1,5 @@
+//! The names of embeddings, rules, parameters and nodes.
+
 ghost use Rattle.std.specs.Prelude.{◌≡◌, ◌↔◌, ◌≤◌, ◌<◌, length, IsTrue, SomeIff};
 ghost use Rattle.std.specs.List.{list_all};
 ghost use Rattle.gm_model.specs.Names.{IsName, IsNameToken};

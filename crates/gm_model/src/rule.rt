@@ -1,3 +1,5 @@
+//! Rules and books as their texts give them, and the faults of a rule that isn't accepted.
+
 use crate::expr::Expr;
 use crate::items::Items;
 use crate::name::Name;

@@ -1,3 +1,5 @@
+//! The schema of maps and books: a dimension and embeddings.
+
 use crate::dim::Dim;
 use crate::items::Items;
 use crate::name::Name;

@@ -1,3 +1,5 @@
+//! What a rule has on one of its sides: links, words, and the steps that they make.
+
 ghost use Rattle.std.specs.Prelude.{◌≡◌, ◌<◌, ℕ, List, [], length, slice_index_or, slice_set};
 ghost use Rattle.gm_model.specs.Rules.{step_in};
 ghost use Rattle.gm_model.specs.inner.NodeSteps.{step_or, letter_step};

@@ -1,3 +1,5 @@
+//! What a node of a rule has at a label.
+
 /// What a node has at a label on one side of a rule.
 #[derive(Clone, Copy, PartialEq, Eq)]
 pub enum Step {

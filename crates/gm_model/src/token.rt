@@ -1,3 +1,5 @@
+//! The tokens of a text, by kind and place.
+
 /// What kind of token a text has at a place. Which sign or word it is, the text tells.
 #[derive(Clone, Copy, Debug, PartialEq, Eq)]
 pub enum TokenKind {

@@ -1,3 +1,5 @@
+//! The values of embeddings and parameters, and their kinds.
+
 ghost use Rattle.std.specs.Prelude.{◌≡◌};
 ghost use Rattle.gm_model.specs.Values.{kind_of};
 

@@ -1,3 +1,5 @@
+//! Sets of labels, and the words of nodes.
+
 ghost use Rattle.std.specs.Prelude.{◌≡◌, ◌<◌, ◌≤◌, length, slice_get, SomeIff};
 ghost use Rattle.gm_model.specs.Labels.{has};
 

@@ -1,3 +1,4 @@
+-- The definitions of gm_pending that no clause of `tool` rests on: Arcs, Answered, Collected, EditLists, Gathered, Marks, Pairs, Reached, Results, Sources, ToldEdits, OwnEdits, Touched and Written.
 pub mod Arcs
 pub mod Answered
 pub mod Collected

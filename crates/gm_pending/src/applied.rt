@@ -1,3 +1,5 @@
+//! How many darts an application adds and removes.
+
 /// How many darts an application adds and removes.
 #[derive(Clone, Copy, PartialEq, Eq)]
 pub struct Applied {

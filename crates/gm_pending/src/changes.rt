@@ -1,3 +1,5 @@
+//! The changes that make an application's result, with the memory that they take.
+
 ghost use Rattle.std.specs.Prelude.{◌≡◌, ℕ, ◌+◌, ◌*◌, ◌<◌, ◌≤◌, length, IfOk};
 ghost use Rattle.gm_pending.specs.inner.Collected.{AreAlike, told_by, rewrite_of};
 ghost use Rattle.gm_pending.specs.inner.EditLists.{AllGiven, AreEditsOf, AreNewValues, IsReachedSumIn};

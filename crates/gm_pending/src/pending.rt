@@ -1,3 +1,5 @@
+//! An application that isn't written yet: the neighbours of the darts of its result.
+
 ghost use Rattle.std.specs.Prelude.{◌≡◌, ◌≢◌, ℕ, ◌+◌, ◌<◌, ◌≤◌, List, [], length, false, Some, None, MatchOption, ◌↔◌, IfOk, IsTrue};
 
 use crate::decided_orbits::{OrbitsByEmbed, no_orbits};

@@ -1,3 +1,5 @@
+//! What a rule changes at its instances, told edit by edit without a list.
+
 ghost use Rattle.std.specs.Prelude.{◌≡◌, ℕ, ◌+◌, ◌*◌, ◌<◌, ◌≤◌, ◌++◌, length, slice_index_or, OnOk, IsTrue};
 ghost use Rattle.std.specs.Vec.{vec_capacity};
 ghost use Rattle.gm_model.specs.declared.step.Step.{Step};

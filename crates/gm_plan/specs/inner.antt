@@ -1,3 +1,4 @@
+-- The definitions of gm_plan that no clause of `tool` rests on: Changes, Collecting, Counts, InArena, Indices, Lookup, Paths, Placed, Plans, Refusals, Searches, Sources and Tested.
 pub mod Changes
 pub mod Collecting
 pub mod Counts

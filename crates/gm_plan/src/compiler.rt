@@ -1,3 +1,5 @@
+//! A rule made into a plan, once all conditions on it hold.
+
 ghost use Rattle.std.specs.Prelude.{◌≡◌, ◌≤◌, MatchResult, length};
 ghost use Rattle.gm_model.specs.Rules.{rule_of};
 ghost use Rattle.gm_model.specs.Kinds.{IsTyped};

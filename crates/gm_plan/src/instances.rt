@@ -1,3 +1,5 @@
+//! Where the left nodes of a rule lie in an arena, by position.
+
 ghost use Rattle.std.specs.Prelude.{◌≡◌, ℕ, ◌*◌, ◌<◌, ◌≤◌, IfOk, Some, length};
 ghost use Rattle.std.specs.List.{All};
 ghost use Rattle.gm_plan.specs.inner.Placed.{slot_at, turn_at, HasRowsOf};

@@ -1,3 +1,5 @@
+//! The plan of a rule: what each application of it asks again and again, in tables.
+
 ghost use Rattle.std.specs.Prelude.{◌≡◌, ◌≢◌, false, ℕ, ◌<◌, ◌≤◌, ◌↔◌, length, MatchOption, IfOk, IsTrue};
 ghost use Rattle.std.specs.List.{Contains};
 

@@ -1,3 +1,5 @@
+//! The steps of a rule's nodes on both sides, in tables, and counts of its nodes.
+
 ghost use Rattle.std.specs.Prelude.{◌≡◌, ℕ, ◌<◌, ◌≤◌, length, IfOk, IsTrue};
 ghost use Rattle.gm_model.specs.declared.rule.Side.TheVariants.{Left, Right};
 ghost use Rattle.gm_model.specs.Rules.{rule_of, has_word};

@@ -1,3 +1,4 @@
+-- The definitions of gm_run that no clause of `tool` rests on: Alike, Lines, Printing, Progress, Standing and Turns.
 pub mod Alike
 pub mod Lines
 pub mod Printing

@@ -1,3 +1,5 @@
+//! What holds of runs of scripts, whoever makes them: laws over the definitions.
+
 ghost use Rattle.std.specs.Prelude.{◌≡◌, ◌≢◌, ◌≤◌, ℕ, List, All};
 ghost use Rattle.gm_model.specs.declared.schema.Schema.{Schema};
 ghost use Rattle.gm_model.specs.Statements.{Stat};

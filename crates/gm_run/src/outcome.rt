@@ -1,3 +1,5 @@
+//! What became of the statements of a script.
+
 use gm_apply::{Applied, Refusal};
 use gm_model::Items;
 

@@ -1,3 +1,5 @@
+//! Why a text gives no script under a book.
+
 ghost use Rattle.std.specs.Prelude.{◌≡◌};
 
 use crate::reader::TextFault;

@@ -1,3 +1,5 @@
+//! What a script sees in a token: a word that begins a statement, a name, a number or a sign.
+
 ghost use Rattle.std.specs.Prelude.{◌≡◌, ◌≤◌, length, false, bytes_eq};
 ghost use Rattle.gm_model.specs.Tokens.{bytes_of, IsLexeme};
 ghost use Rattle.gm_model.specs.Symbols.{symbol_of_kind};

@@ -1,3 +1,6 @@
+//! The grammar of scripts as a table of moves: where a reader stands, and where what comes next
+//! leads.
+
 ghost use Rattle.std.specs.Prelude.{◌≡◌, Some, None, if◌then◌else◌};
 ghost use Rattle.gm_script.specs.inner.Reading as reading;
 ghost use Rattle.gm_script.specs.inner.Reading.{HeldStat};

@@ -1,0 +1,1 @@
+-- gm_tests has no definitions of its own.

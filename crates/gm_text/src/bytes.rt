@@ -1,3 +1,5 @@
+//! The kinds of bytes of which tokens are made.
+
 ghost use Rattle.std.specs.Prelude.{◌≡◌};
 ghost use Rattle.gm_model.specs.Tokens as tokens;
 

@@ -1,3 +1,5 @@
+//! A text read from left to right, one token at a time.
+
 ghost use Rattle.std.specs.Prelude.{◌≡◌, ℕ, ◌+◌, ◌<◌, ◌≤◌, ◌-◌, ◌^◌, false, length, min, IsTrue, IfSome, IfNone, IfOk, IfErr, OnErr, MatchOption};
 ghost use Rattle.std.specs.List.{list_all};
 ghost use Rattle.gm_model.specs.declared.token.TokenKind.TheVariants.{Name, Number};

@@ -1,3 +1,5 @@
+//! Where the blanks, the names, the numbers and the other tokens of a text end.
+
 ghost use Rattle.std.specs.Prelude.{◌≡◌, ◌+◌, ◌<◌, ◌≤◌, ◌||◌, true, false, not, length, drop, slice_index, IsTrue, IfSome, MatchOption};
 ghost use Rattle.std.specs.List.{take_while};
 ghost use Rattle.gm_model.specs.declared.token.TokenKind.TheVariants.{Name};

@@ -1,3 +1,4 @@
+-- The definitions of gm_tool that clauses of `tool` rest on: Answer, RunAnswer, Migrating, OwnFiles, DualAnswer, GridAnswer, Program, Loads, Endings, MadeRuns, Tool, StepBounds, Seen and Headline; `inner` has the others.
 pub mod Answer
 pub mod RunAnswer
 pub mod Migrating

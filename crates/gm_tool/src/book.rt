@@ -1,3 +1,5 @@
+//! The command `book`, and the book and the plans that other commands read.
+
 ghost use Rattle.std.specs.Prelude.{◌≡◌, All, IfOk, IfErr, map};
 ghost use Rattle.gm_model.specs.Acceptance.{IsAccepted};
 ghost use Rattle.gm_model.specs.Maps.{IsSchema};

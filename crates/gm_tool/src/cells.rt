@@ -1,3 +1,5 @@
+//! The command `cells`.
+
 ghost use Rattle.std.specs.Prelude.{ℕ, IfOk, List};
 ghost use Rattle.gm_arena.specs.inner.ArenaAsMap.{as_map};
 ghost use Rattle.gm_cells.specs.Cells.{AreCounts};

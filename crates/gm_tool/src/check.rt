@@ -1,3 +1,5 @@
+//! The command `check`.
+
 ghost use Rattle.std.specs.Prelude.{◌≡◌, ◌++◌, All, IfOk, OnOk, MatchResult, map};
 ghost use Rattle.gm_model.specs.Acceptance.{IsAccepted, IsFault};
 ghost use Rattle.gm_model.specs.Rules.{rule_of};

@@ -1,3 +1,5 @@
+//! The words of the command line: which command they ask for, on which files.
+
 ghost use Rattle.std.specs.Prelude.{MatchBool, MatchOption, ◌≡◌, ◌≤◌, ℕ, decimal};
 ghost use Rattle.gm_tool.specs.Answer.{Asks, command_word};
 ghost use Rattle.gm_tool.specs.DualAnswer.{AsksDual, dual_names_of};

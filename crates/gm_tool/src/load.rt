@@ -1,3 +1,5 @@
+//! A file's bytes, loaded for a command.
+
 ghost use Rattle.std.specs.Prelude.{◌≡◌, ◌≤◌, ◌∷◌, ◌++◌, []};
 ghost use Rattle.gm_host.specs.Count.{counted, Rises};
 ghost use Rattle.gm_tool.specs.inner.Replies.{IsLoading, no_file_for};

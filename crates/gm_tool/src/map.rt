@@ -1,3 +1,5 @@
+//! The command `show`, and the map that other commands read.
+
 ghost use Rattle.std.specs.Prelude.{ℕ, ◌+◌, ◌≤◌, IfOk, IfErr, List};
 ghost use Rattle.gm_arena.specs.inner.Lawful.{IsLawful};
 ghost use Rattle.gm_mapfile.specs.inner.Faults.{IsWhyNot};

@@ -1,3 +1,5 @@
+//! The whole program over any store, sink and counter of steps.
+
 ghost use Rattle.std.specs.Prelude.{◌≡◌, ◌≢◌, ◌⊎◌, ◌∷◌, ◌++◌, [], IsTrue, IsErrOf, IfSome, IfOk};
 ghost use Rattle.gm_host.specs.Count.{counted, Rises};
 ghost use Rattle.gm_tool.specs.Endings.{status_given};

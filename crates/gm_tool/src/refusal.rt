@@ -1,3 +1,5 @@
+//! Why a command isn't done, with the line and the status that say so.
+
 ghost use Rattle.std.specs.Prelude.{◌≡◌};
 ghost use Rattle.gm_tool.specs.inner.Refusals.{status_of, line_of};
 

@@ -1,3 +1,5 @@
+//! What a command answers: a text within the limit, and a status.
+
 ghost use Rattle.std.specs.Prelude.{◌≡◌};
 ghost use Rattle.gm_tool.specs.inner.Replies.{IsWithinLimit};
 ghost use Rattle.gm_tool.specs.inner.Stops.{reply_of};

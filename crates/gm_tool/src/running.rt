@@ -1,3 +1,5 @@
+//! The command `run`: its files loaded, its lines run, and its map saved.
+
 ghost use Rattle.std.specs.Prelude.{◌≡◌, ◌↔◌, ◌+◌, ◌≤◌, ◌⊎◌, ◌∷◌, ◌++◌, [], ℕ, IfOk, IfErr, IfSome, IsErrOf, IsTrue, List, map};
 ghost use Rattle.gm_host.specs.Count.{counted, Rises};
 ghost use Rattle.gm_model.specs.Maps.{IsSchema, IsSound};

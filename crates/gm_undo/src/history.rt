@@ -1,3 +1,5 @@
+//! The applications that were done to a map, with undo, redo and groups.
+
 ghost use Rattle.std.specs.Prelude.{◌≡◌, ◌≢◌, ℕ, ◌+◌, ◌-◌, ◌≤◌, List, [], ◌∷◌, length, max, Some, None, IfErr, IfOk, MatchResult};
 ghost use Rattle.gm_model.specs.Applications.{IsBudget, IsDone};
 ghost use Rattle.gm_model.specs.Budgets.{Entries, no_entries, entered, group_entered};

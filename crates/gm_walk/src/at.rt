@@ -1,3 +1,5 @@
+//! A dart of an application's result, old or new.
+
 use gm_arena::Slot;
 
 /// A dart of an application's result.

@@ -1,3 +1,5 @@
+//! The room in which walks are made, lent from one to the next.
+
 ghost use Rattle.std.specs.Prelude.{◌≡◌, ◌<◌, ◌≤◌, [], length, slice_get, MatchOption, Some, IsOk, OnOk, IsTrue, ◌↔◌};
 ghost use Rattle.std.specs.List.{Contains};
 ghost use Rattle.gm_walk.specs.inner.Marks.{IsMarked, numbers};

@@ -1,3 +1,5 @@
+//! A walk with its turns: the places to which each of its places leads.
+
 ghost use Rattle.std.specs.Prelude.{◌≡◌, ℕ, List, ◌+◌, ◌*◌, ◌<◌, ◌≤◌, [], length, OnOk, OnErr};
 ghost use Rattle.gm_arena.specs.inner.ArenaMap.{IsLiveSlot, name_at};
 ghost use Rattle.gm_arena.specs.inner.Lawful.{IsLawful};

@@ -1,3 +1,5 @@
+//! The walk of an orbit from one dart.
+
 ghost use Rattle.std.specs.Prelude.{◌≡◌, ℕ, ◌+◌, ◌*◌, ◌<◌, ◌≤◌, length, slice_get, MatchOption, Some, IsTrue};
 ghost use Rattle.std.specs.List.{Contains};
 ghost use Rattle.gm_arena.specs.inner.ArenaMap.{IsLiveSlot, name_at};

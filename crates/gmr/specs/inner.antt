@@ -1,1 +1,2 @@
+-- The definitions of gmr that no clause of `tool` rests on: Seen.
 pub mod Seen
