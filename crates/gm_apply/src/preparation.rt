@@ -28,7 +28,7 @@ use std::sync::ledger::Ledger;
 /// result and no more.
 ///
 /// The steps that the edits leave of the budget are enough for the commit, and for reading the rows
-/// of the touched darts before it and those of the touched and the added ones behind it.
+/// of the touched darts before it and those of the touched and the added ones after it.
 ///
 /// No more darts are touched than the rule has instances, and orbits with an assigned one have darts.
 pub fn prepare<L: Ledger>(

@@ -115,7 +115,7 @@ impl Arena {
     }
 
     /// The arena of the darts 0, 1 and so on, each of which has a line: its name, and then those of its
-    /// neighbours by label. What is left behind the last whole line has no meaning. The values of each
+    /// neighbours by label. What is left after the last whole line has no meaning. The values of each
     /// dart by embedding stand one after another in the order of the lines; the arena takes them over
     /// as they are. It counts 2n+4 steps for each dart, as to add it, to look up its neighbours and to
     /// set them would.

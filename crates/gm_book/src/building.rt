@@ -93,7 +93,7 @@ fn named_table<'t>(
     }
 }
 
-/// The tables of the rules, which stand behind rules with these names, or the first of their faults.
+/// The tables of the rules, which stand after rules with these names, or the first of their faults.
 fn read_tables_behind<'t>(
     alloc: Global,
     names: &mut IndexSet<NameKey<'t>>,

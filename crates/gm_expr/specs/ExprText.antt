@@ -59,7 +59,7 @@ head_of unary.Red = codes "red("
 head_of unary.Green = codes "green("
 head_of unary.Blue = codes "blue("
 
--- what stands behind it
+-- what stands after it
 abbrev pub tail_of : UnOp → List ℕ
 tail_of unary.Neg = []
 tail_of unary.Not = []
@@ -103,7 +103,7 @@ field_text embeds nodes term e = term_text nodes term ++ codes "." ++ embed_name
 abbrev pub collector_text : List Embed → List RuleNode → List ℕ → Mask → DartTerm → ℕ → List ℕ
 collector_text embeds nodes name mask term e = name ++ orbit_text mask ++ codes "(" ++ field_text embeds nodes term e ++ codes ")"
 
--- three arguments behind a function's name and parenthesis
+-- three arguments after a function's name and parenthesis
 abbrev pub triple_text : List ℕ → List ℕ → List ℕ → List ℕ → List ℕ
 triple_text head a b c = head ++ a ++ codes ", " ++ b ++ codes ", " ++ c ++ codes ")"
 

@@ -93,7 +93,7 @@ pub(crate) fn head(op: UnOp) -> &'static [u8]
     }
 }
 
-/// What stands behind the operator's part.
+/// What stands after the operator's part.
 pub(crate) fn tail(op: UnOp) -> &'static [u8]
     ensures { result.now ≡ tail_of op }
 {

@@ -59,7 +59,7 @@ fn print_param(out: &mut Text, params: &[Param], at: u8) -> Result<(), OutOfMemo
     out.put(params[usize::from(at)].name.bytes())
 }
 
-/// An expression behind what leads to it.
+/// An expression after what leads to it.
 #[cycle(print)]
 fn print_behind(
     out: &mut Text,
@@ -170,7 +170,7 @@ fn print_pair(
     out.put(b")")
 }
 
-/// Three arguments of a function, behind its name and its parenthesis.
+/// Three arguments of a function, after its name and its parenthesis.
 #[cycle(print)]
 fn print_triple(
     out: &mut Text,

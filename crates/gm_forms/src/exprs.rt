@@ -49,7 +49,7 @@ pub fn at_set(lexer: &Lexer<'_>, token: Token, spot: Spot) -> Result<State, Form
     Ok(State::Equal(spot, token))
 }
 
-/// The sign behind that name.
+/// The sign after that name.
 #[tactic(auto, unfolding(crate::specs::inner::Standing::stepped))]
 pub fn at_equal(
     lexer: &Lexer<'_>,

@@ -35,7 +35,7 @@ fn read_rules<'a>(
     reader.end(alloc, state, lexer.place())
 }
 
-/// The rules behind the header, by a reader that holds nothing yet.
+/// The rules after the header, by a reader that holds nothing yet.
 fn read_forms_by<'a>(
     alloc: Global,
     lexer: &mut Lexer<'a>,
@@ -52,7 +52,7 @@ fn read_forms_by<'a>(
     Ok(mem::replace(&mut reader.draft.rules, Vec::new(alloc)))
 }
 
-/// The rules behind the header as they are written, or the first fault from left to right.
+/// The rules after the header as they are written, or the first fault from left to right.
 pub fn read_forms(
     alloc: Global,
     lexer: &mut Lexer<'_>,

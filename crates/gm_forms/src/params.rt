@@ -14,7 +14,7 @@ use crate::words::{kind_named, reads};
 use gm_model::{LimitKind, MOST_NAME_BYTES, MOST_PARAMS};
 use gm_text::{Lexer, Token, is_reserved};
 
-/// A sign behind a rule's name.
+/// A sign after a rule's name.
 #[tactic(auto, unfolding(crate::specs::inner::Standing::stepped))]
 pub fn at_open(
     lexer: &Lexer<'_>,
@@ -32,7 +32,7 @@ pub fn at_open(
     Ok(State::Param(heading, rules, 0))
 }
 
-/// A parameter's name, behind `count` parameters.
+/// A parameter's name, after `count` parameters.
 #[tactic(auto, unfolding(crate::specs::inner::Standing::stepped))]
 pub fn at_param(
     lexer: &Lexer<'_>,
@@ -62,7 +62,7 @@ pub fn at_param(
     Ok(State::Colon(heading, rules, count + 1, token))
 }
 
-/// The sign behind a parameter's name.
+/// The sign after a parameter's name.
 #[tactic(auto, unfolding(crate::specs::inner::Standing::stepped))]
 pub fn at_colon(
     lexer: &Lexer<'_>,
@@ -105,7 +105,7 @@ pub fn at_kind(
     Ok(State::Comma(heading, rules, count))
 }
 
-/// The sign behind a parameter.
+/// The sign after a parameter.
 #[tactic(auto, unfolding(crate::specs::inner::Standing::stepped))]
 pub fn at_comma(
     lexer: &Lexer<'_>,

@@ -29,7 +29,7 @@ pub struct Reader<'a> {
     pub nodes: Nodes<'a>,
 }
 
-/// Behind the header, where the first rule can begin.
+/// After the header, where the first rule can begin.
 #[tactic(auto, unfolding(crate::specs::inner::Standing::stepped))]
 pub fn at_rules(lexer: &Lexer<'_>, token: Token, heading: Heading) -> Result<State, FormFault>
     requires { IsToken lexer.now.text token }
@@ -107,7 +107,7 @@ impl<'a> Reader<'a> {
         Ok(State::Left(heading, rules))
     }
 
-    /// Behind a rule's name, or behind its parameters.
+    /// After a rule's name, or after its parameters.
     #[tactic(auto, unfolding(crate::specs::inner::Standing::stepped))]
     pub fn at_left(
         &mut self,
@@ -231,7 +231,7 @@ impl<'a> Reader<'a> {
         self.at_right_item(lexer, token, spot)
     }
 
-    /// Behind a whole assignment.
+    /// After a whole assignment.
     #[tactic(auto, unfolding(crate::specs::inner::Standing::stepped))]
     fn at_assigned(
         &mut self,
@@ -250,7 +250,7 @@ impl<'a> Reader<'a> {
         self.at_right_item(lexer, token, on_right(spot))
     }
 
-    /// Behind a rule's precondition.
+    /// After a rule's precondition.
     #[tactic(auto, unfolding(crate::specs::inner::Standing::stepped))]
     fn at_rule_end(
         &mut self,
@@ -404,7 +404,7 @@ impl<'a> Reader<'a> {
         }
     }
 
-    /// The state behind a token. The token before it stands at the place `last`.
+    /// The state after a token. The token before it stands at the place `last`.
     pub fn step(
         &mut self,
         alloc: Global,

@@ -103,7 +103,7 @@ pub fn at_label(
     Ok(State::Dash(spot, from, label as u8))
 }
 
-/// The sign behind a link's label.
+/// The sign after a link's label.
 #[tactic(auto, unfolding(crate::specs::inner::Standing::stepped))]
 pub fn at_dash(
     lexer: &Lexer<'_>,
@@ -122,7 +122,7 @@ pub fn at_dash(
     Ok(State::To(spot, from, label))
 }
 
-/// A node's sign behind its name, which stands at the place `last`.
+/// A node's sign after its name, which stands at the place `last`.
 #[tactic(auto, unfolding(crate::specs::inner::Standing::stepped))]
 fn at_node<'a>(
     lexer: &Lexer<'a>,
@@ -146,7 +146,7 @@ fn at_node<'a>(
     Ok(State::Letter(spot, name, no_letters()))
 }
 
-/// The sign behind an item's first name, which stands at the place `last`.
+/// The sign after an item's first name, which stands at the place `last`.
 #[tactic(auto, unfolding(crate::specs::inner::Standing::stepped))]
 pub fn at_sign<'a>(
     lexer: &Lexer<'a>,

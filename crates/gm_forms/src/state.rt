@@ -46,35 +46,35 @@ impl Spot {
 
 #[derive(Clone, Copy)]
 pub enum State {
-    /// Behind the header.
+    /// After the header.
     Rules(Heading),
-    /// Before the name of the rule with this ordinal, and behind it.
+    /// Before the name of the rule with this ordinal, and after it.
     Name(Heading, Tally),
     Left(Heading, Tally),
-    /// Before the name of a parameter behind so many of its rule.
+    /// Before the name of a parameter after so many of its rule.
     Param(Heading, Tally, u8),
-    /// Behind the name of the parameter with this ordinal, before its kind, and behind it.
+    /// After the name of the parameter with this ordinal, before its kind, and after it.
     Colon(Heading, Tally, u8, Token),
     Kind(Heading, Tally, u8, Token),
     Comma(Heading, Tally, u8),
-    /// Behind all parameters.
+    /// After all parameters.
     Body(Heading, Tally),
-    /// Where an item can begin, and behind its first name.
+    /// Where an item can begin, and after its first name.
     Item(Spot),
     Sign(Spot, Token),
-    /// In a node's word behind these letters, and behind the word.
+    /// In a node's word after these letters, and after the word.
     Letter(Spot, Token, Word),
     Behind(Spot, Token, Word),
-    /// Behind a whole assignment of a right node.
+    /// After a whole assignment of a right node.
     Assigned(Spot),
-    /// In an assignment before the name of its embedding, behind it, and before its value.
+    /// In an assignment before the name of its embedding, after it, and before its value.
     Set(Spot),
     Equal(Spot, Token),
     Value(Spot, Token),
-    /// Before the expression of a precondition, and behind it.
+    /// Before the expression of a precondition, and after it.
     Pre(Heading, Tally),
     RuleEnd(Heading, Tally),
-    /// In a link before its label, behind it, and before its second name.
+    /// In a link before its label, after it, and before its second name.
     Label(Spot, Token),
     Dash(Spot, Token, u8),
     To(Spot, Token, u8),

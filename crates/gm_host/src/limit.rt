@@ -26,7 +26,7 @@ fn read_limit<R: Files>(rt: &R) -> Option<u64> {
     limit_in(str::from_utf8(&bytes[..count]).ok()?)
 }
 
-/// The number in the line on the size of a file, the first behind its name, which is what counts now.
+/// The number in the line on the size of a file, the first after its name, which is what counts now.
 fn limit_in(limits: &str) -> Option<u64> {
     for line in limits.lines() {
         if let Some(numbers) = line.strip_prefix("Max file size") {

@@ -77,7 +77,7 @@ fn write_at_target<R: Files<File = File> + AllocGlobal>(
     }
 }
 
-/// Writes the bytes to what stands under the name, or behind the link.
+/// Writes the bytes to what stands under the name, or where its link leads.
 fn write_through<R: Files>(rt: &R, name: &str, bytes: &[u8]) -> Result<(), SaveFault>
     ensures { ¬ IsOutOfMemory result }
 {

@@ -59,18 +59,18 @@ pub data State : Type 0 where
   -- before the word `gmap`, and before the version
   AtFormat : State
   AtVersion : State
-  -- behind a schema in the second version: before the word `next`, and before its number
+  -- after a schema in the second version: before the word `next`, and before its number
   AtNext : Schema → State
   AtNextName : Schema → State
   -- before the word `darts`, and before their count
   AtDarts : Head → State
   AtCount : Head → State
-  -- behind the count and these numbers, where these are wanted
+  -- after the count and these numbers, where these are wanted
   AtNumbers : Head → List ℤ → List Want → State
-  -- behind the end
+  -- after the end
   Done : State
 
--- in the schema, which stands behind the number of a version
+-- in the schema, which stands after the number of a version
 pub record Within : Type 0 where
   pub second : Bool
   pub state : schema.State
@@ -78,7 +78,7 @@ pub record Within : Type 0 where
 abbrev pub Whole : Type 0
 Whole = Nested State Within
 
--- what is behind the schema
+-- what stands after the schema
 abbrev pub behind_schema : Bool → Schema → State
 behind_schema true schema = AtNext schema
 behind_schema false schema = AtDarts (record { version = First; schema = schema })
@@ -125,7 +125,7 @@ move_wants head taken (Component colour ∷ wants) (Sign found) = expect (codes 
 move_wants head taken (TheSign wanted ∷ wants) (Sign found) = expect wanted found (AtNumbers head taken wants)
 move_wants _ _ _ _ = None
 
--- the state behind a symbol, where it can stand
+-- the state after a symbol, where it can stand
 abbrev pub outer_move : State → Symbol → Option Whole
 outer_move AtFormat (Word word) = expect (codes "gmap") word AtVersion
 outer_move AtVersion (Numeral n) = move_version n
@@ -182,7 +182,7 @@ Stops state old faults.OutOfMemory = Unit {0}
 
 -- ---- the numbers of darts
 
--- behind the count and these numbers, where these are wanted
+-- after the count and these numbers, where these are wanted
 abbrev pub among : Head → List ℤ → List Want → Whole
 among head taken wants = Outside (AtNumbers head taken wants)
 
@@ -211,11 +211,11 @@ IsWhole schema dart = (length dart.alphas ≡ schema.dim + 1) × AreOfKinds sche
 
 -- ---- what readers of darts answer
 
--- the names are read behind those before them
+-- the names are read after those before them
 abbrev pub ReadsNames : ℕ → Cursor → Cursor → List ℕ → List ℕ → Type 0
 ReadsNames count old new before names = (more : List ℕ) × (names ≡ before ++ more) × (length more ≡ count) × Takes (replicate count (TheNumber DartName)) (map pos more) old new
 
--- a value of each embedding is read, behind the values before them
+-- a value of each embedding is read, after the values before them
 abbrev pub ReadsValues : List Embed → Cursor → Cursor → List Value → List Value → Type 0
 ReadsValues embeds old new before values = (more : List Value) × (values ≡ before ++ more) × AreOfKinds embeds more × Takes (values_wants embeds) (flat_map components more) old new
 

@@ -94,7 +94,7 @@ is_colour _ = false
 abbrev pub size_role : Bool → Bool → Role
 size_role colour minus = if colour then Channel minus else Size minus
 
--- Each spelling takes what stands behind it.
+-- Each spelling takes what stands after it.
 
 abbrev pub spell_names : List ℕ → List (Part Role) → List (Part Role)
 spell_names [] rest = rest

@@ -112,7 +112,7 @@ fn print_lines<L: Ledger>(
 }
 
 /// As many bytes as the text has without values, or more: each name stands once for its dart and
-/// once for each label as a neighbour, with a blank or a line feed behind it, and none is longer
+/// once for each label as a neighbour, with a blank or a line feed after it, and none is longer
 /// than the greatest. A value of small numbers takes no more than its share.
 fn room_for(arena: &Arena) -> usize
     ensures { IsLawful arena.now }
@@ -235,7 +235,7 @@ fn write_names<L: Ledger>(
     write_number(line, name, at)
 }
 
-/// Writes each value behind a blank, so that they end at `end`. The answer is where they begin.
+/// Writes each value after a blank, so that they end at `end`. The answer is where they begin.
 fn write_values(line: &mut [u8], values: &[Value], end: usize) -> usize
     requires room { 65 * length values.now ≤ end }
     requires within { end ≤ length line.old }

@@ -70,7 +70,7 @@ fn read_format(lexer: &mut Lexer<'_>) -> Result<bool, SchemaFault>
     }
 }
 
-/// The next name, which the second version states behind the schema.
+/// The next name, which the second version states after the schema.
 fn read_next(lexer: &mut Lexer<'_>, second: bool) -> Result<Option<u32>, SchemaFault>
     ensures reads { IfOk result (λ stated. (schema : Schema) → Reads (Outside (behind_schema second schema)) lexer.old lexer.new (Outside (AtDarts (record { version = version_in stated; schema = schema })))) }
     ensures stops { IfErr result (λ fault. (schema : Schema) → Stops (Outside (behind_schema second schema)) lexer.old fault) }
@@ -134,7 +134,7 @@ fn read_name(lexer: &mut Lexer<'_>) -> Result<u32, SchemaFault>
     Ok(value as u32)
 }
 
-/// A name that stands next behind this blank and is small, or else the lexer stays.
+/// A name that stands next after this blank and is small, or else the lexer stays.
 // Inlined, as `read_number` is.
 #[inline(always)]
 fn small_dart_name(lexer: &mut Lexer<'_>, blank: u8, guess: &mut Guess) -> Option<u32>
@@ -151,7 +151,7 @@ fn small_dart_name(lexer: &mut Lexer<'_>, blank: u8, guess: &mut Guess) -> Optio
     Some(value as u32)
 }
 
-/// Names that are small, up to so many, behind those before them. The answer is how many; none are
+/// Names that are small, up to so many, after those before them. The answer is how many; none are
 /// read where there is no room for all.
 // Inlined, as `read_number` is. The lexer is copied, so that the copy stays in registers.
 #[inline(always)]
@@ -182,7 +182,7 @@ fn read_small_dart_names(
     done
 }
 
-/// So many names, behind those before them.
+/// So many names, after those before them.
 // Inlined, as `read_number` is.
 #[inline(always)]
 fn read_names(
@@ -203,7 +203,7 @@ fn read_names(
 
 /// The lines of so many darts. Where the header names more than the text can hold, no more room is
 /// taken than for what it holds: each number and each value has two bytes at least, with the blank
-/// behind it, but the last.
+/// after it, but the last.
 // Apart, since within all that reads a map its loops would have no register left.
 #[inline(never)]
 fn read_darts(

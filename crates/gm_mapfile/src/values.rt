@@ -31,7 +31,7 @@ struct Signed {
     place: usize,
 }
 
-/// A number with a minus before it or without, behind any blank. Most that come here have one.
+/// A number with a minus before it or without, after any blank. Most that come here have one.
 fn read_signed(lexer: &mut Lexer<'_>) -> Result<Signed, SchemaFault>
     ensures next { IfOk result (λ found. IsSignedNext lexer.old found.minus found.size found.place lexer.new) }
     ensures none { IfErr result (IsNoSignedNext lexer.old) }
@@ -149,7 +149,7 @@ fn read_bracket(lexer: &mut Lexer<'_>, blank: Option<u8>, sign: u8) -> Result<()
     read_sign(lexer, blank, sign)
 }
 
-/// Two components behind the sign before them.
+/// Two components after the sign before them.
 // Inlined, as `read_triple` is.
 #[inline(always)]
 fn read_two(
@@ -182,7 +182,7 @@ fn value_of_three(x: i64, y: i64, z: i64, colour: bool) -> Value
     }
 }
 
-/// A vector or a colour: three components, with a sign before them and one behind.
+/// A vector or a colour: three components, with a sign before them and one after.
 // Inlined, as `read_number` is, so that vectors and colours are each read without a test which it is.
 #[inline(always)]
 fn read_triple(
@@ -254,7 +254,7 @@ fn read_value(
     }
 }
 
-/// A value of each embedding, behind those before them.
+/// A value of each embedding, after those before them.
 // Inlined, as `read_number` is.
 #[inline(always)]
 pub(crate) fn read_values(

@@ -26,7 +26,7 @@ pub(crate) fn read_word(lexer: &mut Lexer<'_>, word: &[u8]) -> Result<(), Schema
     Ok(())
 }
 
-/// A sign of the format that has one byte. It mostly stands behind this blank, or next where none is
+/// A sign of the format that has one byte. It mostly stands after this blank, or next where none is
 /// named.
 // Inlined, as `read_number` is.
 #[inline(always)]
@@ -62,7 +62,7 @@ fn read_sign_apart(lexer: &mut Lexer<'_>, sign: u8) -> Result<(), SchemaFault>
     read
 }
 
-/// A sign of one byte behind any blank, or else by its token.
+/// A sign of one byte after any blank, or else by its token.
 #[cold]
 fn read_any_sign(lexer: &mut Lexer<'_>, sign: u8) -> Result<(), SchemaFault>
     requires sign { IsTrue (tokens.is_sign sign) }
@@ -117,7 +117,7 @@ pub(crate) fn small_numeral(lexer: &mut Lexer<'_>) -> Option<Numeral>
     })
 }
 
-/// The same behind this blank, or with nothing before it where none is named.
+/// The same after this blank, or with nothing before it where none is named.
 // Inlined, as `read_number` is.
 #[inline(always)]
 pub(crate) fn numeral_behind(

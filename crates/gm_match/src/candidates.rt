@@ -172,7 +172,7 @@ fn fill_rows<L: Ledger>(
     Ok(())
 }
 
-/// Puts the row's slots behind the others, into the room that there is for them.
+/// Puts the row's slots after the others, into the room that there is for them.
 fn push_row(row: &[Slot], slots: &mut Vec<Slot>)
     requires room { length slots.old.items + length row.now ≤ vec_capacity slots.old }
     ensures items { slots.new.items ≡ slots.old.items ++ row.now }

@@ -10,7 +10,7 @@ use gm_model::MOST_NODES;
 use std::sync::ledger::Ledger;
 
 /// Writes the slots of the darts that the hooks name into the array, in their order. What stands
-/// behind them means nothing.
+/// after them means nothing.
 pub(crate) fn hook_darts<L: Ledger>(
     arena: &Arena,
     hooks: &[u32],

@@ -54,16 +54,16 @@ pub record Entries : Type 0 where
 abbrev pub no_entries : Entries
 no_entries = record { past = []; future = []; group = 0 }
 
--- behind applications that were done and may take so much
+-- after applications that were done and may take so much
 abbrev pub entered : Option Group → ℕ → Entries → Entries
 entered None most entries = record { past = most ∷ entries.past; future = []; group = entries.group }
 entered (Some group) most entries = record { past = entries.past; future = []; group = most + entries.group }
 
--- behind a group that is kept
+-- after a group that is kept
 abbrev pub group_entered : Group → Entries → Entries
 group_entered group entries = record { past = if group.is_changed then entries.group ∷ entries.past else entries.past; future = entries.future; group = entries.group }
 
--- behind an `each`, of whose applications so many were done
+-- after an `each`, of whose applications so many were done
 abbrev pub each_entered : ℕ → ℕ → Entries → Entries
 each_entered zero most entries = entries
 each_entered (suc done) most entries = entered None most entries
@@ -79,7 +79,7 @@ abbrev pub up_to : ℕ → Bounds
 up_to most = record { least = 0; most = most }
 
 module _ (rules : List Rule) where
-  -- the bounds of the statement at the state, where this is its outcome, and the entries behind it
+  -- the bounds of the statement at the state, where this is its outcome, and the entries after it
   pub data HasStatBounds (state : State) (entries : Entries) : Stat → Outcome → Bounds → Entries → Type 0 where
     OfDone : (line : Line) (added removed most : ℕ) → IsLineBudget rules state.map line most
         → HasStatBounds state entries (statements.Apply line) (runs.Done added removed) (record { least = added + removed; most = most }) (entered state.history.group most entries)

@@ -23,7 +23,7 @@ no_history = record { past = []; future = []; group = None }
 
 -- ---- applications
 
--- the past behind an application that was done at the map: in a group it stays, since the group is one entry of it
+-- the past after an application that was done at the map: in a group it stays, since the group is one entry of it
 abbrev pub past_behind : Map → Option Group → List Map → List Map
 past_behind map None past = map ∷ past
 past_behind map (Some group) past = past
@@ -31,7 +31,7 @@ past_behind map (Some group) past = past
 abbrev pub changed : Group → Group
 changed group = record { map = group.map; is_changed = true }
 
--- behind an application that was done at the map: what was taken back is forgotten
+-- after an application that was done at the map: what was taken back is forgotten
 abbrev pub done_at : Map → History → History
 done_at map history = record { past = past_behind map history.group history.past; future = []; group = option_map changed history.group }
 

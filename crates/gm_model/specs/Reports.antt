@@ -69,7 +69,7 @@ outcome_line schema rules k stat outcome = decimal k ++ codes " " ++ stat_words 
 
 -- ---- the report
 
--- the lines behind so many
+-- the lines after so many
 abbrev pub outcome_lines : Schema → List Rule → ℕ → List Stat → List Outcome → List ℕ
 outcome_lines schema rules k (stat ∷ stats) (outcome ∷ outcomes) = outcome_line schema rules (k + 1) stat outcome ++ outcome_lines schema rules (k + 1) stats outcomes
 outcome_lines schema rules k _ _ = []

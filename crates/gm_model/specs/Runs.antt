@@ -114,15 +114,15 @@ standing_at map history = record { map = map; history = history; is_broken = fal
 abbrev pub start_of : Map → State
 start_of map = standing_at map no_history
 
--- behind applications that left this map, and of which one was done at least
+-- after applications that left this map, and of which one was done at least
 abbrev pub behind_done : State → Map → State
 behind_done state after = record { map = after; history = done_at state.map state.history; is_broken = state.is_broken }
 
--- behind an application that was refused: in a group it breaks the group
+-- after an application that was refused: in a group it breaks the group
 abbrev pub behind_refused : State → State
 behind_refused state = record { map = state.map; history = state.history; is_broken = is_some state.history.group }
 
--- behind an `each`, which is one entry of the past where an application of it was done
+-- after an `each`, which is one entry of the past where an application of it was done
 abbrev pub behind_each : State → ℕ → Map → State
 behind_each state zero after = state
 behind_each state (suc done) after = behind_done state after

@@ -80,7 +80,7 @@ abbrev pub begins_two_byte_sign : ℕ → List ℕ → Bool
 begins_two_byte_sign b [] = false
 begins_two_byte_sign b (c ∷ bytes) = is_two_byte_sign b c
 
--- at the byte b with these bytes behind it
+-- at the byte b with these bytes after it
 abbrev pub front_of : ℕ → List ℕ → Front
 front_of b bytes =
     if is_blank b then Gap 1
@@ -106,7 +106,7 @@ pub data Item : Type 0 where
   StrayAt : ℕ → Item
   EndAt : ℕ → Item
 
--- what stands at a place, and then the items behind it
+-- what stands at a place, and then the items after it
 abbrev pub item_before : ℕ → Front → List Item → List Item
 item_before place (Gap size) items = items
 item_before place (Lexeme kind size) items = Lexed (record { kind = kind; start = place; end = place + size }) ∷ items

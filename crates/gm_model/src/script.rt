@@ -1,4 +1,4 @@
-//! A script: its statements, with all their hooks and values one behind another.
+//! A script: its statements, with all their hooks and values one after another.
 ghost use Rattle.std.specs.Prelude.{◌≡◌, ◌++◌, ◌∷◌, ◌+◌, ◌<◌, ◌≤◌, [], length, slice_get, Some, OnOk, OnErr, IfOk};
 ghost use Rattle.gm_model.specs.Statements.{stat_of};
 ghost use Rattle.gm_model.specs.inner.Entries.{alone, items_at, stat_at, Grows, IsPartOf, IsEntryOf};
@@ -75,7 +75,7 @@ impl Part {
     }
 }
 
-/// Puts the items behind all others, and answers where they stand.
+/// Puts the items after all others, and answers where they stand.
 #[inline(always)]
 fn put_behind<T: Copy>(all: &mut Vec<T>, items: &[T]) -> Result<Part, OutOfMemory>
     ensures grown { Grows all.old.items all.new.items }
@@ -129,7 +129,7 @@ impl Entry {
     }
 }
 
-/// The entry of a statement, whose hooks and values are put behind all others.
+/// The entry of a statement, whose hooks and values are put after all others.
 #[inline(always)]
 fn entry_of(
     stat: StatRef<'_>,
@@ -168,7 +168,7 @@ fn entry_of(
 }
 
 /// A script: its statements, in order. A statement takes no memory of its own, and its hooks and values
-/// stand behind those of the earlier ones.
+/// stand after those of the earlier ones.
 #[derive(Drop)]
 pub struct Script {
     entries: Vec<Entry>,
@@ -208,7 +208,7 @@ impl Script {
         self.entries.len()
     }
 
-    /// Puts a statement behind the others.
+    /// Puts a statement after the others.
     #[inline]
     pub fn push(&mut self, stat: StatRef<'_>) -> Result<(), OutOfMemory>
         ensures ok { OnOk result (self.new.stats ≡ self.old.stats ++ stat_of stat.entry ∷ []) }

@@ -13,7 +13,7 @@ pub enum TokenKind {
     Sign,
 }
 
-/// A token of a text: its kind, and the offsets of its first byte and of the byte behind it.
+/// A token of a text: its kind, and the offsets of its first byte and of the byte after it.
 #[derive(Clone, Copy, Debug, PartialEq, Eq)]
 pub struct Token {
     pub kind: TokenKind,

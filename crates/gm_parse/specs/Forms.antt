@@ -7,7 +7,7 @@ use Rattle.gm_text.specs.SchemaText.{LabelForm}
 use Rattle.gm_parse.specs.declared.key.Collector.{Collector}
 use Rattle.gm_parse.specs.Levels.{binary_level, least_of_part, least_on_left, least_on_right, unary_level}
 
--- a node, and the labels behind it
+-- a node, and the labels after it
 pub record TermForm : Type 0 where
   pub node : Mention
   pub path : List ℕ
@@ -32,7 +32,7 @@ mutual
   -- one argument at least
   pub data Arguments : Type 0 where
     First : Form → Arguments
-    -- behind those before it
+    -- after those before it
     Further : Arguments → Form → Arguments
 
 abbrev pub count_of : Arguments → ℕ

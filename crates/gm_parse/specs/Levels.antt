@@ -23,7 +23,7 @@ binary_level ops.Mul = 6
 binary_level ops.Div = 6
 binary_level ops.Rem = 6
 
--- `not` between `and` and comparisons, `-` behind products; the others are functions
+-- `not` between `and` and comparisons, `-` after products; the others are functions
 abbrev pub unary_level : UnOp → ℕ
 unary_level unary.Not = 3
 unary_level unary.Neg = 7

@@ -111,7 +111,7 @@ abbrev pub unknown : {A : Type 0} → Mention → Option A → List NameFault
 unknown mention (Some found) = []
 unknown mention None = UnknownAt mention.place ∷ []
 
--- of the labels of an orbit, behind those of the mask
+-- of the labels of an orbit, after those of the mask
 abbrev pub again_in : Mask → List LabelForm → List NameFault
 again_in mask [] = []
 again_in mask (form ∷ forms) = (if has mask form.label then TwiceAt form.place ∷ [] else []) ++ again_in (with_label mask form.label) forms

@@ -80,7 +80,7 @@ collector_word collectors.Sum = codes "sum"
 collector_word collectors.Least = codes "min"
 collector_word collectors.Greatest = codes "max"
 
--- Each spelling takes what stands behind it. Labels go up to the number n.
+-- Each spelling takes what stands after it. Labels go up to the number n.
 
 abbrev pub spell_labels : ℕ → List LabelForm → List (Part Role) → List (Part Role)
 spell_labels n [] rest = rest
@@ -141,11 +141,11 @@ symbols_of n form = symbols_in (spell n form [])
 abbrev pub GoesOn : ℕ → Form → Symbol → Type 0
 GoesOn n form symbol = (longer : Form) × IsGood longer × (more : List Symbol) × (symbols_of n longer ≡ symbols_of n form ++ symbol ∷ more)
 
--- what stands behind the expression is not judged
+-- what stands after the expression is not judged
 abbrev pub beyond : Symbol → Part Counted
 beyond symbol = record { symbol = symbol; role = record { ordinal = 0; role = Fixed } }
 
--- the longest expression that stands there, with anything behind it
+-- the longest expression that stands there, with anything after it
 pub record IsSentence (n : ℕ) (parts : List (Part Counted)) : Type 0 where
   pub form : Form
   pub good : IsGood form
@@ -160,7 +160,7 @@ IsPlacedAt place (NameAt at) = at ≡ place
 IsPlacedAt place (LabelAt n at) = at ≡ place
 IsPlacedAt place _ = Unit {0}
 
--- The marks begin with this form, which passes no limit, and these are left behind it: no expression goes on so.
+-- The marks begin with this form, which passes no limit, and these are left after it: no expression goes on so.
 pub record Stands (n : ℕ) (form : Form) (marks rest : List Mark) : Type 0 where
   pub before : List Mark
   pub split : marks ≡ before ++ rest

@@ -11,7 +11,7 @@ pub enum Need {
     Tight,
 }
 
-/// What stands behind a dart term.
+/// What stands after a dart term.
 #[derive(Clone, Copy)]
 pub enum Ending {
     /// `,` and a further term.
@@ -33,19 +33,19 @@ pub enum Place {
     Behind,
     /// The same, and it was a name, which can go on as a function or a node.
     BehindName,
-    /// Behind `same`.
+    /// After `same`.
     Same,
-    /// Before an orbit, in it, and behind it.
+    /// Before an orbit, in it, and after it.
     Orbit(Ending),
     Label(Ending),
     Open(Ending),
-    /// Before a node's name, behind the name or a label, and before a label.
+    /// Before a node's name, after the name or a label, and before a label.
     Node(Ending),
     BehindNode(Ending),
     Step(Ending),
     /// Before the name of an embedding.
     Field(Ending),
-    /// Before `)` behind that name.
+    /// Before `)` after that name.
     Close,
 }
 

@@ -24,7 +24,7 @@ fn end_before(state: &State, place: usize) -> Result<Option<Token>, SyntaxFault>
     }
 }
 
-/// Goes past the next token of an expression, behind so many, and answers it, or `None` where no
+/// Goes past the next token of an expression, after so many, and answers it, or `None` where no
 /// expression goes on with it. After a refusal the lexer is as before.
 pub fn advance(
     lexer: &mut Lexer<'_>,
@@ -70,7 +70,7 @@ fn skip_ahead(lexer: &mut Lexer<'_>, dim: Dim) -> Result<(), SyntaxFault>
 }
 
 /// Goes past the longest expression that stands next, in which labels go up to the dimension, and
-/// stands directly behind its last token. What stands behind it isn't judged, no name is looked up, and no memory is taken. After a refusal,
+/// stands directly after its last token. What stands after it isn't judged, no name is looked up, and no memory is taken. After a refusal,
 /// whose fault is the first from left to right, the lexer is as before.
 pub fn skip_expr(lexer: &mut Lexer<'_>, dim: Dim) -> Result<(), SyntaxFault>
     ensures expr { IfOk result (λ _. IsExprSkipped dim lexer.old lexer.new) }

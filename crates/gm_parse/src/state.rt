@@ -219,7 +219,7 @@ impl State {
     }
 }
 
-/// Where reading goes on behind `not`.
+/// Where reading goes on after `not`.
 fn begin_negation(need: Need) -> Option<Place>
     ensures { result ≡ not_place need }
 {
@@ -229,7 +229,7 @@ fn begin_negation(need: Need) -> Option<Place>
     }
 }
 
-/// Where reading goes on behind the beginning of an operand, but for brackets.
+/// Where reading goes on after the beginning of an operand, but for brackets.
 fn begin_operand(need: Need, key: Key) -> Option<Place>
     ensures { result ≡ operand_place need key }
 {
@@ -245,7 +245,7 @@ fn begin_operand(need: Need, key: Key) -> Option<Place>
     }
 }
 
-/// Where reading goes on behind a node or a label of its path.
+/// Where reading goes on after a node or a label of its path.
 fn go_behind_node(ending: Ending, key: Key) -> Option<Place>
     ensures { result ≡ behind_node ending key }
 {

@@ -34,7 +34,7 @@ pub struct Changes<'a> {
     /// What decides the values that darts of the old map get.
     pub(crate) orbits: OrbitsByEmbed,
     /// The slots of the left nodes, by node and then by position, and room for those of the new
-    /// darts behind them.
+    /// darts after them.
     pub(crate) slots: Vec<Slot>,
 }
 

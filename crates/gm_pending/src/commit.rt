@@ -236,7 +236,7 @@ impl Rewrite<'_> {
     }
 }
 
-/// Adds so many darts with their values, and puts their slots into the room behind the others.
+/// Adds so many darts with their values, and puts their slots into the room after the others.
 fn add_darts<L: Ledger>(
     arena: &mut Arena,
     added: usize,
@@ -309,7 +309,7 @@ fn set_values_of<L: Ledger>(
 }
 
 /// Looks up the value that was given to an instance, unless it is the one that was looked up last:
-/// the marks of an instance mostly stand one behind another.
+/// the marks of an instance mostly stand one after another.
 #[inline(always)]
 fn look_at(instances: &[DecidingInstance], index: u32, last: &mut u32, value: &mut Option<Value>)
     requires { value.old ≡ given_of instances.now last.old }

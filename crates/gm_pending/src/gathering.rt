@@ -72,7 +72,7 @@ impl Pending<'_, '_> {
         Ok(values)
     }
 
-    /// Puts the kept values of an added node's new darts, by position, behind those of the earlier
+    /// Puts the kept values of an added node's new darts, by position, after those of the earlier
     /// ones.
     fn put_kept_values_of_node<L: Ledger>(
         &self,
@@ -93,7 +93,7 @@ impl Pending<'_, '_> {
         Ok(())
     }
 
-    /// Puts the kept values of a new dart, by embedding, behind those of the earlier ones.
+    /// Puts the kept values of a new dart, by embedding, after those of the earlier ones.
     fn put_kept_values_of_dart<L: Ledger>(
         &self,
         node: u8,
@@ -183,7 +183,7 @@ pub(crate) fn new_values(
     Ok(values)
 }
 
-/// Puts the values of the embedding that old darts get behind those of the earlier ones.
+/// Puts the values of the embedding that old darts get after those of the earlier ones.
 fn put_new_values(
     embed: u8,
     instances: &[DecidingInstance],

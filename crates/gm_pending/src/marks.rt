@@ -311,7 +311,7 @@ impl Marks {
     }
 }
 
-/// Puts an entry behind the others. Where there is no room, it makes room for so many at once.
+/// Puts an entry after the others. Where there is no room, it makes room for so many at once.
 #[inline(always)]
 pub(crate) fn push<T: Copy>(entries: &mut Vec<T>, entry: T, room: usize) -> Result<(), OutOfMemory>
     ensures ok { OnOk result (entries.new.items ≡ entries.old.items ++ entry ∷ []) }

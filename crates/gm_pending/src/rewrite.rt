@@ -92,7 +92,7 @@ impl Rewrite<'_> {
     }
 
     /// Puts the slots of so many left nodes, which are all, in the place of what is in the vector, and
-    /// makes room for those of the added ones behind them.
+    /// makes room for those of the added ones after them.
     pub(crate) fn left_slots(
         &self,
         left: u8,
@@ -112,7 +112,7 @@ impl Rewrite<'_> {
         Ok(())
     }
 
-    /// Puts the slots of a left node behind the others, where there is room for them.
+    /// Puts the slots of a left node after the others, where there is room for them.
     fn put_left_slots(&self, node: u8, slots: &mut Vec<Slot>)
         requires left { node < self.now.placed.nodes }
         requires room { length slots.old.items + self.now.placed.positions ≤ vec_capacity slots.old }

@@ -39,7 +39,7 @@ impl<'a> StepAt for Freed<'a> {
 }
 
 /// The steps that an application makes. The rows have the steps of both sides. Those of the right
-/// side have a lifetime of their own, since nothing behind this table reads them.
+/// side have a lifetime of their own, since nothing after this table reads them.
 #[derive(Clone, Copy)]
 pub struct Made<'a, 'b> {
     pub rule: &'a RuleTable,

@@ -35,7 +35,7 @@ fn tests_of(alloc: Global, rows: &[Row], labels: u8) -> Result<Vec<Test>, OutOfM
     Ok(tests)
 }
 
-/// Puts the steps of the node's row behind those of the rows before it.
+/// Puts the steps of the node's row after those of the rows before it.
 fn list_row(tests: &mut Vec<Test>, rows: &[Row], node: u8, labels: u8) -> Result<(), OutOfMemory>
     requires node { node < length rows.now }
     requires labels { labels ≤ MOST_LABELS }

@@ -8,7 +8,7 @@ use gm_text::{Text, write_number, write_word};
 use itoa::write_digits;
 
 /// No more bytes are the line: its number of twenty digits, a name of 32 bytes, two counts of ten
-/// digits each, and 23 bytes between and behind them.
+/// digits each, and 23 bytes between and after them.
 const LINE: usize = 96;
 
 /// Appends the line of this number about a rule of this name.

@@ -57,7 +57,7 @@ pub(crate) fn run_line<L: Ledger>(
     Ok(outcome)
 }
 
-/// The open group behind an application.
+/// The open group after an application.
 fn behind(outcome: Outcome, group: Open) -> Open
     ensures { result ≡ group_behind outcome group }
 {

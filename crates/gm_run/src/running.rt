@@ -30,7 +30,7 @@ use std::alloc::Global;
 use std::sync::ledger::Ledger;
 
 /// Runs the statements, each at the map that the one before it left. An application that is refused
-/// leaves the map; in a group it makes that those behind it are skipped, and that at its end the
+/// leaves the map; in a group it makes that those after it are skipped, and that at its end the
 /// map is what it was where it began.
 ///
 /// The arena has a sound map again, whatever the answer is. Where memory was wanting, it has the map

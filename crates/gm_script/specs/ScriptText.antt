@@ -80,7 +80,7 @@ pub data Role : Type 0 where
   RuleAt : ℕ → Role
   -- the name of a dart
   Hook : Role
-  -- a label of an orbit, where labels go up to the number, behind these that were mentioned before
+  -- a label of an orbit, where labels go up to the number, after these that were mentioned before
   LabelBehind : ℕ → Mask → Role
   -- a number of a value, and whether a minus stands before it
   Size : Bool → Role
@@ -103,7 +103,7 @@ is_again _ _ = false
 abbrev pub passed_of : Role → Symbol → Option Passed
 passed_of role symbol = passed_by (limit_of role symbol) (is_again role symbol)
 
--- Each spelling takes what stands behind it.
+-- Each spelling takes what stands after it.
 
 abbrev pub spell_signed : Signed → List (Part Role) → List (Part Role)
 spell_signed x rest = numbers.spell_signed Fixed Size x rest
@@ -130,7 +130,7 @@ spell_line k line rest =
     word (StatAt k line.place) (codes "apply") ∷ word (RuleAt line.rule.place) line.rule.name
     ∷ (map (number Hook) line.hooks ++ spell_params line.values rest)
 
--- labels up to the number, behind these of one orbit
+-- labels up to the number, after these of one orbit
 abbrev pub spell_labels : ℕ → Mask → List ℕ → List (Part Role) → List (Part Role)
 spell_labels n mask [] rest = rest
 spell_labels n mask (label ∷ labels) rest = number (LabelBehind n mask) label ∷ spell_labels n (with_label mask label) labels rest
@@ -146,7 +146,7 @@ spell_stat n k (Applies line) rest = spell_line k line rest
 spell_stat n k (GoesOver form) rest = spell_each n k form rest
 spell_stat n k (Says bare place) rest = word (StatAt k place) (bare_word bare) ∷ rest
 
--- statements behind so many
+-- statements after so many
 abbrev pub spell_stats : ℕ → ℕ → List StatForm → List (Part Role) → List (Part Role)
 spell_stats n k [] rest = rest
 spell_stats n k (form ∷ forms) rest = spell_stat n (k + 1) form (spell_stats n (k + 1) forms rest)

@@ -16,7 +16,7 @@ use gm_model::{MOST_LINES, RuleTable, Script};
 use std::alloc::Global;
 use std::marker::Model;
 
-/// The bytes of the shortest line, `apply a`, and a blank behind it.
+/// The bytes of the shortest line, `apply a`, and a blank after it.
 const LEAST_LINE_BYTES: usize = 8;
 
 /// The index, where the statement is one of the rule that has it, whose parameters' kinds then have
@@ -99,7 +99,7 @@ impl Compared {
         ensures ok { IfOk result (λ compared. compared ≡ Ok []) }
         ensures err { IfErr result (λ fault. fault ≡ ScriptFault.OutOfMemory) }
     {
-        // Behind each line but the last stands a byte at least that parts it from the next `apply`.
+        // After each line but the last stands a byte at least that parts it from the next `apply`.
         let most = (length / LEAST_LINE_BYTES + 1).min(MOST_LINES);
         Ok(Compared {
             stats: Script::with_capacity(alloc, most)?,
@@ -107,7 +107,7 @@ impl Compared {
         })
     }
 
-    /// Compares a further statement, whose values are then put as its rule takes them. Behind one that
+    /// Compares a further statement, whose values are then put as its rule takes them. After one that
     /// disagrees none is kept.
     // Inlined up to who reads a line, but for what looks a name up: that takes some 30 instructions less.
     #[inline(always)]

@@ -68,7 +68,7 @@ fn read_name<'a>(
     Ok(())
 }
 
-/// Reads on behind a token: a rule's name, where one stands next, and the hooks behind it.
+/// Reads on after a token: a rule's name, where one stands next, and the hooks after it.
 // A name or a hook that is read as a token by itself takes some 100 instructions more.
 fn read_on<'a>(
     bytes: &'a [u8],
@@ -87,7 +87,7 @@ fn read_on<'a>(
     read_hooks(lexer, reader)
 }
 
-/// Reads the word `apply` with which a line begins, where one stands next behind a whole statement. That
+/// Reads the word `apply` with which a line begins, where one stands next after a whole statement. That
 /// is compared.
 // What such a word is and leads to needs no look at the grammar, which takes some 90 instructions less.
 fn begin_line<'a>(

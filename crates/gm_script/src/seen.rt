@@ -26,7 +26,7 @@ pub(crate) struct Seen {
     pub token: Token,
 }
 
-/// What stands next, behind this spot.
+/// What stands next, after this spot.
 // A part of a value that is read as any other token takes some 150 instructions more.
 pub(crate) fn next_seen<'a>(
     bytes: &'a [u8],
@@ -92,7 +92,7 @@ fn near_name(lexer: &mut Lexer<'_>) -> Option<Token>
     Some(token)
 }
 
-/// The word `apply` behind a line's end, and how many bytes of it are compared.
+/// The word `apply` after a line's end, and how many bytes of it are compared.
 const APPLY: ([u8; 16], usize) = (*b"\napply \0\0\0\0\0\0\0\0\0", 7);
 
 /// The word `with` within a line.
@@ -109,7 +109,7 @@ pub(crate) fn near_apply<'a>(bytes: &'a [u8], lexer: &mut Lexer<'a>) -> Option<T
     word_of_lead(bytes, lexer, u8x16::from_array(APPLY.0), APPLY.1)
 }
 
-/// The word `with`, where it can stand behind the spot. `None` says nothing of what stands next, and the
+/// The word `with`, where it can stand after the spot. `None` says nothing of what stands next, and the
 /// lexer is then as before.
 fn near_with<'a>(bytes: &'a [u8], lexer: &mut Lexer<'a>, spot: Spot) -> Option<Seen>
     requires bytes { lexer.old.text ≡ bytes.now }
@@ -154,7 +154,7 @@ fn next_token(lexer: &mut Lexer<'_>) -> Result<Option<Token>, TextFault>
     }
 }
 
-/// A small number or a sign of a value, where one can stand behind the spot and stands next with one
+/// A small number or a sign of a value, where one can stand after the spot and stands next with one
 /// blank before it at most. `None` says nothing of what stands next, and the lexer is then as before.
 fn small_part(lexer: &mut Lexer<'_>, spot: Spot) -> Option<Seen>
     ensures seen { IfSome result (λ seen. IsSeenNext lexer.old seen.sight seen.token lexer.new) }
@@ -194,7 +194,7 @@ fn small_number(lexer: &mut Lexer<'_>) -> Option<Seen>
     Some(Seen { sight, token })
 }
 
-/// A sign that can stand behind the spot.
+/// A sign that can stand after the spot.
 fn small_sign(lexer: &mut Lexer<'_>, spot: Spot) -> Option<Seen>
     ensures seen { IfSome result (λ seen. IsSeenNext lexer.old seen.sight seen.token lexer.new) }
     ensures none { IfNone result (lexer.new ≡ lexer.old) }

@@ -16,7 +16,7 @@ pub(crate) enum Spot {
     Bare,
     /// The word `apply`.
     Apply,
-    /// Behind `apply`, a rule's name, or a hook.
+    /// After `apply`, a rule's name, or a hook.
     Rule,
     /// The word `each`.
     Each,
@@ -24,7 +24,7 @@ pub(crate) enum Spot {
     Orbit,
     /// The `>` of an orbit.
     Over,
-    /// Behind an orbit, a rule's name.
+    /// After an orbit, a rule's name.
     Named,
     /// The word `with`.
     With,
@@ -46,7 +46,7 @@ pub(crate) enum Spot {
 }
 
 impl Spot {
-    /// The spot behind what is seen, in a group or not, or `None` where no script has it there.
+    /// The spot after what is seen, in a group or not, or `None` where no script has it there.
     pub(crate) fn next(self, within: bool, sight: Sight) -> Option<Spot>
         ensures { result ≡ reading.next_spot within self sight }
     {
@@ -56,7 +56,7 @@ impl Spot {
         }
     }
 
-    /// The spot behind a word that begins statements, or a rule's name where one is looked for.
+    /// The spot after a word that begins statements, or a rule's name where one is looked for.
     fn next_word(self, within: bool, head: Head) -> Option<Spot>
         ensures { result ≡ reading.next_word within self head }
     {
@@ -70,7 +70,7 @@ impl Spot {
         }
     }
 
-    /// The spot behind what is seen, where that begins no statement.
+    /// The spot after what is seen, where that begins no statement.
     fn next_part(self, sight: Sight) -> Option<Spot>
         ensures { result ≡ reading.next_part self sight }
     {
@@ -136,7 +136,7 @@ impl Spot {
     }
 }
 
-/// The spot behind the first word of a statement, in a group or not, or `None` where it can't begin.
+/// The spot after the first word of a statement, in a group or not, or `None` where it can't begin.
 fn next_head(within: bool, head: Head) -> Option<Spot>
     ensures { result ≡ reading.next_head within head }
 {

@@ -61,7 +61,7 @@ static FITS: [Fit; 7] = [
         &[2, 6],
         &[2, 6, 1, 3, 5, 0],
     ),
-    // Three edges, the third with a node behind it.
+    // Three edges, the third with a node beyond it.
     (
         SHEETS,
         "book 2 dim 3 rule three left a <0> hook b <0> hook c <0> hook d <0> c -2- d \

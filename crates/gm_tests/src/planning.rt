@@ -39,7 +39,7 @@ static ROWS: [Row; 5] = [
         &[None, None, Some((1, 0))],
         &[2],
     ),
-    // Two nodes at the end of one label, each from its own hook. What lies behind both is nearest by
+    // Two nodes at the end of one label, each from its own hook. What lies beyond both is nearest by
     // the lesser second label, though it leads from the later node.
     (
         "book 2 dim 2 rule r left a <> hook b <> hook c <> d <> e <> \

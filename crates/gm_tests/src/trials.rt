@@ -115,7 +115,7 @@ static COMMANDS: [Trial; 24] = [
         "OUT",
         None,
     ),
-    // Loads that fail, and puts behind them.
+    // Loads that fail, and puts after them.
     (
         "show SQUARE",
         Failure::LoadAndPut(0, 9),
@@ -166,7 +166,7 @@ static COMMANDS: [Trial; 24] = [
 const RUN: &str = "run MAP BOOK SCRIPT OUT";
 
 /// Loads that fail, files that are not there, saves that fail and keep nothing, some of the bytes or all,
-/// and puts that fail behind a load that fails and behind a save.
+/// and puts that fail after a load that fails and after a save.
 static RUNS: [Trial; 13] = [
     (RUN, Failure::Load(0), 3, "refused load MAP\n", "OUT", None),
     (RUN, Failure::Load(1), 3, "refused load BOOK\n", "OUT", None),

@@ -66,14 +66,14 @@ kind_word kinds.Rgb = codes "rgb"
 
 -- What a symbol is there for. An ordinal counts from 1, the symbol included.
 pub data Role : Type 0 where
-  -- a word or sign of the format, or what stands behind the embeddings
+  -- a word or sign of the format, or what stands after the embeddings
   Fixed : Role
   Dimension : Role
   -- the word `embed` of the embedding with this ordinal
   EmbedWord : ℕ → Role
-  -- the name of an embedding behind these that were declared before, at this place
+  -- the name of an embedding after these that were declared before, at this place
   NameAt : List (List ℕ) → ℕ → Role
-  -- a label of an orbit, where labels go up to the number, behind these that were mentioned before, at this place
+  -- a label of an orbit, where labels go up to the number, after these that were mentioned before, at this place
   LabelAt : ℕ → Mask → ℕ → Role
 
 -- the limit that a symbol passes in a role
@@ -104,14 +104,14 @@ passed_by None false = None
 abbrev pub passed_of : Role → Symbol → Option Passed
 passed_of role symbol = passed_by (limit_of role symbol) (is_again role symbol)
 
--- Each spelling takes what stands behind it.
+-- Each spelling takes what stands after it.
 
--- labels up to the number, behind these of one orbit
+-- labels up to the number, after these of one orbit
 abbrev pub spell_labels : ℕ → Mask → List LabelForm → List (Part Role) → List (Part Role)
 spell_labels n mask [] rest = rest
 spell_labels n mask (form ∷ forms) rest = number (LabelAt n mask form.place) form.label ∷ spell_labels n (with_label mask form.label) forms rest
 
--- embed pos <1 2> vec3, behind the embeddings that were declared before
+-- embed pos <1 2> vec3, after the embeddings that were declared before
 abbrev pub spell_embed : ℕ → List Embed → EmbedForm → List (Part Role) → List (Part Role)
 spell_embed n declared embed rest =
     word (EmbedWord (length declared + 1)) (codes "embed") ∷ word (NameAt (names_in declared) embed.name.place) embed.name.name
@@ -132,11 +132,11 @@ IsEmbed embed = IsFree embed.name × (embed.kind ≢ kinds.Bool)
 abbrev pub IsForm : SchemaForm → Type 0
 IsForm form = AllByRecursion IsEmbed form.embeds
 
--- what stands behind the embeddings is not judged
+-- what stands after the embeddings is not judged
 abbrev pub beyond : Symbol → Part Role
 beyond symbol = record { symbol = symbol; role = Fixed }
 
--- a schema with anything behind it that begins no further embedding
+-- a schema with anything after it that begins no further embedding
 pub record IsSentence (parts : List (Part Role)) : Type 0 where
   pub form : SchemaForm
   pub good : IsForm form

@@ -8,14 +8,14 @@ pub record Signed : Type 0 where
   pub minus : Bool
   pub size : ℕ
 
--- the number of the size, behind a minus or without one
+-- the number of the size, after a minus or without one
 abbrev pub signed : Bool → ℕ → ℤ
 signed minus size = if minus then neg_ℤ (pos size) else pos size
 
 abbrev pub integer : Signed → ℤ
 integer x = signed x.minus x.size
 
--- the greatest number behind a minus, and without one
+-- the greatest number after a minus, and without one
 abbrev pub greatest : Bool → ℕ
 greatest minus = if minus then 2 ^ 63 else 2 ^ 63 - 1
 

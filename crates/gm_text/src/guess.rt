@@ -40,7 +40,7 @@ impl Guess {
         ensures few { IfSome result (λ _. count ≤ 8) }
         ensures end { IfSome result (λ end. end ≡ start + count) }
     {
-        // Where the guess is right, as it mostly is, the processor goes on behind the number before it
+        // Where the guess is right, as it mostly is, the processor goes on past the number before it
         // has found how long this is.
         if count == self.digits {
             return Some(start + self.digits);

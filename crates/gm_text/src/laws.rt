@@ -16,7 +16,7 @@ pub fn one_schema_at_most()
     ensures skipped { (old new other : Cursor) (schema : Schema) (n : ℕ) → IsSchemaRead old new schema → IsSchemaSkipped old other n → (schema.dim ≡ n) × (marks_left new ≡ marks_left other) }
 {}
 
-/// Where the same marks are left behind tokens, the lexer stands at the same place. So what is read
+/// Where the same marks are left after tokens, the lexer stands at the same place. So what is read
 /// settles the place that it is read to, and no reader can go on over blanks or comments.
 pub fn one_place_behind_tokens()
     ensures { (old new other : Cursor) → IsBehindToken old new → IsBehindToken old other → marks_left new ≡ marks_left other → new.place ≡ other.place }
@@ -34,7 +34,7 @@ pub fn no_schema_at_a_fault()
     ensures skipped { (old new : Cursor) (n : ℕ) (fault : SchemaFault) → IsSchemaSkipped old new n → IsSkipFault (marks_left old) fault → ⊥ }
 {}
 
-/// The canonical text of a schema that was read is read as the same schema, whatever stands behind
+/// The canonical text of a schema that was read is read as the same schema, whatever stands after
 /// it that begins no embedding.
 pub fn a_printed_schema_is_read_again()
     ensures { (old new : Cursor) (schema : Schema) (rest : List ℕ) → IsSchemaRead old new schema → BeginNoEmbed rest → StandsBefore rest (canonical schema ++ rest) schema }

@@ -144,7 +144,7 @@ impl<'a> Lexer<'a> {
         ensures number { IfSome result (λ found. IsNumberRead found.value found.place self.old self.new) }
         ensures none { IfNone result (self.new ≡ self.old) }
     {
-        // One test of the text's end serves the blank, each digit and what stands behind them.
+        // One test of the text's end serves the blank, each digit and what stands after them.
         if self.at + 17 > self.source.len() {
             return None;
         }
@@ -155,7 +155,7 @@ impl<'a> Lexer<'a> {
         Some(found)
     }
 
-    /// The same behind this blank, or with nothing before it where none is named, by a guess that
+    /// The same after this blank, or with nothing before it where none is named, by a guess that
     /// the caller keeps: one for each column of a table, say.
     // Inlined, as `small_at` is.
     #[inline(always)]
@@ -218,7 +218,7 @@ impl<'a> Lexer<'a> {
         false
     }
 
-    /// The same behind this blank, or with nothing before it where none is named.
+    /// The same after this blank, or with nothing before it where none is named.
     // Inlined, as `small_at` is.
     #[inline(always)]
     pub fn sign_behind(&mut self, blank: Option<u8>, sign: u8) -> bool

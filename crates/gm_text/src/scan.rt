@@ -35,7 +35,7 @@ pub fn gap_end(text: &[u8], from: usize) -> usize
     at
 }
 
-/// The number that begins at `from`, or behind one blank there, as most numbers of a map do.
+/// The number that begins at `from`, or after one blank there, as most numbers of a map do.
 pub fn number_near(text: &[u8], from: usize) -> Option<Token>
     requires { from ≤ length text.now }
     ensures behind { IfSome result (λ token. from ≤ token.start) }
@@ -54,7 +54,7 @@ pub fn number_near(text: &[u8], from: usize) -> Option<Token>
     None
 }
 
-/// The name that begins at `from`, or behind one blank there.
+/// The name that begins at `from`, or after one blank there.
 // Inlined, as `small_at` is.
 #[inline(always)]
 pub fn name_near(text: &[u8], from: usize) -> Option<Token>
@@ -132,7 +132,7 @@ pub fn past_blank(text: &[u8], from: usize) -> usize
     from
 }
 
-/// The place behind this blank, or the place itself where none is named.
+/// The place after this blank, or the place itself where none is named.
 // Inlined, as `small_at` is.
 #[inline(always)]
 pub fn behind_this(text: &[u8], from: usize, blank: Option<u8>) -> Option<usize>

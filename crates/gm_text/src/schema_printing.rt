@@ -41,7 +41,7 @@ fn print_embed(out: &mut Text, embed: &Embed) -> Result<(), OutOfMemory>
     put_between(out, b"> ", kind_word(embed.kind), b"\n")
 }
 
-/// The bytes, between what leads to them and what stands behind them.
+/// The bytes, between what leads to them and what stands after them.
 fn put_between(out: &mut Text, lead: &[u8], bytes: &[u8], end: &[u8]) -> Result<(), OutOfMemory>
     ensures ok { OnOk result (out.new ≡ out.old ++ (lead.now ++ (bytes.now ++ end.now))) }
     ensures err { OnErr result (IsCut out.old (lead.now ++ (bytes.now ++ end.now)) out.new) }

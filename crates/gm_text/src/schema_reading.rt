@@ -57,7 +57,7 @@ fn read_dim(lexer: &mut Lexer<'_>) -> Result<Dim, SchemaFault>
     read_top(lexer)
 }
 
-/// The name of an embedding behind those that are known, where a second declaration is judged.
+/// The name of an embedding after those that are known, where a second declaration is judged.
 fn read_name(lexer: &mut Lexer<'_>, known: &[Embed], strict: bool) -> Result<Name, SchemaFault>
     ensures reads { IfOk result (ReadsName strict known.now lexer.old lexer.new) }
     ensures stops { IfErr result (StopsAtName strict known.now lexer.old) }
@@ -92,7 +92,7 @@ fn open_orbit(lexer: &mut Lexer<'_>) -> Result<(), SchemaFault>
     Ok(())
 }
 
-/// The next label of an orbit behind those of the mask, or `None` at the orbit's end.
+/// The next label of an orbit after those of the mask, or `None` at the orbit's end.
 fn read_label(
     lexer: &mut Lexer<'_>,
     dim: Dim,
@@ -164,7 +164,7 @@ fn embed_word(lexer: &mut Lexer<'_>) -> Option<usize>
     }
 }
 
-/// An embedding behind its word.
+/// An embedding after its word.
 fn read_embed(
     lexer: &mut Lexer<'_>,
     dim: Dim,
@@ -181,7 +181,7 @@ fn read_embed(
     Ok(Embed { name, mask, kind })
 }
 
-/// The next embedding behind so many, or `None` where none begins. Where a second declaration is
+/// The next embedding after so many, or `None` where none begins. Where a second declaration is
 /// judged, those before it are known.
 fn next_embed(
     lexer: &mut Lexer<'_>,
@@ -235,7 +235,7 @@ fn skip_embeds(lexer: &mut Lexer<'_>, dim: Dim) -> Result<(), SchemaFault>
 }
 
 /// The schema that stands next, which the lexer goes past, up to where no further embedding begins:
-/// directly behind its last token. What stands behind it isn't judged. After a refusal, whose fault is the first from left to right, the
+/// directly after its last token. What stands after it isn't judged. After a refusal, whose fault is the first from left to right, the
 /// lexer is as before.
 pub fn read_schema(alloc: Global, lexer: &mut Lexer<'_>) -> Result<Schema, SchemaFault>
     ensures schema { IfOk result (IsSchemaRead lexer.old lexer.new) }

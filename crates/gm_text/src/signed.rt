@@ -1,8 +1,8 @@
-//! The whole number that stands behind a minus or without one.
+//! The whole number that stands after a minus or without one.
 ghost use Rattle.std.specs.Prelude.{◌≡◌, ◌<◌, ◌≤◌, MatchOption};
 ghost use Rattle.gm_text.specs.ValueText.{greatest, signed};
 
-/// The number of the size, behind a minus or without one, where it isn't too great.
+/// The number of the size, after a minus or without one, where it isn't too great.
 pub fn signed_value(minus: bool, size: u64) -> Option<i64>
     ensures { MatchOption result (greatest minus < size) (λ n. (size ≤ greatest minus) × (n ≡ signed minus size)) }
 {

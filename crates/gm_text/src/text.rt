@@ -91,7 +91,7 @@ impl Text {
         self.put(digits.format(n).as_bytes())
     }
 
-    /// Appends the number in decimal digits, behind a `-` where it is below 0.
+    /// Appends the number in decimal digits, after a `-` where it is below 0.
     pub fn signed(&mut self, n: i64) -> Result<(), OutOfMemory>
         ensures ok { OnOk result (self.new ≡ self.old ++ signed_decimal n) }
         ensures err { OnErr result (self.new ≡ self.old) }

@@ -1,4 +1,4 @@
--- How many loads and saves there were, at which load the store failed, and behind which a run stops.
+-- How many loads and saves there were, at which load the store failed, and after which a run stops.
 use Rattle.std.specs.Prelude.{◌≡◌, ◌⊎◌, ℕ, zero, suc, List, Result, Err, IfSome}
 use Rattle.gm_host.specs.Count.{counted, Rises}
 use Rattle.gm_host.specs.Store.{Contents, Lacks}

@@ -59,7 +59,7 @@ fn book_text(alloc: Global, book: &Book) -> Result<Vec<u8>, OutOfMemory>
     print_book(alloc, &dual)
 }
 
-/// The text of the dual of the map, and directly behind it that of the dual of the book.
+/// The text of the dual of the map, and directly after it that of the dual of the book.
 fn texts<L: Ledger>(
     alloc: Global,
     read: &MapRead,

@@ -136,7 +136,7 @@ fn put_whole<O: Sink>(out: &mut O, bytes: &[u8], status: u8) -> u8
 /// applies the lines of the script to the map, saves the map as OUT, which may be MAP, and puts a
 /// report. `migrate MAP OUT` saves the map as OUT, which may be MAP, in the second version of the
 /// format, and puts a line with the number of its darts and its next name. `dual MAP BOOK` puts the
-/// canonical text of the map's dual, and behind it that of the book's. `grid M`, for M from 1 to
+/// canonical text of the map's dual, and after it that of the book's. `grid M`, for M from 1 to
 /// 100, makes a grid of M rows of M squares, triangulates each, and puts a line that counts the
 /// lines done, the darts and the cells; it reads no file. All that is put goes out by one put: the
 /// text, with status 0, or 1 where a rule isn't accepted or a line is refused, or the one line of a

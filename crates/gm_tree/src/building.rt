@@ -119,7 +119,7 @@ impl Builder {
         }
     }
 
-    /// The innermost bracket closes behind the operand.
+    /// The innermost bracket closes after the operand.
     fn close_bracket(&mut self, alloc: Global, operand: Expr) -> Result<Expr, OutOfMemory>
         ensures { IfOk result (λ e. work (frames_of self.new.waiting.items) (option_map name_fault self.new.least) (Value (tree_of e)) ≡ close_bracket (frames_of self.old.waiting.items) (option_map name_fault self.old.least) (tree_of operand)) }
     {
@@ -132,7 +132,7 @@ impl Builder {
         }
     }
 
-    /// The next part of the innermost bracket begins behind the operand.
+    /// The next part of the innermost bracket begins after the operand.
     fn part_bracket(&mut self, key: Key, operand: Expr) -> Result<(), OutOfMemory>
         ensures frames { IfOk result (λ _. frames_of self.new.waiting.items ≡ next_frames key (frames_of self.old.waiting.items) (tree_of operand)) }
         ensures least { self.new.least ≡ self.old.least }
@@ -169,7 +169,7 @@ impl Builder {
         self.part_bracket(key, operand)
     }
 
-    /// Goes on behind a whole operand.
+    /// Goes on after a whole operand.
     pub(crate) fn go_behind(
         &mut self,
         alloc: Global,

@@ -134,7 +134,7 @@ pub(crate) fn enclose(alloc: Global, waiting: Waiting, operand: Expr) -> Result<
     }
 }
 
-/// A function whose next argument begins behind the operand.
+/// A function whose next argument begins after the operand.
 fn go_on_with_argument(waiting: Waiting, operand: Expr) -> Waiting
     ensures { frame_of result ≡ next_frame Comma (frame_of waiting) (tree_of operand) }
 {
@@ -155,7 +155,7 @@ fn go_on_with_argument(waiting: Waiting, operand: Expr) -> Waiting
     }
 }
 
-/// A condition whose first part begins behind the operand.
+/// A condition whose first part begins after the operand.
 fn go_on_with_then(waiting: Waiting, operand: Expr) -> Waiting
     ensures { frame_of result ≡ next_frame Then (frame_of waiting) (tree_of operand) }
 {
@@ -171,7 +171,7 @@ fn go_on_with_then(waiting: Waiting, operand: Expr) -> Waiting
     }
 }
 
-/// A condition whose other part begins behind the operand.
+/// A condition whose other part begins after the operand.
 fn go_on_with_else(waiting: Waiting, operand: Expr) -> Waiting
     ensures { frame_of result ≡ next_frame Else (frame_of waiting) (tree_of operand) }
 {
@@ -184,7 +184,7 @@ fn go_on_with_else(waiting: Waiting, operand: Expr) -> Waiting
     }
 }
 
-/// A bracket whose next part begins behind the operand.
+/// A bracket whose next part begins after the operand.
 pub(crate) fn go_on(key: Key, waiting: Waiting, operand: Expr) -> Waiting
     ensures { frame_of result ≡ next_frame key (frame_of waiting) (tree_of operand) }
 {

@@ -14,7 +14,7 @@ fn boxed(alloc: Global, part: Expr) -> Result<Box<Expr>, OutOfMemory>
     Ok(Box::new(alloc, part)?)
 }
 
-/// The box with a second one behind it.
+/// The box with a second one after it.
 fn two_with(alloc: Global, first: Box<Expr>, b: Expr) -> Result<(Box<Expr>, Box<Expr>), OutOfMemory>
     ensures first { IfOk result (λ both. tree_of both.0.value ≡ tree_of first.value) }
     ensures second { IfOk result (λ both. tree_of both.1.value ≡ tree_of b) }
@@ -41,7 +41,7 @@ fn two(alloc: Global, a: Expr, b: Expr) -> Result<(Box<Expr>, Box<Expr>), OutOfM
     }
 }
 
-/// The box with two further ones behind it.
+/// The box with two further ones after it.
 fn three_with(
     alloc: Global,
     first: Box<Expr>,

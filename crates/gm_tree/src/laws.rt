@@ -13,7 +13,7 @@ ghost use Rattle.gm_parse.specs.Meaning.{NameFault, Names, names_in};
 ghost use Rattle.gm_tree.specs.inner.FirstNames.{first_names};
 ghost use Rattle.gm_model.specs.declared.limit.TheConstants.{MOST_DIMENSION};
 
-/// Under the same names one tree at most stands at a place of a text, with the same tokens behind
+/// Under the same names one tree at most stands at a place of a text, with the same tokens after
 /// it: `a - b - c` has one grouping, and no reader can choose another.
 pub fn one_tree_at_most()
     ensures { (n : ℕ) (names : Names) (old new other : Cursor) (tree second : Tree) → n ≤ MOST_DIMENSION → IsExprRead n names old new tree → IsExprRead n names old other second → (tree ≡ second) × (marks_left new ≡ marks_left other) }

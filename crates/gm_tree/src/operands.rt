@@ -49,7 +49,7 @@ pub(crate) fn term_at(alloc: Global, node: Option<u8>) -> DartTerm
     }
 }
 
-/// What stands in the parentheses behind an orbit.
+/// What stands in the parentheses after an orbit.
 pub(crate) fn lead_of(head: Head, mask: Mask) -> Lead
     ensures { result ≡ building.lead_of head mask }
 {
@@ -72,7 +72,7 @@ fn go_along(term: DartTerm, label: u8) -> Result<DartTerm, OutOfMemory>
     })
 }
 
-/// What is read behind the term with a further label.
+/// What is read after the term with a further label.
 pub(crate) fn go_along_behind(lead: Lead, term: DartTerm, label: u8) -> Result<Partial, OutOfMemory>
     ensures { IfOk result (λ partial. building.part_of partial ≡ building.BehindTerm lead (record term { path = term.path ++ label ∷ [] })) }
 {
@@ -96,7 +96,7 @@ pub(crate) fn end_term(lead: Lead, term: DartTerm) -> Partial
     }
 }
 
-/// What the name of an embedding behind a term ends.
+/// What the name of an embedding after a term ends.
 pub(crate) fn end_field(lead: Lead, term: DartTerm, embed: u8) -> Partial
     ensures { building.part_of result ≡ building.field_part lead term embed }
 {
@@ -135,7 +135,7 @@ fn collect(collector: Collector, mask: Mask, term: DartTerm, embed: u8) -> Expr
 
 impl Builder {
     ghost use Rattle.gm_model.specs.declared.limit.TheConstants.{MOST_DIMENSION};
-    /// Goes on behind a name.
+    /// Goes on after a name.
     pub(crate) fn go_behind_name(
         &mut self,
         alloc: Global,

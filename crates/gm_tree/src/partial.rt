@@ -30,7 +30,7 @@ pub(crate) enum Head {
 pub(crate) enum Lead {
     /// The first term of `same`.
     First,
-    /// The second one, behind the first.
+    /// The second one, after the first.
     Second(DartTerm),
     /// A count of darts.
     Counted(Mask),

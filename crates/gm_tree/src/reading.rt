@@ -26,7 +26,7 @@ struct Built {
     partial: Partial,
 }
 
-/// Goes past the next token of an expression, behind so many, where it has no fault. Answers `None`
+/// Goes past the next token of an expression, after so many, where it has no fault. Answers `None`
 /// where it ends.
 fn go_on(lexer: &mut Lexer<'_>, dim: Dim, count: usize, state: &mut State) -> Option<Token>
     requires few { count ≤ 256 }
@@ -102,7 +102,7 @@ fn finish(alloc: Global, built: Built) -> Result<Expr, ExprFault>
 }
 
 /// The expression that stands next, its names looked up, which the lexer goes past, to directly
-/// behind its last token. `skip_expr` must answer `Ok` from here with the dimension of the schema. After a refusal the lexer is as before;
+/// after its last token. `skip_expr` must answer `Ok` from here with the dimension of the schema. After a refusal the lexer is as before;
 /// the fault is the one at the least place, where a label that is mentioned again counts before an
 /// unknown name.
 pub fn read_expr(alloc: Global, lexer: &mut Lexer<'_>, env: &Env<'_>) -> Result<Expr, ExprFault>

@@ -125,7 +125,7 @@ impl Builder {
         }
     }
 
-    /// The embedding of a field behind the term.
+    /// The embedding of a field after the term.
     fn field(
         &mut self,
         env: &Env<'_>,
@@ -163,7 +163,7 @@ impl Builder {
         }
     }
 
-    /// Takes the token in, behind what is read of the operand so far.
+    /// Takes the token in, after what is read of the operand so far.
     pub(crate) fn take_in(
         &mut self,
         alloc: Global,

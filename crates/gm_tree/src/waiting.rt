@@ -12,7 +12,7 @@ pub(crate) enum Waiting {
     /// `else`, with the condition and the first part.
     Else(Expr, Expr),
     Group,
-    /// The first argument of a function, the second one behind the first, and so on.
+    /// The first argument of a function, the second one after the first, and so on.
     First(Callee),
     Second(Callee, Expr),
     Third(Callee, Expr, Expr),

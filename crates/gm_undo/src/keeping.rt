@@ -20,7 +20,7 @@ use gm_pending::Edits;
 use std::sync::ledger::Ledger;
 
 /// What one application made of the map: its kept rows from `first` to `middle` are those before it,
-/// and from there to `end` those behind it.
+/// and from there to `end` those after it.
 #[derive(Clone, Copy)]
 pub(crate) struct Made {
     /// Whether an entry of the past or the future begins with it.
@@ -44,7 +44,7 @@ pub(crate) fn kept_end(changes: &[Made], count: usize) -> usize
     }
 }
 
-/// Makes room for the rows and the change of the edits, behind so many rows.
+/// Makes room for the rows and the change of the edits, after so many rows.
 pub(crate) fn make_room(
     rows: &mut KeptRows,
     changes: &mut Vec<Made>,
@@ -119,7 +119,7 @@ pub(crate) fn keep<L: Ledger>(
     }
 }
 
-/// Puts the rows of the darts at the slots behind the others.
+/// Puts the rows of the darts at the slots after the others.
 fn keep_touched<L: Ledger>(rows: &mut KeptRows, slots: &[Slot], arena: &Arena, steps: &mut Steps<L>)
     requires labels { rows.old.labels ≡ arena.now.schema.dim + 1 }
     requires width { rows.old.width ≡ length arena.now.schema.embeds }
@@ -135,7 +135,7 @@ fn keep_touched<L: Ledger>(rows: &mut KeptRows, slots: &[Slot], arena: &Arena, s
     }
 }
 
-/// Puts the rows of the darts of the rows from `first` to `end` that are live behind the others.
+/// Puts the rows of the darts of the rows from `first` to `end` that are live after the others.
 fn keep_staying<L: Ledger>(
     rows: &mut KeptRows,
     first: usize,
@@ -162,7 +162,7 @@ fn keep_staying<L: Ledger>(
     }
 }
 
-/// Puts the rows of so many darts, by their names from `first` on, behind the others.
+/// Puts the rows of so many darts, by their names from `first` on, after the others.
 fn keep_added<L: Ledger>(
     rows: &mut KeptRows,
     first: u32,

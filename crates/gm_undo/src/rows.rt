@@ -108,7 +108,7 @@ impl KeptRows {
         Ok(())
     }
 
-    /// Puts the row of the dart at the slot behind the others, where there is room.
+    /// Puts the row of the dart at the slot after the others, where there is room.
     // Inlined, since it is short and is called for each row.
     #[inline(always)]
     pub(crate) fn push<L: Ledger>(
@@ -213,7 +213,7 @@ fn make_room<T>(items: &mut Vec<T>, count: usize) -> Result<(), OutOfMemory>
     Ok(items.reserve(more)?)
 }
 
-/// Puts the names of the darts at the slots behind the others, where there is room for them.
+/// Puts the names of the darts at the slots after the others, where there is room for them.
 fn push_names<L: Ledger>(names: &mut Vec<u32>, slots: &[Slot], arena: &Arena, steps: &mut Steps<L>)
     requires live { (k : ℕ) → k < length slots.now → IsLiveSlot arena.now (slice_index_or slots.now k (record { at = 0 })).at }
     requires room { length names.old.items + length slots.now ≤ vec_capacity names.old }

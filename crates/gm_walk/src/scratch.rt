@@ -167,7 +167,7 @@ impl Scratch {
         self.queue.clear();
     }
 
-    /// Puts the slot behind those that were walked, unless it is among them. It takes no memory.
+    /// Puts the slot after those that were walked, unless it is among them. It takes no memory.
     pub fn take_in(&mut self, slot: Slot)
         requires { slot.at < self.old.bound }
         ensures { TakesIn self.old slot self.new }
@@ -175,7 +175,7 @@ impl Scratch {
         self.take(slot);
     }
 
-    /// Puts the slot behind those that were walked, unless it is among them, and tells whether it
+    /// Puts the slot after those that were walked, unless it is among them, and tells whether it
     /// was new. It takes no memory.
     pub fn take_new(&mut self, slot: Slot) -> bool
         requires { slot.at < self.old.bound }
@@ -186,7 +186,7 @@ impl Scratch {
         self.take(slot) == end
     }
 
-    /// Puts the slot behind those that were walked, unless it is among them, and tells its place
+    /// Puts the slot after those that were walked, unless it is among them, and tells its place
     /// among them, counted from 0. It takes no memory.
     #[inline(always)]
     pub fn take(&mut self, slot: Slot) -> u32

@@ -50,7 +50,7 @@ pub fn walk_turns<L: Ledger>(
 }
 
 /// Takes in the neighbours of the dart at a place of the walk, by the places of the word, and puts
-/// their places behind the turns of the places before it.
+/// their places after the turns of the places before it.
 fn take_in_turns<L: Ledger>(
     arena: &Arena,
     at: usize,

@@ -34,7 +34,7 @@ fn without_words(error: &io::Error) -> ExitCode
     }
 }
 
-/// The words behind the first one, which is the program's name.
+/// The words after the first one, which is the program's name.
 fn behind_name(mut args: Args, alloc: Global) -> io::Result<Vec<String>>
     ensures { IfOk result (λ words. words.items ≡ drop 1 (into_iter_items args)) }
 {
@@ -46,7 +46,7 @@ fn behind_name(mut args: Args, alloc: Global) -> io::Result<Vec<String>>
     Ok(words)
 }
 
-/// The words behind the program's name, or why they can't be had.
+/// The words after the program's name, or why they can't be had.
 fn words_behind(args: io::Result<Args>, alloc: Global) -> io::Result<Vec<String>>
     ensures behind { IfOk args (λ all. IfOk result (λ words. words.items ≡ drop 1 (into_iter_items all))) }
     ensures refused { IfErr args (λ error. IfErr result (λ answer. answer ≡ error)) }

@@ -148,7 +148,7 @@ module _ (reading : Reading) (hooks : List ℕ) where
     pub within : IsWithinEdits start steps
     pub once : IsWithinEditsOnce start steps
 
-  -- it is ready: so much is added and removed, from start to read steps the precondition was read, and behind that the edits were made
+  -- it is ready: so much is added and removed, from start to read steps the precondition was read, and after that the edits were made
   pub record IsReadyAt (added removed : ℕ) (edits : EditLists) (start steps : ℕ) : Type 0 where
     pub room : HasRoom (app_at reading hooks) (place_at reading) added removed
     pub few : reading.arena.now.count + added ≤ most_darts + removed

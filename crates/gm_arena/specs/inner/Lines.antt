@@ -12,7 +12,7 @@ use Rattle.gm_arena.specs.inner.Parts.{part_of}
 abbrev pub line_count : Schema → List ℕ → ℕ
 line_count schema lines = length lines / (schema.dim + 2)
 
--- the neighbours of a dart, behind its name in the line of this number
+-- the neighbours of a dart, after its name in the line of this number
 abbrev pub neighbours_on : Schema → List ℕ → ℕ → List ℕ
 neighbours_on schema lines at = drop 1 (part_of (schema.dim + 2) lines at)
 

@@ -92,7 +92,7 @@ abbrev pub least_param : List (List ℕ) → List ParamForm → Option NameFault
 least_param names [] = None
 least_param names (param ∷ params) = least_of (again_at names param.name) (least_param (with_name names param.name.name) params)
 
--- of the embeddings that are assigned, behind assignments of these, where those are known
+-- of the embeddings that are assigned, after assignments of these, where those are known
 abbrev pub least_set : List (List ℕ) → List (List ℕ) → List SetForm → Option NameFault
 least_set known names [] = None
 least_set known names (set ∷ sets) = least_of (least_of (again_at names set.embed) (unknown_at known set.embed)) (least_set known (with_name names set.embed.name) sets)
@@ -157,6 +157,6 @@ module _ (n : ℕ) (embeds : List Embed) where
   abbrev pub IsRuleFault : List (List ℕ) → RuleForm → NameFault → Type 0
   IsRuleFault names rule fault = ((Twice rule.name.place ≡ fault) × (is_among names rule.name.name ≡ true)) ⊎ IsFaultInRule rule fault
 
-  -- the same of one of the rules, behind rules with these names
+  -- the same of one of the rules, after rules with these names
   abbrev pub IsFaultBehind : List (List ℕ) → List RuleForm → NameFault → Type 0
   IsFaultBehind names rules fault = IsAgainBehind names (map (λ (rule : RuleForm). rule.name) rules) fault ⊎ ((rule : RuleForm) × Contains rules rule × IsFaultInRule rule fault)

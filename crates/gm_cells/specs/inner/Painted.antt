@@ -49,7 +49,7 @@ pub record IsPainted (m : ArenaMap) (d : ℕ) (old new : List ℕ) (fits : Bool)
 
 -- ---- on the way
 
--- what stands behind the end of a queue
+-- what stands after the end of a queue
 abbrev pub no_place : Slot
 no_place = record { at = 0 }
 

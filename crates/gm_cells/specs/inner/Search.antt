@@ -45,7 +45,7 @@ pub data Reaches (slot : Slot) (k : ℕ) (marks : List ℕ) (queue : List Visit)
 
 -- ---- on the way
 
--- what stands behind the end of a queue
+-- what stands after the end of a queue
 abbrev pub nowhere : Visit
 nowhere = record { slot = record { at = 0 }; length = 0 }
 

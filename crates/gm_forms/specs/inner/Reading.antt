@@ -31,7 +31,7 @@ pub record Spot : Type 0 where
   pub count : Count
   pub hooked : Bool
 
--- what an expression is of, which is what goes on behind it
+-- what an expression is of, which is what goes on after it
 pub data Slot : Type 0 where
   -- an assignment of a node of this side, which is a right one
   SetSlot : Spot → Slot
@@ -39,37 +39,37 @@ pub data Slot : Type 0 where
   PreSlot : Heading → ℕ → Slot
 
 pub data State : Type 0 where
-  -- behind the header, which is of this version and dimension
+  -- after the header, which is of this version and dimension
   AtRules : Heading → State
-  -- before the name of the rule with this ordinal, and behind it
+  -- before the name of the rule with this ordinal, and after it
   AtName : Heading → ℕ → State
   AtLeft : Heading → ℕ → State
-  -- before the name of a parameter behind so many of its rule
+  -- before the name of a parameter after so many of its rule
   AtParam : Heading → ℕ → ℕ → State
-  -- behind the name of the parameter with this ordinal, before its kind, and behind it
+  -- after the name of the parameter with this ordinal, before its kind, and after it
   AtColon : Heading → ℕ → ℕ → State
   AtKind : Heading → ℕ → ℕ → State
   AtComma : Heading → ℕ → ℕ → State
-  -- behind all parameters
+  -- after all parameters
   AtBody : Heading → ℕ → State
-  -- where an item can begin, and behind its first name
+  -- where an item can begin, and after its first name
   AtItem : Spot → State
   AtSign : Spot → List ℕ → State
-  -- in a node's word behind so many letters, and behind the word
+  -- in a node's word after so many letters, and after the word
   AtLetter : Spot → ℕ → State
   AtBehind : Spot → State
-  -- in an assignment before the name of an embedding, and behind it
+  -- in an assignment before the name of an embedding, and after it
   AtSet : Spot → State
   AtEqual : Spot → State
-  -- in an expression, behind so many of its symbols
+  -- in an expression, after so many of its symbols
   AtExpr : Slot → exprs.Spot → State
-  -- behind the precondition of the rule with this ordinal
+  -- after the precondition of the rule with this ordinal
   AtRuleEnd : Heading → ℕ → State
-  -- in a link before its label, behind it, and before its second name
+  -- in a link before its label, after it, and before its second name
   AtLabel : Spot → State
   AtDash : Spot → State
   AtTo : Spot → State
-  -- behind the end
+  -- after the end
   AtEnd : State
 
 abbrev pub heading_at : ℕ → ℕ → Heading
@@ -94,7 +94,7 @@ with_hook spot = record spot { hooked = true }
 abbrev pub on_right : Spot → Spot
 on_right spot = record spot { side = Right }
 
--- where reading is behind a whole expression
+-- where reading is after a whole expression
 abbrev pub behind_slot : Slot → State
 behind_slot (SetSlot spot) = AtBehind (on_right spot)
 behind_slot (PreSlot heading k) = AtRuleEnd heading k
@@ -106,7 +106,7 @@ dim_of (PreSlot heading k) = heading.dim
 
 -- ---- roles
 
--- the word that stands behind the items of a side; behind the right ones the next rule begins
+-- the word that stands after the items of a side; after the right ones the next rule begins
 abbrev pub closing : Side → List ℕ
 closing Left = codes "right"
 closing Right = codes "rule"
@@ -115,7 +115,7 @@ abbrev pub closing_role : Side → ℕ → Role
 closing_role Left k = Fixed
 closing_role Right k = RuleWord (k + 1)
 
--- the word begins a precondition, which stands behind the right items
+-- the word begins a precondition, which stands after the right items
 abbrev pub is_pre_on : Side → List ℕ → Bool
 is_pre_on Left word = false
 is_pre_on Right word = bytes_eq word (codes "pre")
@@ -219,7 +219,7 @@ param_kind word = if bytes_eq word (codes "bool") then Some kinds.Bool else sche
 abbrev pub comma_move : Heading → ℕ → ℕ → List ℕ → Option State
 comma_move heading k count sign = if bytes_eq sign (codes ",") then Some (AtParam heading k count) else expect (codes ")") sign (AtBody heading k)
 
--- the state behind a symbol, where it can stand, outside of expressions
+-- the state after a symbol, where it can stand, outside of expressions
 abbrev pub plain_move : State → Symbol → Option State
 plain_move (AtRules heading) (Word word) = expect (codes "rule") word (AtName heading 1)
 plain_move (AtRules heading) End = Some AtEnd
@@ -253,7 +253,7 @@ abbrev pub expr_move : Slot → exprs.Spot → Symbol → Option exprs.Spot → 
 expr_move slot spot symbol (Some next) = Some (AtExpr slot next)
 expr_move slot spot symbol None = if is_whole_spot spot then plain_move (behind_slot slot) symbol else None
 
--- the state behind a symbol, where it can stand
+-- the state after a symbol, where it can stand
 abbrev pub move : State → Symbol → Option State
 move (AtExpr slot spot) symbol = expr_move slot spot symbol (spot_move spot symbol)
 move state symbol = plain_move state symbol
@@ -266,7 +266,7 @@ run = machine.run limit_of stands_before role_at move
 
 -- ---- a whole book
 
--- the version is known behind it
+-- the version is known after it
 pub data Outer : Type 0 where
   -- before the word `book`, and before the version
   AtFormat : Outer
@@ -308,7 +308,7 @@ dim_in _ = 0
 abbrev pub heading_in : Header → Heading
 heading_in header = heading_at header.version (dim_in header.state)
 
--- Behind the version stands the schema, and behind it the rules.
+-- After the version stands the schema, and after it the rules.
 abbrev pub book_nesting : Nesting Outer Header Role schemas.Role
 book_nesting = record {
   outer_role = outer_role;
@@ -452,7 +452,7 @@ abbrev pub hold_link : Side → Mention → Held → Part → Held
 hold_link side to held (Labelled from label) = put_item side (LinkItem from label to) held
 hold_link side to held part = held
 
--- what is held behind a symbol that stands at a place, outside of expressions
+-- what is held after a symbol that stands at a place, outside of expressions
 abbrev pub plain_hold : State → Symbol → ℕ → Held → Held
 plain_hold (AtName heading k) (Word word) place held = open_rule (mention_at word place) held
 plain_hold (AtParam heading k count) (Word word) place held = record held { part = Declared (mention_at word place) }
@@ -474,13 +474,13 @@ plain_hold _ symbol place held = held
 abbrev pub token_at : Slot → exprs.Spot → Symbol → ℕ → ExprToken
 token_at slot spot symbol place = record { symbol = symbol; place = place; role = spot_role (dim_of slot) spot symbol place }
 
--- what is held behind a symbol that stands at a place
+-- what is held after a symbol that stands at a place
 abbrev pub hold : State → Symbol → ℕ → Held → Held
 hold (AtExpr slot spot) symbol place held =
     if is_some (spot_move spot symbol) then record held { part = with_token (token_at slot spot symbol place) held.part } else plain_hold (behind_slot slot) symbol place (put_expr held held.part)
 hold state symbol place held = plain_hold state symbol place held
 
--- what is held behind marks, along the states to which they lead
+-- what is held after marks, along the states to which they lead
 abbrev pub held_behind : State → List Mark → Held → Held
 held_behind state [] held = held
 held_behind state (mark ∷ marks) held = option_map_or (λ (next : State). held_behind next marks (hold state mark.symbol mark.place held)) (move state mark.symbol) held

@@ -28,7 +28,7 @@ pub record Stand : Type 0 where
   pub last : ℕ
   pub held : Held
 
--- behind the header
+-- after the header
 abbrev pub rules_stand : Heading → Stand
 rules_stand heading = record { state = AtRules heading; last = 0; held = nothing_held }
 
@@ -99,7 +99,7 @@ part_of text (code.Dash spot from label) = Labelled (mention_of text from) label
 part_of text (code.To spot from label) = Labelled (mention_of text from) label
 part_of text state = Nothing
 
--- The node behind whose word reading is joins its side only once it is known whether it is a hook.
+-- The node after whose word reading is joins its side only once it is known whether it is a hook.
 abbrev pub held_in : List ℕ → List RuleForm → Option RuleForm → CodeState → Held
 held_in text rules current (code.Behind spot name word) = put_item spot.side (NodeItem (mention_of text name) word false []) (record { rules = rules; current = current; part = Nothing })
 held_in text rules current state = record { rules = rules; current = current; part = part_of text state }
@@ -156,7 +156,7 @@ Leads text state mark result =
     (nodes : List (List ℕ)) (rules : List RuleForm) (current : Option RuleForm) (last : ℕ)
     → Gives (λ next. stand_in text nodes rules current next mark.place) result (stepped (stand_in text nodes rules current state last) mark)
 
--- the answer is the state to which the mark leads behind one at the place `last`, where what stands beside it changes
+-- the answer is the state to which the mark leads after one at the place `last`, where what stands beside it changes
 abbrev pub MovesFrom : ℕ → List ℕ → List (List ℕ) → Draft → CodeState → Mark → Result CodeState FormFault → List (List ℕ) → Draft → Type 0
 MovesFrom last text nodes draft state mark result new_nodes new_draft =
     Gives (λ next. stand_of text new_nodes new_draft next mark.place) result (stepped (stand_of text nodes draft state last) mark)
@@ -182,7 +182,7 @@ abbrev pub GoesPast : {X : Type 0} → Result Stand FormFault → (X → Result 
 GoesPast whole from (Ok x) = from x ≡ whole
 GoesPast whole from (Err fault) = Fails fault whole
 
--- behind the end
+-- after the end
 abbrev pub end_stand : List ℕ → Draft → ℕ → Stand
 end_stand text draft last = record { state = AtEnd; last = last; held = record { rules = rules_of text draft; current = current_of text draft; part = Nothing } }
 
@@ -240,7 +240,7 @@ abbrev pub IsHeadFault : Whole → List Mark → FormFault → Type 0
 IsHeadFault from marks (faults.Text place) = EndsAt from marks place
 IsHeadFault from marks _ = ⊥
 
--- the machine goes through all marks of the rules, and these are held behind them
+-- the machine goes through all marks of the rules, and these are held after them
 pub record AreRulesRead (heading : Heading) (marks : List Mark) (rules : List RuleForm) : Type 0 where
   pub ends : run (AtRules heading) 0 marks ≡ Ok AtEnd
   pub held : (held_behind (AtRules heading) marks nothing_held).rules ≡ rules

@@ -25,7 +25,7 @@ IsOtherNext symbol old fault = (mark : Mark) × (rest : List Mark) × (marks_lef
 abbrev pub IsNoNumberNext : Cursor → SchemaFault → Type 0
 IsNoNumberNext old fault = (mark : Mark) × (rest : List Mark) × (marks_left old ≡ mark ∷ rest) × ((n : ℕ) → mark.symbol ≢ Numeral n) × (fault ≡ faults.Text mark.place)
 
--- ---- a number behind a minus or without one
+-- ---- a number after a minus or without one
 
 abbrev pub minus_sign : Symbol
 minus_sign = Sign (codes "-")
@@ -35,7 +35,7 @@ abbrev pub signed_marks : Bool → ℕ → ℕ → ℕ → List Mark → List Ma
 signed_marks true at n place rest = record { symbol = minus_sign; place = at } ∷ record { symbol = Numeral n; place = place } ∷ rest
 signed_marks false at n place rest = record { symbol = Numeral n; place = place } ∷ rest
 
--- a number stands next, behind a minus or without one, where the greatest `u64` stands for one that is greater
+-- a number stands next, after a minus or without one, where the greatest `u64` stands for one that is greater
 abbrev pub IsSignedNext : Cursor → Bool → ℕ → ℕ → Cursor → Type 0
 IsSignedNext old minus size place new = (n at : ℕ) × (size ≡ min n (2 ^ 64 - 1)) × (marks_left old ≡ signed_marks minus at n place (marks_left new))
 

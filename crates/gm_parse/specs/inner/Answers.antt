@@ -109,7 +109,7 @@ abbrev pub Stops : ℕ → Spot → Cursor → SyntaxFault → Type 0
 Stops n spot old (syntax_faults.Text place) = EndsIn n spot old place
 Stops n spot old (syntax_faults.Limit what place) = (last : ℕ) → run_in n spot last (marks_left old) ≡ Err (Passes what place)
 
--- After a refusal the state stays where what stands next can't follow. Where it can and passes a limit, the state is the one behind it.
+-- After a refusal the state stays where what stands next can't follow. Where it can and passes a limit, the state is the one after it.
 abbrev pub LeavesState : Cursor → State → State → SyntaxFault → Type 0
 LeavesState cursor old new (syntax_faults.Text place) = new ≡ old
 LeavesState cursor old new (syntax_faults.Limit what place) = (next : Mark) × (others : List Mark) × (marks_left cursor ≡ next ∷ others) × (move old next.symbol ≡ Some new)

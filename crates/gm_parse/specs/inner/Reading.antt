@@ -85,7 +85,7 @@ start = state_at [] false (places.Operand needs.Any)
 abbrev pub at : State → Place → Option State
 at state place = Some (record state { place = place })
 
--- behind a further bracket a whole expression begins
+-- after a further bracket a whole expression begins
 abbrev pub opened : State → Bracket → State
 opened state bracket = state_at (bracket ∷ state.open_brackets) false (places.Operand needs.Any)
 
@@ -119,7 +119,7 @@ operand_move state need keys.Open = Some (opened state (brackets.Group state.com
 operand_move state need keys.If = if_move state need
 operand_move state need key = move_to state (operand_place need key)
 
--- ---- behind an operand
+-- ---- after an operand
 
 abbrev pub compare_move : State → Option State
 compare_move state = if state.compared then None else Some (state_at state.open_brackets true (places.Operand needs.Tight))
@@ -134,7 +134,7 @@ operator_move state ops.Div = at state (places.Operand needs.Tight)
 operator_move state ops.Rem = at state (places.Operand needs.Tight)
 operator_move state _ = compare_move state
 
--- behind the bracket it is as it was before it
+-- after the bracket it is as it was before it
 abbrev pub close_move : List Bracket → Option State
 close_move (brackets.Group compared ∷ others) = Some (state_at others compared places.Behind)
 close_move (brackets.Call compared ∷ others) = Some (state_at others compared places.Behind)
@@ -170,7 +170,7 @@ behind_name_move state key = behind_move state key
 
 -- ---- dart terms
 
--- a label of a path, or what stands behind the term
+-- a label of a path, or what stands after the term
 abbrev pub behind_node : Ending → Key → Option Place
 behind_node ending keys.At = Some (places.Step ending)
 behind_node endings.Comma keys.Comma = Some (places.Node endings.Close)
@@ -205,7 +205,7 @@ move_by state places.Behind key = behind_move state key
 move_by state places.BehindName key = behind_name_move state key
 move_by state place key = move_to state (term_place place key)
 
--- the state behind a symbol, where it can stand
+-- the state after a symbol, where it can stand
 abbrev pub move : State → Symbol → Option State
 move state symbol = move_by state state.place (key_of symbol)
 
@@ -236,7 +236,7 @@ role_at n state symbol place = key_role n state.place (key_of symbol) place
 
 -- ---- symbols are counted
 
--- behind so many symbols
+-- after so many symbols
 pub record Spot : Type 0 where
   pub count : ℕ
   pub state : State
@@ -262,7 +262,7 @@ never role = false
 
 -- ---- an expression before anything else
 
--- Behind an expression stands something with which it doesn't go on, and then anything.
+-- After an expression stands something with which it doesn't go on, and then anything.
 pub data Around : Type 0 where
   AtNext : Spot → Around
   AtRest : Around

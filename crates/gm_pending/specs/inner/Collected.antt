@@ -162,7 +162,7 @@ module _ (rewrite : RewriteOf) where
   abbrev pub all_removed : List Slot
   all_removed = concat_below removed_in rewrite.nodes
 
-  -- ---- the table of slots: those of the left nodes, by node and then by position, and behind them those of the new darts by their number
+  -- ---- the table of slots: those of the left nodes, by node and then by position, and after them those of the new darts by their number
 
   abbrev pub left_slots_of : ℕ → List Slot
   left_slots_of x = concat_below (λ p. slot_in rewrite.placed x p ∷ []) rewrite.placed.positions

@@ -25,13 +25,13 @@ ArePlansFor schema plans = All (IsPlanFor schema) plans
 
 -- ---- where memory was wanting
 
--- the map of the state, or where an `each` is next, that behind some of its applications, the first ones
+-- the map of the state, or where an `each` is next, that after some of its applications, the first ones
 pub data IsLeft (rules : List Rule) (state : State) (next : Option Stat) : Map → Type 0 where
   BehindAll : IsLeft rules state next state.map
   WithinEach : (mask : Mask) (rule : ℕ) (params : List Value) (leads : List ℕ) (some : ℕ) (turns : List Turn) (map : Map) → next ≡ Some (statements.Each mask rule params)
       → AreLeads state.map mask leads → AreTurns rules rule params state.map (take some leads) turns map → IsLeft rules state next map
 
--- Some of the statements were run, the first ones, and left this map. The steps are within the bounds of these and of the one behind them, where there is one.
+-- Some of the statements were run, the first ones, and left this map. The steps are within the bounds of these and of the one after them, where there is one.
 pub record IsCutShort (rules : List Rule) (before : Map) (stats : List Stat) (after : Map) (start steps : ℕ) : Type 0 where
   pub done : ℕ
   pub outcomes : List Outcome

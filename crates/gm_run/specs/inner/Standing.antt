@@ -135,7 +135,7 @@ pub record IsUnapplied (rules : List Rule) (before : Map) (line : Line) (after :
   pub same : after ≡ before
   pub most : (most : ℕ) → IsLineBudget rules before line most → steps ≤ start + most
 
--- what is remembered behind an application at the map
+-- what is remembered after an application at the map
 abbrev pub told_behind : Outcome → Map → History → History
 told_behind (outcomes.Done applied) map told = done_at map told
 told_behind _ map told = told
@@ -145,7 +145,7 @@ abbrev pub entered_by : Outcome → Option Group → ℕ → Entries → Entries
 entered_by (outcomes.Done applied) group most entries = entered group most entries
 entered_by _ group most entries = entries
 
--- the open group behind an application: one that is refused breaks it
+-- the open group after an application: one that is refused breaks it
 abbrev pub group_behind : Outcome → Open → Open
 group_behind (outcomes.Refused refusal) opens.Whole = opens.Broken
 group_behind _ opened = opened

@@ -37,7 +37,7 @@ HasTurn rules rule params before d (Some outcome) after start steps = IsDart bef
 abbrev pub StopsAtTurn : List Rule → ℕ → List Value → Map → ℕ → Map → ℕ → ℕ → Type 0
 StopsAtTurn rules rule params before d after start steps = IsDart before d × IsUnapplied rules before (line_at rule params d) after (start + 1) steps
 
--- what is remembered behind a turn at the map
+-- what is remembered after a turn at the map
 abbrev pub told_by : Option Outcome → Map → History → History
 told_by None map history = history
 told_by (Some outcome) map history = told_behind outcome map history
@@ -76,7 +76,7 @@ pub record HaveTurns (rules : List Rule) (rule : ℕ) (params : List Value) (bef
   pub least : start + costs.least ≤ steps
   pub most : steps ≤ start + costs.most + length leads
 
--- Memory was wanting behind some of the turns, the first ones. The steps are within whatever all of them cost at a map alike.
+-- Memory was wanting after some of the turns, the first ones. The steps are within whatever all of them cost at a map alike.
 pub record StopsWithin (rules : List Rule) (rule : ℕ) (params : List Value) (before : Map) (leads : List ℕ) (after : Map) (start steps : ℕ) : Type 0 where
   pub some : ℕ
   pub turns : List Turn

@@ -132,7 +132,7 @@ next_signed behind spot sights.Minus = Some behind
 next_signed behind spot (sights.Number n) = Some spot
 next_signed behind spot _ = None
 
--- where it stands behind its minus
+-- where it stands after its minus
 abbrev pub next_number : Spot → Sight → Option Spot
 next_number spot (sights.Number n) = Some spot
 next_number spot _ = None
@@ -177,7 +177,7 @@ next_part spots.Second sight = next_third sight
 next_part spots.SecondMinus sight = next_number spots.Third sight
 next_part spots.Third sight = next_close sight
 
--- behind the spot, in a group or not
+-- after the spot, in a group or not
 abbrev pub next_spot : Bool → Spot → Sight → Option Spot
 next_spot within spot (sights.Begins head) = next_word within spot head
 next_spot within spot sight = next_part spot sight
@@ -188,7 +188,7 @@ wants_name spots.Apply = true
 wants_name spots.Over = true
 wants_name _ = false
 
--- behind a minus
+-- after a minus
 abbrev pub is_minus : Spot → Bool
 is_minus spots.Minus = true
 is_minus spots.OpenMinus = true
@@ -217,9 +217,9 @@ pub record Been : Type 0 where
   pub labels : Mask
 
 pub data State : Type 0 where
-  -- behind what was read last, where so much has been
+  -- after what was read last, where so much has been
   At : Spot → Been → State
-  -- behind the end of the text
+  -- after the end of the text
   Ended : State
 
 -- before anything was read
@@ -229,7 +229,7 @@ no_been = record { begun = 0; within = false; labels = no_labels }
 abbrev pub first_state : State
 first_state = At spots.Start no_been
 
--- whether a group is open behind the word
+-- whether a group is open after the word
 abbrev pub within_behind : Head → Bool → Bool
 within_behind heads.Group within = true
 within_behind heads.End within = false
@@ -241,12 +241,12 @@ begun_behind head been = record { begun = been.begun + 1; within = within_behind
 abbrev pub labelled : ℕ → Been → Been
 labelled label been = record { begun = been.begun; within = been.within; labels = with_label been.labels label }
 
--- behind a label
+-- after a label
 abbrev pub labelled_by : Symbol → Been → Been
 labelled_by (Numeral label) been = labelled label been
 labelled_by _ been = been
 
--- behind what is seen in the symbol
+-- after what is seen in the symbol
 abbrev pub been_behind : Spot → Sight → Symbol → Been → Been
 been_behind spots.Apply sight symbol been = been
 been_behind spots.Over sight symbol been = been
@@ -379,7 +379,7 @@ abbrev pub hold_vector : Spot → Held → Held
 hold_vector spots.Second held = with_value (values.Vec2 held.x held.y) held
 hold_vector _ held = with_value (values.Vec3 held.x held.y held.z) held
 
--- what is held behind what is seen in the token, where that can stand there
+-- what is held after what is seen in the token, where that can stand there
 abbrev pub hold : Spot → Sight → Token → Held → Held
 hold spot sights.Name token held = named token held
 hold spot (sights.Begins head) token held = hold_head spot head token held
@@ -401,12 +401,12 @@ before_head spots.Apply stat = None
 before_head spots.Over stat = None
 before_head spot stat = whole_stat spot stat
 
--- the statement that ends where this is seen behind the spot
+-- the statement that ends where this is seen after the spot
 abbrev pub ended_by : Spot → Sight → HeldStat → Option HeldStat
 ended_by spot (sights.Begins head) stat = before_head spot stat
 ended_by spot _ stat = None
 
--- the statement, if there is one, and the others behind it
+-- the statement, if there is one, and the others after it
 abbrev pub put_first : Option HeldStat → List HeldStat → List HeldStat
 put_first None stats = stats
 put_first (Some stat) stats = stat ∷ stats

@@ -9,7 +9,7 @@ digit_of b = (b + (256 - 48)) % 256
 abbrev pub is_small : ℕ → Bool
 is_small digit = not (nat_le 10 digit)
 
--- the number that the digits make behind those of this number
+-- the number that the digits make after those of this number
 abbrev pub number_behind : ℕ → List ℕ → ℕ
 number_behind n [] = n
 number_behind n (digit ∷ digits) = number_behind (n * 10 + digit) digits

@@ -11,7 +11,7 @@ use Rattle.gm_text.specs.inner.Cursor.{Cursor}
 abbrev pub rest_of : Cursor → List Item
 rest_of cursor = items_at cursor.text cursor.place
 
--- the answer as an item, and behind a token these items
+-- the answer as an item, and after a token these items
 abbrev pub items_read : List ℕ → Result (Option Token) LexFault → List Item → List Item
 items_read text (Ok (Some token)) items = Lexed token ∷ items
 items_read text (Ok None) items = EndAt (length text) ∷ []
@@ -23,7 +23,7 @@ after (Ok (Some token)) cursor = record cursor { place = token.end }
 after (Ok None) cursor = record cursor { place = length cursor.text }
 after (Err fault) cursor = cursor
 
--- from the one lexer to the other tokens alone were gone past, and the new one stands directly behind the last of them
+-- from the one lexer to the other tokens alone were gone past, and the new one stands directly after the last of them
 pub record IsBehindToken (old new : Cursor) : Type 0 where
   pub before : List Item
   pub token : Token
@@ -53,7 +53,7 @@ stand_of text (Ok (Some token)) = token.start
 stand_of text (Ok None) = length text
 stand_of text (Err fault) = fault.place
 
--- the answer stands at or behind the place, and lies in the text
+-- the answer stands at or after the place, and lies in the text
 abbrev pub IsInText : Cursor → Result (Option Token) LexFault → Type 0
 IsInText cursor (Ok (Some token)) =
     (cursor.place ≤ token.start) × (token.start < token.end) × (token.end ≤ length cursor.text)

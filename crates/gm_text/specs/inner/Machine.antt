@@ -15,7 +15,7 @@ abbrev pub ◌>>=◌ : {A B E : Type 0} → Result A E → (A → Result B E) �
 (Ok x) >>= f = f x
 (Err stop) >>= f = Err stop
 
--- A grammar by its states: the role that a symbol has in a state where it stands at a place, and the state behind it,
+-- A grammar by its states: the role that a symbol has in a state where it stands at a place, and the state after it,
 -- or none where it can't follow.
 module _ {Role State What : Type 0} (limit_of : Role → Symbol → Option What) (stands_before : Role → Bool) (role : State → Symbol → ℕ → Role) (move : State → Symbol → Option State) where
   -- the parts lead from the one state to the other
@@ -34,7 +34,7 @@ module _ {Role State What : Type 0} (limit_of : Role → Symbol → Option What)
 
   -- ---- reading
 
-  -- what one mark comes to, by the state behind it and the limit that it passes
+  -- what one mark comes to, by the state after it and the limit that it passes
   abbrev pub taken : State → Mark → ℕ → Option State → Option What → Result State (Stop State What)
   taken state mark place None limit = Err (Ends state mark)
   taken state mark place (Some next) (Some what) = Err (Passes what place)
@@ -47,7 +47,7 @@ module _ {Role State What : Type 0} (limit_of : Role → Symbol → Option What)
   abbrev pub step : State → ℕ → Mark → Result State (Stop State What)
   step state last mark = taken state mark (limit_place state last mark) (move state mark.symbol) (limit_of (role state mark.symbol mark.place) mark.symbol)
 
-  -- all marks, behind one at the place `last`
+  -- all marks, after one at the place `last`
   abbrev pub run : State → ℕ → List Mark → Result State (Stop State What)
   run state last [] = Ok state
   run state last (mark ∷ marks) = step state last mark >>= λ next. run next mark.place marks

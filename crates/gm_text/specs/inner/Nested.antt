@@ -50,7 +50,7 @@ module _ {Outer Inner Role InnerRole : Type 0} (nesting : Nesting Outer Inner Ro
 
     -- ---- one inner part in each sentence
 
-    -- how the sentences are told apart: what stands before the inner part and leads into it, the inner part, and what stands behind
+    -- how the sentences are told apart: what stands before the inner part and leads into it, the inner part, and what stands after
     module _ (IsFront : List (Part Role) → Inner → Type 0) (IsInner : Inner → List (Part InnerRole) → Inner → Type 0) (IsBack : Outer → List (Part Role) → Type 0) where
       pub record IsNestedSentence (parts : List (Part Role)) : Type 0 where
         pub front : List (Part Role)
@@ -72,7 +72,7 @@ module _ {Outer Inner Role InnerRole : Type 0} (nesting : Nesting Outer Inner Ro
         pub inner : (front : List (Part Role)) (inner last : Inner) (parts : List (Part InnerRole)) → IsFront front inner → LeadsInside inner parts last → IsTrue (nesting.is_whole last) → IsInner inner parts last
         pub back_leads : (outer : Outer) (parts : List (Part Role)) → IsBack outer parts → LeadsNested (Outside outer) parts (Outside last)
         pub back : (outer : Outer) (parts : List (Part Role)) → LeadsNested (Outside outer) parts (Outside last) → IsBack outer parts
-        -- something stands behind each inner part
+        -- something stands after each inner part
         pub more : (inner : Inner) → nesting.behind inner ≡ last → ⊥
         pub inner_goes_on : (inner : Inner) → (rest : List (Part InnerRole)) × (last : Inner) × LeadsInside inner rest last × IsTrue (nesting.is_whole last)
         pub outer_goes_on : (outer : Outer) → (rest : List (Part Role)) × LeadsNested (Outside outer) rest (Outside last)

@@ -121,7 +121,7 @@ pub record IsEmbedNext (old new : Cursor) (place : ℕ) : Type 0 where
   pub within : new.place ≤ length new.text
   pub behind : IsBehindToken old new
 
--- a further embedding behind so many, or none
+-- a further embedding after so many, or none
 abbrev pub ReadsEmbed : Bool → ℕ → ℕ → List Embed → Cursor → Cursor → Option Embed → Type 0
 ReadsEmbed strict n count known old new (Some embed) = (declared : List Embed) → length declared ≡ count → IsKnown strict known declared → Reads strict (AtEmbeds n declared) old new (AtEmbeds n (declared ++ embed ∷ []))
 ReadsEmbed strict n count known old new None = IsNoEmbedNext old new
@@ -158,7 +158,7 @@ symbol_at text token = symbol_of_kind token.kind (bytes_of text token)
 abbrev pub mark_at : List ℕ → Token → Mark
 mark_at text token = record { symbol = symbol_at text token; place = token.start }
 
--- the token stands next, and the lexer goes directly behind it
+-- the token stands next, and the lexer goes to the place directly after it
 pub record IsNext (old : Cursor) (token : Token) (new : Cursor) : Type 0 where
   pub sound : IsToken new.text token
   pub items : rest_of old ≡ Lexed token ∷ rest_of new

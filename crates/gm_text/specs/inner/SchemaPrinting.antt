@@ -8,7 +8,7 @@ use Rattle.gm_model.specs.Symbols.{Symbol, Word, Mark, symbols, symbols_of, mark
 use Rattle.gm_text.specs.SchemaText.{SchemaForm, passed_of, schema_of}
 use Rattle.gm_text.specs.inner.SchemaReading.{Stands}
 
--- Memory was wanting within the text: behind what was there stands a front of it.
+-- Memory was wanting within the text: after what was there stands a front of it.
 pub record IsCut (before text after : List ℕ) : Type 0 where
   pub front : List ℕ
   pub rest : List ℕ

@@ -16,12 +16,12 @@ pub data State : Type 0 where
   -- before the word `dim`, and before the dimension
   AtDim : State
   AtTop : State
-  -- behind the dimension and these embeddings
+  -- after the dimension and these embeddings
   AtEmbeds : ℕ → List Embed → State
-  -- in a further one, before its name, and behind it
+  -- in a further one, before its name, and after it
   AtName : ℕ → List Embed → State
   AtOrbit : ℕ → List Embed → List ℕ → State
-  -- in its orbit behind these labels, and behind the orbit
+  -- in its orbit after these labels, and after the orbit
   AtLabel : ℕ → List Embed → List ℕ → Mask → State
   AtKind : ℕ → List Embed → List ℕ → Mask → State
 
@@ -52,7 +52,7 @@ expect wanted found next = if bytes_eq found wanted then Some next else None
 abbrev pub with_kind : ℕ → List Embed → List ℕ → Mask → Kind → State
 with_kind n declared name mask kind = AtEmbeds n (declared ++ record { name = name; mask = mask; kind = kind } ∷ [])
 
--- the state behind a symbol, where it can stand
+-- the state after a symbol, where it can stand
 abbrev pub move : State → Symbol → Option State
 move AtDim (Word word) = expect (codes "dim") word AtTop
 move AtTop (Numeral n) = Some (AtEmbeds n [])
@@ -71,7 +71,7 @@ is_whole _ = false
 
 -- ---- a schema before anything else
 
--- Behind a schema stands something that begins no further embedding, and then anything.
+-- After a schema stands something that begins no further embedding, and then anything.
 pub data Around : Type 0 where
   AtNext : Around
   AtRest : Around
@@ -95,7 +95,7 @@ standing = record {
 abbrev pub never : Role → Bool
 never role = false
 
--- The marks begin with this form, which passes nothing, and these are left behind it: no further embedding begins there.
+-- The marks begin with this form, which passes nothing, and these are left after it: no further embedding begins there.
 pub record Stands {What : Type 0} (passed_of : Role → Symbol → Option What) (form : SchemaForm) (marks rest : List Mark) : Type 0 where
   pub before : List Mark
   pub split : marks ≡ before ++ rest

@@ -15,7 +15,7 @@ pub record Counts : Type 0 where
   pub loads : ℕ
   pub steps : ℕ
 
--- the map and the book are read from their files, by two loads: what was counted before the first of them, and how much behind the second
+-- the map and the book are read from their files, by two loads: what was counted before the first of them, and how much after the second
 pub record HasBegun (contents : Contents) (named : RunNames) (read : MapRead) (book : Book) (start : Counts) (faults loads steps : ℕ) : Type 0 where
   pub the_map : IsFrom contents TheMap named.map IsReadMap IsBadMap (Unit {0}) (Ok read)
   pub the_book : IsFrom contents TheBook named.book IsReadBook IsBadBook (Unit {0}) (Ok book)

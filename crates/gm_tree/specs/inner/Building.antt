@@ -71,7 +71,7 @@ pub data Part : Type 0 where
   Nothing : Part
   Value : Tree → Part
   Name : Named → Part
-  -- in an orbit, before a dart term, behind one, and behind the embedding that is read at it
+  -- in an orbit, before a dart term, after one, and after the embedding that is read at it
   InOrbit : Head → Mask → Part
   BeforeTerm : Lead → Part
   BehindTerm : Lead → DartTerm → Part
@@ -154,7 +154,7 @@ closed NotOf tree = Unary unary.Not tree
 closed (ElseOf c a) tree = If c a tree
 closed _ tree = tree
 
--- frames with an operand behind them
+-- frames with an operand after them
 pub record Held : Type 0 where
   pub frames : List Frame
   pub tree : Tree
@@ -172,7 +172,7 @@ abbrev pub reduced : ℕ → List Frame → Tree → Held
 reduced level [] tree = held [] tree
 reduced level (frame ∷ frames) tree = if nat_le (least_in frame) level then held (frame ∷ frames) tree else reduced level frames (closed frame tree)
 
--- ---- behind an operand
+-- ---- after an operand
 
 -- whether the callee takes so many arguments, or else its place
 abbrev pub misfit_of : Callee → ℕ → Option ℕ
@@ -205,7 +205,7 @@ close_bracket [] least tree = work [] least (Value tree)
 abbrev pub close_held : Option NameFault → Held → Work
 close_held least to = close_bracket to.frames least to.tree
 
--- a bracket whose next part begins behind the operand
+-- a bracket whose next part begins after the operand
 abbrev pub next_frame : Key → Frame → Tree → Frame
 next_frame keys.Comma (FirstOf callee) tree = SecondOf callee tree
 next_frame keys.Comma (SecondOf callee a) tree = ThirdOf callee a tree
@@ -316,7 +316,7 @@ module _ (names : Names) where
   abbrev pub named_at : List ℕ → ℕ → Named
   named_at name place = record { place = place; param = number_of names.params name; node = node_of name; function = function_named name }
 
-  -- what is read of the operand behind its first symbol, which is no bracket and no operator
+  -- what is read of the operand after its first symbol, which is no bracket and no operator
   abbrev pub begin_part : Key → Mark → Part
   begin_part keys.Number mark = Value (Number (pos (size_in mark.symbol)))
   begin_part (keys.Truth b) mark = Value (Truth b)
@@ -341,7 +341,7 @@ module _ (names : Names) where
   before_term frames least lead keys.Name mark = term_in frames least lead (word_in mark.symbol) mark.place
   before_term frames least lead _ mark = work frames least (BeforeTerm lead)
 
-  -- the embedding of a field behind the term, at the place
+  -- the embedding of a field after the term, at the place
   abbrev pub field_in : List Frame → Option NameFault → Lead → DartTerm → List ℕ → ℕ → Work
   field_in frames least lead term name place = work frames (missed least place (embed_of name)) (field_part lead term (unwrap_or (embed_of name) 0))
 
@@ -361,11 +361,11 @@ module _ (names : Names) where
   take_in frames least (BehindTerm lead term) key mark = behind_term frames least lead term key mark
   take_in frames least (BehindField collector mask term embed) key mark = work frames least (field_end key collector mask term embed)
 
-  -- the work behind a mark
+  -- the work after a mark
   abbrev pub built : Work → Mark → Work
   built w mark = take_in w.frames w.fault w.part (key_of mark.symbol) mark
 
-  -- and behind marks
+  -- and after marks
   abbrev pub built_all : Work → List Mark → Work
   built_all w [] = w
   built_all w (mark ∷ marks) = built_all (built w mark) marks

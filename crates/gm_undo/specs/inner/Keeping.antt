@@ -13,7 +13,7 @@ pub record HasMoreRows (old new : RowsOf) : Type 0 where
   pub room : new.room ≡ old.room
   pub long : length old.rows ≤ length new.rows
 
--- behind the old rows stands one for each slot, none of which stays as yet
+-- after the old rows stands one for each slot, none of which stays as yet
 pub record AreTouchedKept (m : ArenaMap) (slots : List Slot) (old new : RowsOf) : Type 0 where
   pub more : HasMoreRows old new
   pub count : length new.rows ≡ length old.rows + length slots
@@ -23,7 +23,7 @@ pub record AreTouchedKept (m : ArenaMap) (slots : List Slot) (old new : RowsOf) 
   pub stays : (k : ℕ) → k < length slots → (row_in new.rows (length old.rows + k)).stays ≡ false
 
 -- Of the rows from `first` to `end`, which are the last of the old ones, each tells whether its dart is in the arena, and
--- behind them stand the rows of those that are.
+-- after them stand the rows of those that are.
 pub record AreBehindKept (m : ArenaMap) (first end : ℕ) (old new : RowsOf) : Type 0 where
   pub more : HasMoreRows old new
   pub few : length new.rows ≤ end + (end - first)
@@ -37,7 +37,7 @@ pub record AreBehindKept (m : ArenaMap) (first end : ℕ) (old new : RowsOf) : T
   pub all : (k : ℕ) → first ≤ k → k < end → IsLiveName m (row_in old.rows k).name → (j : ℕ) × (end ≤ j) × (j < length new.rows) × ((row_in new.rows j).name ≡ (row_in old.rows k).name)
   pub once : AreOnce old.rows first end → AreOnce new.rows end (length new.rows)
 
--- behind the old rows stand those of so many darts from the name on
+-- after the old rows stand those of so many darts from the name on
 pub record AreAddedKept (m : ArenaMap) (first added : ℕ) (old new : RowsOf) : Type 0 where
   pub more : HasMoreRows old new
   pub count : length new.rows ≡ length old.rows + added

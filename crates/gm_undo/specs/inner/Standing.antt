@@ -75,7 +75,7 @@ pub record LeadsTo (change : Change) (old new : Rows) : Type 0 where
 
 -- ---- entries
 
--- whether an entry begins with the change of this number, or behind the last one
+-- whether an entry begins with the change of this number, or after the last one
 pub record BeginsAt (changes : List Change) (k : ℕ) : Type 0 where
   pub within : k ≤ length changes
   pub begins : (change : Change) → slice_get changes k ≡ Some change → change.begins ≡ true
@@ -125,7 +125,7 @@ pub record AreChained (changes : List Change) (m : ArenaMap) (rows : ℕ → Row
   pub room : (k : ℕ) → k ≤ length changes → HasRoomFor m (rows k)
   pub here : rows at ≡ rows_in m
 
--- the arena has the rows behind the changes that are made, and those that are kept are of its maps
+-- the arena has the rows after the changes that are made, and those that are kept are of its maps
 pub record AreHeld (history : HistoryOf) (m : ArenaMap) (rows : ℕ → Rows) : Type 0 where
   pub shape : 0 < length history.changes → (history.labels ≡ m.schema.dim + 1) × (history.width ≡ length m.schema.embeds)
   pub within : history.made ≤ length history.changes
@@ -134,7 +134,7 @@ pub record AreHeld (history : HistoryOf) (m : ArenaMap) (rows : ℕ → Rows) : 
 -- Beside this arena: the maps where entries begin that are made, and where those end that were taken back, are those to
 -- which undo and redo lead.
 pub record StandsFor (history : HistoryOf) (m : ArenaMap) (told : History) : Type 0 where
-  -- the rows before each change, and behind the last one
+  -- the rows before each change, and after the last one
   pub rows : ℕ → Rows
   pub held : AreHeld history m rows
   -- no entry is cut by what is made

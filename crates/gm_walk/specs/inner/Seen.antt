@@ -26,7 +26,7 @@ pub record HasLettersOf (o : Labels) (word : List Letter) : Type 0 where
 abbrev pub IsClosed : ArenaMap → List Letter → List ℕ → Type 0
 IsClosed m word darts = (d place : ℕ) → Contains darts d → place < length word → Contains darts (along m word d place)
 
--- The new list has d, and nothing behind the old one but darts of its orbit. Of each of these it has the neighbours.
+-- The new list has d, and nothing after the old one but darts of its orbit. Of each of these it has the neighbours.
 pub record HasGrownBy (m : ArenaMap) (word : List Letter) (d : ℕ) (old new : List ℕ) : Type 0 where
   pub longer : length old ≤ length new
   pub front : (p : ℕ) → p < length old → slice_index new p ≡ slice_index old p
@@ -34,7 +34,7 @@ pub record HasGrownBy (m : ArenaMap) (word : List Letter) (d : ℕ) (old new : L
   pub closed : (p place : ℕ) → length old ≤ p → p < length new → place < length word → Contains new (along m word (slice_index new p) place)
   pub only : (o : Labels) → HasLettersOf o word → (p : ℕ) → length old ≤ p → p < length new → IsInOrbit (alpha m) o d (slice_index new p)
 
--- The new list has the neighbour of d along the first label, and nothing behind the old one but darts to which the two labels
+-- The new list has the neighbour of d along the first label, and nothing after the old one but darts to which the two labels
 -- lead from d. Of each of these it has both neighbours.
 pub record HasFollowed (m : ArenaMap) (first second d : ℕ) (old new : List ℕ) : Type 0 where
   pub longer : length old ≤ length new
