@@ -37,7 +37,7 @@ use std::sync::ledger::Ledger;
 /// it is read at, and nothing at the later ones.
 ///
 /// The arena has a sound map again, whatever the answer is, and after a refusal the same one.
-/// Where memory was wanting, its spare and reserved names may have risen, but not past what the
+/// Where memory ran out, its spare and reserved names may have risen, but not past what the
 /// result takes. The scratch may have grown.
 pub fn apply<L: Ledger>(
     alloc: Global,

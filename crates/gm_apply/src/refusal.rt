@@ -45,7 +45,7 @@ pub enum Refusal {
         embed: u8,
         node: u8,
     },
-    /// Memory was wanting, which says nothing of the application.
+    /// Memory ran out, which says nothing of the application.
     OutOfMemory,
 }
 

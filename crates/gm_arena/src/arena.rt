@@ -661,7 +661,7 @@ fn put_slots(slots: &mut Vec<Slot>, numbers: &[u32])
 }
 
 /// Adds the places of so many names, the name of each being its slot. A slab does not say which key
-/// comes next, so the keys are compared, and one that is another is taken for want of memory.
+/// comes next, so the keys are compared, and one that is another counts as memory that ran out.
 fn number_places(places: &mut Slab<Place>, count: usize) -> Result<(), OutOfMemory>
     requires none { places.old.slots ≡ [] }
     requires room { count ≤ places.old.capacity }

@@ -30,7 +30,7 @@ pub enum BookFault {
     /// precondition needs, or has none.
     #[error("an expression of the wrong kind")]
     WrongKind { place: usize },
-    /// Memory was wanting, which says nothing of the text.
+    /// Memory ran out, which says nothing of the text.
     #[error("out of memory")]
     OutOfMemory,
 }

@@ -11,8 +11,8 @@ use gm_model::{BinOp, Expr, OutOfMemory, Param, RuleTable, Schema, UnOp};
 use gm_parse::least_on_right;
 use gm_text::Text;
 
-/// Appends the canonical text of an expression of the rule, over the schema. Where memory is
-/// wanting, it appends a front of that text.
+/// Appends the canonical text of an expression of the rule, over the schema. Where memory
+/// runs out, it appends a front of that text.
 #[cycle(print)]
 pub fn print_expr(
     out: &mut Text,

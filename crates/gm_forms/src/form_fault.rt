@@ -4,7 +4,7 @@ use gm_model::LimitKind;
 use gm_parse::SyntaxFault;
 use std::alloc::{AllocError, AllocFailed};
 
-/// Why a text has no form: its first fault from left to right, or want of memory.
+/// Why a text has no form: its first fault from left to right, or that memory ran out.
 #[derive(Drop)]
 pub enum FormFault {
     /// No text of a book goes on with what stands at the place.

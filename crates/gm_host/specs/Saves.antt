@@ -20,7 +20,7 @@ module _ {T : Type 0} where
   IsFailed (Err Failed) = Unit {0}
   IsFailed _ = ⊥
 
-  -- the answer is want of memory
+  -- the answer is that memory ran out
   abbrev pub IsOutOfMemory : Result T SaveFault → Type 0
   IsOutOfMemory (Err OutOfMemory) = Unit {0}
   IsOutOfMemory _ = ⊥
@@ -30,7 +30,7 @@ module _ {T : Type 0} where
   OnFailed (Err Failed) P = P
   OnFailed _ P = Unit {0}
 
-  -- the fact, where the answer is want of memory
+  -- the fact, where the answer is that memory ran out
   abbrev pub OnOutOfMemory : Result T SaveFault → Type 0 → Type 0
   OnOutOfMemory (Err OutOfMemory) P = P
   OnOutOfMemory _ P = Unit {0}

@@ -67,7 +67,7 @@ module _ {T : Type 0} where
   IfTooLong (Err (TooLong seen)) P = P seen
   IfTooLong _ P = Unit {0}
 
-  -- the answer is `Absent`, unless the store failed or memory was wanting
+  -- the answer is `Absent`, unless the store failed or memory ran out
   abbrev pub IsAbsentUnlessFailing : Result T LoadFault → Type 0
   IsAbsentUnlessFailing (Ok bytes) = ⊥
   IsAbsentUnlessFailing (Err (TooLong seen)) = ⊥
@@ -75,7 +75,7 @@ module _ {T : Type 0} where
   IsAbsentUnlessFailing (Err Failed) = Unit {0}
   IsAbsentUnlessFailing (Err OutOfMemory) = Unit {0}
 
-  -- the answer is `TooLong`, unless the store failed or memory was wanting
+  -- the answer is `TooLong`, unless the store failed or memory ran out
   abbrev pub IsTooLongUnlessFailing : Result T LoadFault → Type 0
   IsTooLongUnlessFailing (Ok bytes) = ⊥
   IsTooLongUnlessFailing (Err Absent) = ⊥

@@ -18,7 +18,7 @@ pub enum LoadFault {
         /// The first bytes of the file, one more than the limit.
         seen: Items<u8>,
     },
-    /// Memory was wanting.
+    /// Memory ran out.
     OutOfMemory,
 }
 
@@ -38,7 +38,7 @@ pub enum SaveFault {
     /// The store failed, which its count of failed saves shows. The file is as it was, or has some of
     /// the first bytes.
     Failed,
-    /// Memory was wanting, and nothing changed.
+    /// Memory ran out, and nothing changed.
     OutOfMemory,
 }
 
@@ -68,7 +68,7 @@ pub enum PutFault {
     /// The sink failed, which its count of faults shows. Some of the first bytes may have been
     /// appended.
     Failed,
-    /// Memory was wanting, and nothing was appended.
+    /// Memory ran out, and nothing was appended.
     OutOfMemory,
 }
 

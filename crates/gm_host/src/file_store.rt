@@ -29,8 +29,8 @@ use std::marker::Model;
 ///
 /// What is no regular file, as a device, a pipe or a link to nothing, is written through: there a save
 /// that is `Failed` may have written some of the bytes. A file that the standard output goes to is
-/// `Failed` before anything is written. Only the target of a link takes memory, and where that is
-/// wanting the save is `Failed`.
+/// `Failed` before anything is written. Only the target of a link takes memory, and where that
+/// runs out the save is `Failed`.
 #[derive(Drop)]
 pub struct FileStore<'r, R> {
     rt: &'r R,

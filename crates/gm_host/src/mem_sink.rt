@@ -17,7 +17,7 @@ use std::marker::Model;
 /// A sink in memory, whose puts fail where a test names them.
 ///
 /// Puts are numbered from 0 in the order in which they come, whatever they answer. A put fails
-/// exactly where its number was named by [`MemSink::fail_put`], unless memory is wanting for the
+/// exactly where its number was named by [`MemSink::fail_put`], unless memory runs out for the
 /// bytes that it keeps.
 #[derive(Drop)]
 pub struct MemSink {

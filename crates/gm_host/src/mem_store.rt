@@ -22,7 +22,7 @@ use std::marker::Model;
 ///
 /// Loads are numbered from 0 in the order in which they come, whatever they answer, and saves
 /// likewise. A load fails exactly where its number was named by [`MemStore::fail_load`]. A save fails
-/// exactly where its number was named by [`MemStore::fail_save`], unless memory is wanting for the
+/// exactly where its number was named by [`MemStore::fail_save`], unless memory runs out for the
 /// bytes that it keeps.
 #[derive(Drop)]
 pub struct MemStore {

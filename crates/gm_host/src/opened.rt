@@ -88,8 +88,8 @@ fn read_again<F: Read>(file: &mut F, room: &mut [u8]) -> io::Result<usize>
 }
 
 /// An empty vector with room for what the file says that it holds, and for one byte more, so that
-/// the read that finds the end needs no other room. Where the file does not say, or the memory is
-/// wanting, it has no room.
+/// the read that finds the end needs no other room. Where the file does not say, or memory runs
+/// out, it has no room.
 fn room_for<F: OpenFile>(file: &F, alloc: Global, limit: usize) -> Vec<u8>
     ensures empty { result.items ≡ [] }
     ensures room { vec_capacity result ≤ limit + 1 }

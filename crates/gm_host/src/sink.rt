@@ -11,7 +11,7 @@ use crate::fault::PutFault;
 /// Contracts see the bytes written so far, or that the sink does not tell. They see how many puts there
 /// were, whatever they answered, and a count of faults that rises where a put answers `Failed`. A count
 /// that has reached 18,446,744,073,709,551,615 stays there, and counts as risen from then on. They also
-/// see of which types of sink no put ever answers want of memory.
+/// see of which types of sink no put ever answers that memory ran out.
 pub trait Sink {
     ghost written: { Self → Option (List ℕ) };
 

@@ -14,7 +14,7 @@ use gm_script::ScriptFault;
 use gm_text::Text;
 use std::alloc::Global;
 
-/// The line that refuses a map, with its line end. There is none for want of memory.
+/// The line that refuses a map, with its line end. There is none where memory ran out.
 pub fn map_line(alloc: Global, no_map: NoMap) -> Result<Vec<u8>, OutOfMemory>
     ensures { IfOk result (λ line. (bytes : List ℕ) → IsWhyNot bytes no_map → IsBadLine bytes TheMap line.items) }
 {
@@ -64,7 +64,7 @@ fn put_change(text: &mut Text, name: &[u8], dart: u32, other: u32) -> Result<(),
     put_at(text, b" ", u64::from(other))
 }
 
-/// The line that refuses a book, with its line end. There is none for want of memory.
+/// The line that refuses a book, with its line end. There is none where memory ran out.
 pub fn book_line(alloc: Global, fault: BookFault) -> Result<Vec<u8>, OutOfMemory>
     ensures { IfOk result (λ line. IsSaidOfBook fault × (line.items ≡ refusal (codes "BOOK" ++ codes " " ++ book_words fault))) }
 {
@@ -88,7 +88,7 @@ fn put_book_fault(text: &mut Text, fault: BookFault) -> Result<(), OutOfMemory>
     }
 }
 
-/// The line that refuses a script, with its line end. There is none for want of memory.
+/// The line that refuses a script, with its line end. There is none where memory ran out.
 pub fn script_line(alloc: Global, fault: ScriptFault) -> Result<Vec<u8>, OutOfMemory>
     ensures { IfOk result (λ line. IsSaidOfScript fault × (line.items ≡ refusal (codes "SCRIPT" ++ codes " " ++ script_words fault))) }
 {

@@ -173,7 +173,7 @@ pub record Reads (state : Whole) (old new : Cursor) (to : Whole) : Type 0 where
 abbrev pub EndsAt : Whole → Cursor → ℕ → Type 0
 EndsAt state old place = (stop : Whole) × (mark : Mark) × (mark.place ≡ place) × (run_from state (marks_left old) ≡ Err (Ends stop mark))
 
--- from the state on the fault is the first; want of memory says nothing
+-- from the state on the fault is the first; that memory ran out says nothing
 abbrev pub Stops : Whole → Cursor → SchemaFault → Type 0
 Stops state old (faults.Text place) = EndsAt state old place
 Stops state old (faults.Limit what place) = run_from state (marks_left old) ≡ Err (Passes (LimitOf what) place)
@@ -190,7 +190,7 @@ among head taken wants = Outside (AtNumbers head taken wants)
 abbrev pub Takes : List Want → List ℤ → Cursor → Cursor → Type 0
 Takes wanted numbers old new = (head : Head) (taken : List ℤ) (wants : List Want) → Reads (among head taken (wanted ++ wants)) old new (among head (taken ++ numbers) wants)
 
--- what is wanted isn't there and the fault is the first, or memory was wanting
+-- what is wanted isn't there and the fault is the first, or memory ran out
 abbrev pub Misses : List Want → Cursor → SchemaFault → Type 0
 Misses wanted old fault = (head : Head) (taken : List ℤ) (wants : List Want) → Stops (among head taken (wanted ++ wants)) old fault
 

@@ -32,7 +32,7 @@ pub enum MapFault {
     /// The first breach of the laws of a map.
     #[error("a law of maps is broken")]
     Breach(MapBreach),
-    /// Memory was wanting, which says nothing of the text.
+    /// Memory ran out, which says nothing of the text.
     #[error("out of memory")]
     OutOfMemory,
 }

@@ -5,7 +5,7 @@ ghost use Rattle.gm_model.specs.declared.memory.OutOfMemory.{OutOfMemory};
 
 use std::alloc::{AllocError, AllocFailed};
 
-/// Memory was wanting. Whoever answers this has left what was lent to it unchanged, unless its
+/// Memory ran out. Whoever answers this has left what was lent to it unchanged, unless its
 /// documentation says otherwise.
 #[derive(Clone, Copy, Debug, PartialEq, Eq)]
 pub struct OutOfMemory;

@@ -20,7 +20,7 @@ pub enum ExprFault {
     Unknown { place: usize },
     /// The label at the place was mentioned before in its orbit.
     Twice { place: usize },
-    /// Memory was wanting, which says nothing of the text.
+    /// Memory ran out, which says nothing of the text.
     OutOfMemory,
 }
 

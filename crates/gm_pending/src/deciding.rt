@@ -33,7 +33,7 @@ const FEW: u64 = 16;
 
 impl Pending<'_, '_> {
     /// Finds the deciding instances of an embedding, which wasn't asked for before, and answers how
-    /// many they are. Where memory was wanting, it counts as not asked for.
+    /// many they are. Where memory ran out, it counts as not asked for.
     pub fn deciding<L: Ledger>(
         &mut self,
         embed: u8,

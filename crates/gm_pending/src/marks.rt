@@ -122,7 +122,7 @@ impl Marks {
         }
     }
 
-    /// Marks a dart, unless it is marked, and answers whether it wasn't. Where memory was wanting,
+    /// Marks a dart, unless it is marked, and answers whether it wasn't. Where memory ran out,
     /// nothing is marked.
     #[inline(always)]
     pub(crate) fn mark(
@@ -256,7 +256,7 @@ impl Marks {
         Ok(true)
     }
 
-    /// Marks a dart that isn't marked. Where memory was wanting, nothing is marked. It makes no index,
+    /// Marks a dart that isn't marked. Where memory ran out, nothing is marked. It makes no index,
     /// so that darts that need no search are marked without one; and where there is no room, it makes
     /// room for so many at once.
     #[inline(always)]

@@ -45,7 +45,7 @@ impl From<OutOfMemory> for PlanFault {
 /// The plan of a rule for maps of the schema.
 ///
 /// The rule's structure is tested first, then its incident arcs, its squares, and its embeddings.
-/// `Rule` has the first fault. Where the rule has none, memory may be wanting for the tables.
+/// `Rule` has the first fault. Where the rule has none, memory may run out for the tables.
 pub fn compile<'b>(
     alloc: Global,
     schema: &'b Schema,

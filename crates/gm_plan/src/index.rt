@@ -51,7 +51,7 @@ impl Index {
         }
     }
 
-    /// Gives the dart an index, unless it has one, which is answered. Where memory was wanting, each dart
+    /// Gives the dart an index, unless it has one, which is answered. Where memory ran out, each dart
     /// has what it had.
     #[inline]
     pub fn put(&mut self, number: u64, index: u32) -> Result<Option<u32>, OutOfMemory>

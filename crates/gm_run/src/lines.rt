@@ -101,7 +101,7 @@ pub(crate) fn apply_rule<L: Ledger>(
     }
 }
 
-/// The outcome of an application that is refused. Want of memory isn't one.
+/// The outcome of an application that is refused. That memory ran out isn't one.
 fn refused(refusal: Refusal) -> Result<Outcome, OutOfMemory>
     ensures { MatchResult result
         (λ outcome. (outcome ≡ outcomes.Refused refusal) × (refusal ≢ refusals.OutOfMemory))

@@ -33,10 +33,10 @@ use std::sync::ledger::Ledger;
 /// leaves the map; in a group it makes that those after it are skipped, and that at its end the
 /// map is what it was where it began.
 ///
-/// The arena has a sound map again, whatever the answer is. Where memory was wanting, it has the map
+/// The arena has a sound map again, whatever the answer is. Where memory ran out, it has the map
 /// after some of the statements, the first ones, which may end within a group, or after such and some
 /// applications of the `each` that follows them; none was applied in part. The report tells an
-/// outcome of each statement, so nothing is refused for want of memory.
+/// outcome of each statement, so nothing is refused because memory ran out.
 ///
 /// There is one run: whatever outcomes the definition gives, the report tells them, and whatever map,
 /// the arena has one alike. The steps are within the bounds that it gives: the greatest, whatever the

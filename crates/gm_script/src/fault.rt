@@ -30,7 +30,7 @@ pub enum ScriptFault {
     /// The values of the statement that begins at the place are not those of its rule's parameters.
     #[error("the rule has other parameters")]
     Params { place: usize },
-    /// Memory was wanting, which says nothing of the text.
+    /// Memory ran out, which says nothing of the text.
     #[error("out of memory")]
     OutOfMemory,
 }

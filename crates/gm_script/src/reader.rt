@@ -28,7 +28,7 @@ use gm_text::with_label;
 use std::alloc::{AllocError, AllocFailed, Global};
 use std::marker::Model;
 
-/// Why a text's lines can't be read: its first fault from left to right, or want of memory.
+/// Why a text's lines can't be read: its first fault from left to right, or that memory ran out.
 #[derive(Drop)]
 pub(crate) enum TextFault {
     /// No script goes on with what stands at the place.

@@ -11,7 +11,7 @@ pub enum SchemaFault {
     Limit { what: LimitKind, place: usize },
     /// The name at the place was declared before, or the label mentioned before in its orbit.
     Twice { place: usize },
-    /// Memory was wanting, which says nothing of the text.
+    /// Memory ran out, which says nothing of the text.
     OutOfMemory,
 }
 

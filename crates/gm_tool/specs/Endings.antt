@@ -25,13 +25,13 @@ pub data IsEnding (files : Files) (IsDefined IsLoadFailure : Answer → Type 0) 
   SaveFailed : save_fails → (given : Answer) (saved : Saved) → IsDefined given → given.saved ≡ Some saved → status ≡ 5 → text ≡ refusal (codes "save OUT")
       → IsSavedInPart (Some files) saved.name saved.bytes after → IsEnding files IsDefined IsLoadFailure save_fails status text after
 
--- the status that is given with a text to put, or for want of memory
+-- the status that is given with a text to print, or where memory ran out
 abbrev pub status_given : Result Reply NoText → ℕ
 status_given (Ok reply) = reply.status
 status_given (Err nothing.OutOfMemory) = 7
 status_given (Err (nothing.Refused why)) = status_of why
 
--- the text to put is that of an ending; where memory was wanting, the store is as at entry
+-- the text to put is that of an ending; where memory ran out, the store is as at entry
 abbrev pub IsTextOf : Files → (Answer → Type 0) → (Answer → Type 0) → Type 0 → Contents → Result Reply NoText → Type 0
 IsTextOf files IsDefined IsLoadFailure save_fails after (Ok reply) = IsEnding files IsDefined IsLoadFailure save_fails reply.status reply.text.items after
 IsTextOf files IsDefined IsLoadFailure save_fails after (Err nothing.OutOfMemory) = after ≡ Some files

@@ -72,7 +72,7 @@ pub record AreGridPlans (plans : List PlanOf) : Type 0 where
   pub fit : ArePlansFor grid_schema plans
   pub rules : rules_of plans ≡ grid_rules
 
--- the line, with status 0; want of memory says nothing of it
+-- the line, with status 0; that memory ran out says nothing of it
 abbrev pub IsGridReply : ℕ → Result Reply NoText → Type 0
 IsGridReply m (Ok reply) = (reply.status ≡ 0) × IsGridText m reply.text.items
 IsGridReply m (Err none) = none ≡ nothing.OutOfMemory

@@ -1,4 +1,4 @@
--- What a run comes to: it is done unless a fault or want of memory keeps it from that, and what is done is as stated, part by part.
+-- What a run comes to: it is done unless a fault keeps it from that or memory ran out, and what is done is as stated, part by part.
 use Rattle.std.specs.Prelude.{◌≡◌, ◌⊎◌, ℕ, ◌+◌, ◌≤◌, List, ◌++◌, length, Option, Some}
 use Rattle.gm_host.specs.Saves.{IsSaved}
 use Rattle.gm_host.specs.Store.{Contents}

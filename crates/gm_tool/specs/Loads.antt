@@ -85,9 +85,9 @@ pub record CountsSaves (status before after : ℕ) : Type 0 where
   pub one : IsSaveStatus status → after ≡ counted before
   pub none : IsUnsavedStatus status → after ≡ before
 
--- ---- want of memory
+-- ---- where memory ran out
 
--- the fact, unless memory was wanting
+-- the fact, unless memory ran out
 abbrev pub UnlessNoMemory : Result Reply NoText → Type 0 → Type 0
 UnlessNoMemory (Err nothing.OutOfMemory) P = Unit {0}
 UnlessNoMemory _ P = P

@@ -71,7 +71,7 @@ IsMapBytes bytes = (version : MapVersion) × (listed : ListedMap) × (bytes ≡ 
 abbrev pub IsRunLoadFailure : Files → RunNames → (ℕ → Type 0) → Answer → Type 0
 IsRunLoadFailure files named load_fails given = (role : refusing.Role) × load_fails (load_of role) × PassesTo files named role × (given ≡ answers 3 (refusal (codes "load " ++ role_word role)))
 
--- a stop as an answer says, or for a load that failed, or for want of memory
+-- a stop as an answer says, or since a load failed, or since memory ran out
 abbrev pub IsStopFor : (Answer → Type 0) → (Answer → Type 0) → Stop → Type 0
 IsStopFor IsDefined IsLoadFailure (stops.Bad line) = IsDefined (answers 4 line.items)
 IsStopFor IsDefined IsLoadFailure (stops.NoText nothing.OutOfMemory) = Unit {0}
@@ -113,7 +113,7 @@ IsSoundReply (Err (nothing.Refused refusals.Save)) P Q = Q
 IsSoundReply (Err (nothing.Refused refusals.Usage)) P Q = ⊥
 IsSoundReply _ P Q = Unit {0}
 
--- the map is saved and the report is to be put; or the store failed and saved it in part; or memory was wanting, and nothing changed
+-- the map is saved and the report is to be put; or the store failed and saved it in part; or memory ran out, and nothing changed
 abbrev pub IsSaving : Contents → List ℕ → Made → Type 0 → Contents → Result Reply NoText → Type 0
 IsSaving before name made fails after (Ok reply) = (reply.status ≡ made.status) × (reply.text.items ≡ made.report.items) × IsSaved before name made.map.items after
 IsSaving before name made fails after (Err nothing.OutOfMemory) = after ≡ before

@@ -181,7 +181,7 @@ pub fn tool<S: Store, O: Sink, L: Ledger>(
     ensures put_failed { result ≡ 6 → Rises (O.faults out.old) (O.faults out.new) }
     ensures no_put_failed { result ≢ 6 → O.faults out.new ≡ O.faults out.old }
 
-    // Want of memory puts nothing; and over a sink that never wants it, it comes before the put, and
+    // Where memory ran out nothing is printed; and over a sink that never wants it, that is before the put, and
     // saves nothing.
     ensures no_memory { result ≡ 7 → O.written out.new ≡ O.written out.old }
     ensures no_memory_before { IsTrue O.never_wants_memory → result ≡ 7 → S.holds store.new ≡ S.holds store.old }

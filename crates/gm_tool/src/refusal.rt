@@ -67,7 +67,7 @@ impl Refusal {
 /// Why there is no text to put that takes memory.
 #[derive(Clone, Copy)]
 pub enum NoText {
-    /// Memory was wanting, so nothing is put.
+    /// Memory ran out, so nothing is put.
     OutOfMemory,
     /// The command is refused, and its line is put.
     Refused(Refusal),

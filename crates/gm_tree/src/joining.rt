@@ -1,7 +1,7 @@
 //! An expression joined of whole parts, each in a box of its own.
 //!
 //! Boxes are made here alone, since arms of a match that can fail several times are dear to prove.
-//! Where memory is wanting, what is left is dropped by a call, as in the functions of arguments.
+//! Where memory runs out, what is left is dropped by a call, as in the functions of arguments.
 ghost use Rattle.std.specs.Prelude.{◌≡◌, IfOk};
 ghost use Rattle.gm_model.specs.Trees.{tree_of, Unary, Binary, If, MakeVec2, MakeVec3, MakeRgb};
 

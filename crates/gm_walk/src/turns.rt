@@ -16,7 +16,7 @@ use std::sync::ledger::Ledger;
 
 /// The walk from a live slot along the labels of the word, by their places, which stays in the
 /// scratch; and into the empty vector, for each place of the walk, the places of the walk to which
-/// it turns, by the places of the word. Each neighbour is looked up once. Where memory was wanting,
+/// it turns, by the places of the word. Each neighbour is looked up once. Where memory ran out,
 /// both have what was found so far, and the scratch fits as it did.
 pub fn walk_turns<L: Ledger>(
     arena: &Arena,

@@ -21,8 +21,8 @@ use std::marker::Brand;
 use std::process::ExitCode;
 use std::sync::ledger::{Blank, Ledger};
 
-/// The end of a program that can't have the words of its command line: status 7 where memory was
-/// wanting, else 9, which the program gives for nothing else.
+/// The end of a program that can't have the words of its command line: status 7 where memory ran
+/// out, else 9, which the program gives for nothing else.
 fn without_words(error: &io::Error) -> ExitCode
     ensures statuses { (exit_status result ≡ 7) ⊎ (exit_status result ≡ 9) }
     ensures no_memory { error_kind error.now ≡ ErrorKind.OutOfMemory → exit_status result ≡ 7 }

@@ -18,7 +18,7 @@ refusal_of_match (faults.Arc x p i) = refusals.Arc x p i
 refusal_of_match (faults.Same x p y q) = refusals.Same x p y q
 refusal_of_match faults.OutOfMemory = refusals.OutOfMemory
 
--- the application is refused for this cause; want of memory is none
+-- the application is refused for this cause; that memory ran out is none
 abbrev pub IsRefusedFor : Application → Refusal → Type 0
 IsRefusedFor app (refusals.NoDart index) = IsRefused app (causes.NoDart index)
 IsRefusedFor app (refusals.Arc x p i) = IsRefused app (causes.Arc x p i)
@@ -37,7 +37,7 @@ pub record HasRoom (app : Application) (place : Placement) (added removed : ℕ)
   pub removed_is : removed ≡ place.positions * removed_nodes app.rule
   pub gone : HasCount (IsGone (scene_of app.map app.rule place)) removed
 
--- What is reserved after a refusal: what was before, or, where memory was wanting, no more than the result takes.
+-- What is reserved after a refusal: what was before, or, where memory ran out, no more than the result takes.
 pub data StaysInRoom (app : Application) (old new : ArenaMap) : Type 0 where
   AsBefore : new ≡ old → StaysInRoom app old new
   ForResult : (place : Placement) (added removed : ℕ) → HasRoom app place added removed → new.spare ≤ max old.spare (added - removed) → new.reserved ≤ max old.reserved (old.next + added) → StaysInRoom app old new

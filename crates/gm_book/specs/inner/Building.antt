@@ -28,7 +28,7 @@ module _ (n : ℕ) (embeds : List Embed) (rules : List RuleForm) where
     pub found : IsFaultInRules n embeds rules fault
     pub first : (other : text.NameFault) → IsFaultInRules n embeds rules other → IsNotAfter fault other
 
-  -- a fault of names is the first; else memory was wanting
+  -- a fault of names is the first; else memory ran out
   abbrev pub IsFaultOfNames : BookFault → Type 0
   IsFaultOfNames (faults.Twice place) = IsFirstInRules (TwiceAt place)
   IsFaultOfNames (faults.Unknown place) = IsFirstInRules (UnknownAt place)

@@ -8,7 +8,7 @@ use Rattle.gm_forms.specs.declared.form_fault.FormFault.TheVariants as forms
 use Rattle.gm_text.specs.declared.schema_fault.SchemaFault.{SchemaFault}
 use Rattle.gm_text.specs.declared.schema_fault.SchemaFault.TheVariants as schemas
 
--- the fault is the first of the text, or memory was wanting
+-- the fault is the first of the text, or memory ran out
 abbrev pub IsFaultOf : List ℕ → BookFault → Type 0
 IsFaultOf text (faults.Text place) = IsTextFault text place
 IsFaultOf text (faults.Limit what place) = IsLimitFault text what place

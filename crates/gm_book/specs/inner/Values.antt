@@ -30,7 +30,7 @@ pub record HasFirstFault (n : ℕ) (names : Names) (tokens : List ExprToken) (fa
   pub value : IsValue n tokens form
   pub first : IsFirstFault names form fault
 
--- the fault is the first of the names, or memory was wanting
+-- the fault is the first of the names, or memory ran out
 abbrev pub IsReadFault : ℕ → Names → List ExprToken → ExprFault → Type 0
 IsReadFault n names tokens (faults.Unknown place) = HasFirstFault n names tokens (UnknownAt place)
 IsReadFault n names tokens (faults.Twice place) = HasFirstFault n names tokens (TwiceAt place)

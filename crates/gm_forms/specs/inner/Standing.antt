@@ -145,7 +145,7 @@ Fails faults.OutOfMemory found = Unit {0}
 Fails (faults.Text place) found = found ≡ Err (faults.Text place)
 Fails (faults.Limit what place) found = found ≡ Err (faults.Limit what place)
 
--- what was returned, seen by view, is what the mark comes to, unless memory was wanting
+-- what was returned, seen by view, is what the mark comes to, unless memory ran out
 abbrev pub Gives : {X Y : Type 0} → (X → Y) → Result X FormFault → Result Y FormFault → Type 0
 Gives view (Ok x) found = found ≡ Ok (view x)
 Gives view (Err fault) found = Fails fault found

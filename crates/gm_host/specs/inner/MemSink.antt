@@ -29,7 +29,7 @@ state_code =
 abbrev pub after_put : SinkState → List ℕ → SinkState
 after_put before bytes = record before { written = before.written ++ bytes; puts = counted before.puts }
 
--- the state after a put for which memory was wanting
+-- the state after a put for which memory ran out
 abbrev pub after_unmade_put : SinkState → SinkState
 after_unmade_put before = record before { puts = counted before.puts }
 
@@ -49,6 +49,6 @@ Puts None before bytes (Err Failed) after = ⊥
 Puts (Some kept) before bytes (Err Failed) after = after ≡ after_failed_put before (take kept bytes)
 Puts _ before bytes (Err OutOfMemory) after = after ≡ after_unmade_put before
 
--- a put fails exactly where its number was named, unless memory was wanting
+-- a put fails exactly where its number was named, unless memory ran out
 abbrev pub IsPutAsPlanned : SinkState → List ℕ → Result (Unit {0}) PutFault → SinkState → Type 0
 IsPutAsPlanned before bytes answer after = Puts (get before.planned before.puts) before bytes answer after

@@ -61,7 +61,7 @@ after_load state name = record state {
 abbrev pub after_save : StoreState → List ℕ → List ℕ → StoreState
 after_save before name bytes = record before { files = insert before.files name bytes; saves = counted before.saves }
 
--- the state after a save for which memory was wanting
+-- the state after a save for which memory ran out
 abbrev pub after_unmade_save : StoreState → StoreState
 after_unmade_save before = record before { saves = counted before.saves }
 
@@ -86,6 +86,6 @@ Saves None before name bytes (Err Failed) after = ⊥
 Saves (Some kept) before name bytes (Err Failed) after = after ≡ after_failed_save before name bytes kept
 Saves _ before name bytes (Err OutOfMemory) after = after ≡ after_unmade_save before
 
--- a save fails exactly where its number was named, unless memory was wanting
+-- a save fails exactly where its number was named, unless memory ran out
 abbrev pub IsSaveAsPlanned : StoreState → List ℕ → List ℕ → Result (Unit {0}) SaveFault → StoreState → Type 0
 IsSaveAsPlanned before name bytes answer after = Saves (get before.failing_saves before.saves) before name bytes answer after

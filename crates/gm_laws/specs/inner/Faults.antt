@@ -32,7 +32,7 @@ IsFirstBreach m (Involution d i) = IsFirstOneWay m.schema.dim (IsLiveName m) (al
 IsFirstBreach m (Cycle d i j) = IsFirstCrossing m.schema.dim (IsLiveName m) (alpha m) d i j
 IsFirstBreach m (Embedding e d other) = (i : ℕ) × IsFirstUnshared m.schema.dim (IsLiveName m) (alpha m) m.schema (value m) e d i × (other ≡ alpha m i d)
 
--- where memory was wanting nothing is known of the map
+-- where memory ran out nothing is known of the map
 abbrev pub IsFault : ArenaMap → LawFault → Type 0
 IsFault m OutOfMemory = Unit {0}
 IsFault m (Breach breach) = IsFirstBreach m breach

@@ -33,7 +33,7 @@ IsDraft text version schema numbers values = (darts : List DartRow) × IsListed 
 abbrev pub IsDraftOf : List ℕ → Draft → Type 0
 IsDraftOf text draft = IsDraft text (version_in draft.stated) draft.schema draft.numbers.items draft.values.items
 
--- the fault is the first of the text; want of memory says nothing of it
+-- the fault is the first of the text; that memory ran out says nothing of it
 abbrev pub IsFaultIn : List ℕ → SchemaFault → Type 0
 IsFaultIn text (faults.Text place) = IsTextFault text place
 IsFaultIn text (faults.Limit what place) = IsLimitFault text what place

@@ -17,7 +17,7 @@ IsBreachOf text (breaches.Involution dart label) = IsFirstFault text (first.OneW
 IsBreachOf text (breaches.Cycle dart i j) = IsFirstFault text (first.Crossing dart i j)
 IsBreachOf text (breaches.Embedding embed dart other) = (name : List ℕ) × IsFirstFault text (first.Unshared embed name dart other)
 
--- the fault is the first of the text, or memory was wanting
+-- the fault is the first of the text, or memory ran out
 abbrev pub IsFaultOf : List ℕ → MapFault → Type 0
 IsFaultOf text (faults.Text place) = IsFirstFault text (first.Ends place)
 IsFaultOf text (faults.Limit what place) = IsFirstFault text (first.Passes what place)
@@ -44,7 +44,7 @@ IsNamedFaultOf text fault told = IsFaultOf text fault
 abbrev pub IsWhyNot : List ℕ → NoMap → Type 0
 IsWhyNot text no_map = IsNamedFaultOf text no_map.fault no_map.embed
 
--- listed darts have this fault by their names, or memory was wanting
+-- listed darts have this fault by their names, or memory ran out
 abbrev pub IsNameFault : Version → ℕ → List DartRow → MapFault → Type 0
 IsNameFault version n darts (faults.DartTwice dart) = IsLeastTwice (rows_of darts) dart
 IsNameFault (Second next) n darts (faults.Next dart) = AreNamedOnce (rows_of darts) × IsLeastNotBelow (rows_of darts) next dart

@@ -54,7 +54,7 @@ pub record HasFirstFault (n : ℕ) (names : Names) (marks : List Mark) (fault : 
   pub stands : Stands n form marks rest
   pub first : IsFirstFault names form fault
 
--- the fault is the first of the names, or memory was wanting
+-- the fault is the first of the names, or memory ran out
 abbrev pub IsExprFault : ℕ → Names → List Mark → ExprFault → Type 0
 IsExprFault n names marks (faults.Unknown place) = HasFirstFault n names marks (UnknownAt place)
 IsExprFault n names marks (faults.Twice place) = HasFirstFault n names marks (TwiceAt place)

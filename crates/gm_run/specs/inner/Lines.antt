@@ -9,7 +9,7 @@ use Rattle.gm_apply.specs.declared.refusal.Refusal.TheVariants as refusals
 use Rattle.gm_run.specs.declared.outcome.Outcome.{Outcome}
 use Rattle.gm_run.specs.declared.outcome.Outcome.TheVariants as outcomes
 
--- why the application is refused; want of memory is no cause
+-- why the application is refused; that memory ran out is no cause
 abbrev pub cause_of : Refusal → Option Cause
 cause_of (refusals.NoDart index) = Some (causes.NoDart index)
 cause_of (refusals.Arc x p i) = Some (causes.Arc x p i)

@@ -41,7 +41,7 @@ pub record CanBePrinted (schema : Schema) (rules : List Rule) (stats : List Stat
 
 -- ---- words
 
--- the cause in words, and no words for want of memory
+-- the cause in words, and no words where memory ran out
 abbrev pub refusal_words : Schema → List RuleNode → Refusal → List ℕ
 refusal_words schema nodes refusal = unwrap_or (option_map (cause_words schema nodes) (cause_of refusal)) []
 

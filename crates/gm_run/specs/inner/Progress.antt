@@ -1,4 +1,4 @@
--- What a run needs, and how far it came where memory was wanting.
+-- What a run needs, and how far it came where memory ran out.
 use Rattle.std.specs.Prelude.{◌≡◌, ℕ, ◌+◌, ◌≤◌, All, List, map, take, Option, Some, slice_get}
 use Rattle.gm_model.specs.declared.schema.Schema.{Schema}
 use Rattle.gm_model.specs.Statements.{Stat}
@@ -23,7 +23,7 @@ IsPlanFor schema plan = schema ≡ plan.schema
 abbrev pub ArePlansFor : Schema → List PlanOf → Type 0
 ArePlansFor schema plans = All (IsPlanFor schema) plans
 
--- ---- where memory was wanting
+-- ---- where memory ran out
 
 -- the map of the state, or where an `each` is next, that after some of its applications, the first ones
 pub data IsLeft (rules : List Rule) (state : State) (next : Option Stat) : Map → Type 0 where

@@ -116,7 +116,7 @@ pub record HasStep (rules : List Rule) (state : State) (entries : Entries) (stat
   pub least : start + bounds.least ≤ steps
   pub most : steps ≤ start + bounds.most
 
--- Memory was wanting at the statement. The map is as it was, or an `each` was done in part, and the steps are within whatever bounds the statement has at a state alike.
+-- Memory ran out at the statement. The map is as it was, or an `each` was done in part, and the steps are within whatever bounds the statement has at a state alike.
 pub record IsStopped (rules : List Rule) (state : State) (stat : Stat) (after : Map) (start steps : ℕ) : Type 0 where
   pub left : IsLeft rules state (Some stat) after
   pub most : (other end : State) (entries behind : Entries) (outcome : runs.Outcome) (bounds : Bounds) → AreAlikeStates other state → IsStatOutcome rules other stat outcome end → HasStatBounds rules other entries stat outcome bounds behind → steps ≤ start + bounds.most
@@ -130,7 +130,7 @@ pub data HasLine (rules : List Rule) (before : Map) (line : Line) (after : Map) 
   WasRefused : (refusal : Refusal) (cause : Cause) → cause_of refusal ≡ Some cause → IsLineOutcome rules before line (runs.Refused cause) after → ((most : ℕ) → IsLineBudget rules before line most → steps ≤ start + most) → start ≤ steps
       → HasLine rules before line after start steps (outcomes.Refused refusal)
 
--- memory was wanting at the line, which left the map, within whatever budget it has
+-- memory ran out at the line, which left the map, within whatever budget it has
 pub record IsUnapplied (rules : List Rule) (before : Map) (line : Line) (after : Map) (start steps : ℕ) : Type 0 where
   pub same : after ≡ before
   pub most : (most : ℕ) → IsLineBudget rules before line most → steps ≤ start + most

@@ -33,7 +33,7 @@ abbrev pub HasTurn : List Rule → ℕ → List Value → Map → ℕ → Option
 HasTurn rules rule params before d None after start steps = (IsDart before d → ⊥) × (after ≡ before) × (steps ≡ start + 1)
 HasTurn rules rule params before d (Some outcome) after start steps = IsDart before d × HasLine rules before (line_at rule params d) after (start + 1) steps outcome
 
--- the rule was to be applied at it, and memory was wanting
+-- the rule was to be applied at it, and memory ran out
 abbrev pub StopsAtTurn : List Rule → ℕ → List Value → Map → ℕ → Map → ℕ → ℕ → Type 0
 StopsAtTurn rules rule params before d after start steps = IsDart before d × IsUnapplied rules before (line_at rule params d) after (start + 1) steps
 
@@ -76,7 +76,7 @@ pub record HaveTurns (rules : List Rule) (rule : ℕ) (params : List Value) (bef
   pub least : start + costs.least ≤ steps
   pub most : steps ≤ start + costs.most + length leads
 
--- Memory was wanting after some of the turns, the first ones. The steps are within whatever all of them cost at a map alike.
+-- Memory ran out after some of the turns, the first ones. The steps are within whatever all of them cost at a map alike.
 pub record StopsWithin (rules : List Rule) (rule : ℕ) (params : List Value) (before : Map) (leads : List ℕ) (after : Map) (start steps : ℕ) : Type 0 where
   pub some : ℕ
   pub turns : List Turn

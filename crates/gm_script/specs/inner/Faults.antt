@@ -13,7 +13,7 @@ of_text (texts.Limit what place) = faults.Limit what place
 of_text (texts.Twice place) = faults.Twice place
 of_text texts.OutOfMemory = faults.OutOfMemory
 
--- the fault is the first of the text under a book of the rules, whose labels go up to the number, or memory was wanting
+-- the fault is the first of the text under a book of the rules, whose labels go up to the number, or memory ran out
 abbrev pub IsFaultOf : List ℕ → ℕ → List Rule → ScriptFault → Type 0
 IsFaultOf text n rules (faults.Text place) = IsTextFault n text place
 IsFaultOf text n rules (faults.Limit what place) = IsLimitFault n text what place
@@ -23,7 +23,7 @@ IsFaultOf text n rules (faults.HookCount place) = IsFirstDisagreement text n rul
 IsFaultOf text n rules (faults.Params place) = IsFirstDisagreement text n rules (ParamsAt place)
 IsFaultOf text n rules faults.OutOfMemory = Unit {0}
 
--- the fault says this disagreement, or that memory was wanting
+-- the fault says this disagreement, or that memory ran out
 abbrev pub Says : {Y : Type 0} → ScriptFault → Result Y Disagreement → Type 0
 Says (faults.Text place) compared = ⊥
 Says (faults.Limit what place) compared = ⊥
@@ -33,7 +33,7 @@ Says (faults.HookCount place) compared = compared ≡ Err (HookCountAt place)
 Says (faults.Params place) compared = compared ≡ Err (ParamsAt place)
 Says faults.OutOfMemory compared = Unit {0}
 
--- what was returned, seen by view, is what comparing comes to, unless memory was wanting
+-- what was returned, seen by view, is what comparing comes to, unless memory ran out
 abbrev pub Compares : {X Y : Type 0} → (X → Y) → Result X ScriptFault → Result Y Disagreement → Type 0
 Compares view (Ok x) compared = compared ≡ Ok (view x)
 Compares view (Err fault) compared = Says fault compared

@@ -526,7 +526,7 @@ Fails (faults.Text place) read = read ≡ Err (Ends place)
 Fails (faults.Limit what place) read = read ≡ Err (Passes (LimitOf what) place)
 Fails (faults.Twice place) read = read ≡ Err (Passes Again place)
 
--- what was returned, seen by view, is what reading gives, unless memory was wanting
+-- what was returned, seen by view, is what reading gives, unless memory ran out
 abbrev pub Gives : {X Y : Type 0} → (X → Y) → Result X TextFault → Result Y Stop → Type 0
 Gives view (Ok x) read = read ≡ Ok (view x)
 Gives view (Err fault) read = Fails fault read

@@ -34,7 +34,7 @@ pub record IsSchemaSkipped (old new : Cursor) (dim : ℕ) : Type 0 where
   pub stands : Stands limit_of form (marks_left old) (marks_left new)
   pub means : dim ≡ form.dim
 
--- the fault is the first of the marks, or memory was wanting
+-- the fault is the first of the marks, or memory ran out
 abbrev pub IsSchemaFault : List Mark → SchemaFault → Type 0
 IsSchemaFault marks (faults.Text place) = TextEndsAt IsSentence passed_of marks place
 IsSchemaFault marks (faults.Limit what place) = LimitStandsAt IsSentence passed_of never marks (LimitOf what) place
@@ -81,7 +81,7 @@ Stops strict state old (faults.Limit what place) = (last : ℕ) → run_in stric
 Stops strict state old (faults.Twice place) = (last : ℕ) → run_in strict state last (marks_left old) ≡ Err (Passes Again place)
 Stops strict state old faults.OutOfMemory = ⊥
 
--- the same, or memory was wanting
+-- the same, or memory ran out
 abbrev pub StopsOrLost : Bool → State → Cursor → SchemaFault → Type 0
 StopsOrLost strict state old faults.OutOfMemory = Unit {0}
 StopsOrLost strict state old fault = Stops strict state old fault

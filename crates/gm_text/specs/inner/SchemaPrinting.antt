@@ -1,4 +1,4 @@
--- What is printed where memory is wanting, what stands between labels, and when a schema stands before other bytes.
+-- What is printed where memory runs out, what stands between labels, and when a schema stands before other bytes.
 use Rattle.std.specs.Prelude.{◌≡◌, ◌≢◌, ℕ, ◌^◌, ◌<◌, List, [], ◌∷◌, ◌++◌, codes}
 use Rattle.std.specs.List.{AllByRecursion}
 use Rattle.gm_model.specs.declared.schema.Embed.{Embed}
@@ -8,7 +8,7 @@ use Rattle.gm_model.specs.Symbols.{Symbol, Word, Mark, symbols, symbols_of, mark
 use Rattle.gm_text.specs.SchemaText.{SchemaForm, passed_of, schema_of}
 use Rattle.gm_text.specs.inner.SchemaReading.{Stands}
 
--- Memory was wanting within the text: after what was there stands a front of it.
+-- Memory ran out within the text: after what was there stands a front of it.
 pub record IsCut (before text after : List ℕ) : Type 0 where
   pub front : List ℕ
   pub rest : List ℕ

@@ -71,12 +71,12 @@ abbrev pub IsRefusal : List ℕ → Result Reply NoText → Type 0
 IsRefusal line (Ok reply) = (reply.status ≡ 4) × (reply.text.items ≡ line)
 IsRefusal line (Err none) = none ≡ nothing.OutOfMemory
 
--- the line that says why the bytes stand for no map, with status 4; want of memory says nothing of them
+-- the line that says why the bytes stand for no map, with status 4; that memory ran out says nothing of them
 abbrev pub IsMapRefusal : List ℕ → Result Reply NoText → Type 0
 IsMapRefusal bytes (Ok reply) = (reply.status ≡ 4) × IsBadLine bytes TheMap reply.text.items
 IsMapRefusal bytes (Err none) = none ≡ nothing.OutOfMemory
 
--- the line that refuses the book with this fault; want of memory says nothing of the book
+-- the line that refuses the book with this fault; that memory ran out says nothing of the book
 abbrev pub IsBookRefusal : BookFault → Result Reply NoText → Type 0
 IsBookRefusal fault (Ok reply) = IsSaidOfBook fault × (reply.status ≡ 4) × (reply.text.items ≡ refusal (codes "BOOK" ++ codes " " ++ book_words fault))
 IsBookRefusal fault (Err none) = none ≡ nothing.OutOfMemory

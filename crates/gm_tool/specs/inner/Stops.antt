@@ -24,18 +24,18 @@ use Rattle.gm_tool.specs.declared.refusal.Stop.TheVariants.{Bad, NoText}
 use Rattle.gm_tool.specs.declared.reply.Reply.{Reply}
 use Rattle.gm_tool.specs.declared.running.Loaded.{Loaded}
 
--- a line that was made, or want of memory
+-- a line that was made, or that memory ran out
 abbrev pub IsStopWith : {E : Type 0} → Result (Vec ℕ) E → Stop → Type 0
 IsStopWith (Ok line) stop = stop ≡ Bad line
 IsStopWith (Err error) stop = stop ≡ NoText nothing.OutOfMemory
 
--- the line that says in the role why, or want of memory
+-- the line that says in the role why, or that memory ran out
 abbrev pub IsBadFor : Role → (List ℕ → Type 0) → Stop → Type 0
 IsBadFor role IsWhy (Bad line) = (why : List ℕ) × IsWhy why × (line.items ≡ refusal (role_word role ++ codes " " ++ why))
 IsBadFor role IsWhy (NoText nothing.OutOfMemory) = Unit {0}
 IsBadFor role IsWhy (NoText (nothing.Refused why)) = ⊥
 
--- the file of the role fails so, or its load failed, or memory was wanting
+-- the file of the role fails so, or its load failed, or memory ran out
 abbrev pub IsRoleStop : Files → Role → List ℕ → (List ℕ → List ℕ → Type 0) → Type 0 → Stop → Type 0
 IsRoleStop files role name IsBadText fails (Bad line) = IsFailing files role name IsBadText (answers 4 line.items)
 IsRoleStop files role name IsBadText fails (NoText nothing.OutOfMemory) = Unit {0}

@@ -20,7 +20,7 @@ pub record IsBuiltOver (n : ℕ) (names : Names) (old new : Cursor) (w : Work) :
   pub text : new.text ≡ old.text
   pub behind : IsBehindToken old new
 
--- the fault is the least one that was found, or memory was wanting
+-- the fault is the least one that was found, or memory ran out
 abbrev pub IsLeastOrLost : Option NameFault → ExprFault → Type 0
 IsLeastOrLost least faults.OutOfMemory = Unit {0}
 IsLeastOrLost least fault = least ≡ Some (name_fault fault)
