@@ -121,8 +121,8 @@ pub(crate) fn ready<'a, L: Ledger>(
     Ok((applied, changes))
 }
 
-/// Makes room in the arena for the result of an application that adds and removes so many darts: for
-/// what it adds beyond what it removes, and for the names of all that it adds.
+/// Makes room in the arena for the result of an application that adds and removes as many darts as
+/// `applied` says: for what it adds beyond what it removes, and for the names of all that it adds.
 pub(crate) fn reserve(arena: &mut Arena, applied: Applied) -> Result<(), OutOfMemory>
     requires darts { arena.old.count + applied.added ≤ most_darts + applied.removed }
     requires names { arena.old.next + applied.added ≤ most_names }

@@ -329,7 +329,7 @@ impl Arena {
         self.values[slot.at as usize * self.width + embed as usize]
     }
 
-    /// Makes room for so many more darts and for all names below `names`, so that `add` takes no
+    /// Makes room for `more` further darts and for all names below `names`, so that `add` takes no
     /// memory. An arena has at most 1,048,576 darts, with names below 16,777,216. A refused call
     /// may have made room for some of them, and for no more.
     pub fn reserve(&mut self, more: u32, names: u32) -> Result<(), OutOfMemory>
@@ -660,7 +660,7 @@ fn put_slots(slots: &mut Vec<Slot>, numbers: &[u32])
     }
 }
 
-/// Adds the places of so many names, the name of each being its slot. A slab does not say which key
+/// Adds the places of `count` names, the name of each being its slot. A slab does not say which key
 /// comes next, so the keys are compared, and one that is another counts as memory that ran out.
 fn number_places(places: &mut Slab<Place>, count: usize) -> Result<(), OutOfMemory>
     requires none { places.old.slots ≡ [] }
@@ -679,7 +679,7 @@ fn number_places(places: &mut Slab<Place>, count: usize) -> Result<(), OutOfMemo
     Ok(())
 }
 
-/// Makes room for so many more places, the keys of which fit a slot, and for their neighbours and
+/// Makes room for `more` further places, the keys of which fit a slot, and for their neighbours and
 /// values. The room doubles, but not past the most darts of an arena. A refused call may have made
 /// room for neighbours and values.
 fn reserve_places(
@@ -713,7 +713,7 @@ fn reserve_places(
     Ok(())
 }
 
-/// Makes room for the neighbours and values of so many slots. A refused call may have made room for
+/// Makes room for the neighbours and values of `slots` slots. A refused call may have made room for
 /// the neighbours.
 fn widen_parts(
     neighbours: &mut Vec<Slot>,
@@ -735,7 +735,7 @@ fn widen_parts(
     widen(values, slots * width)
 }
 
-/// The same places with room for so many more. A slab does not say that it grows by no more than
+/// The same places with room for `more` further ones. A slab does not say that it grows by no more than
 /// was asked for, so a copy grows, and is taken where its keys fit.
 fn grown(places: &Slab<Place>, more: usize) -> Result<Slab<Place>, OutOfMemory>
     requires fits { places.now.capacity ≤ no_slot }

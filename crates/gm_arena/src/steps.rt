@@ -44,7 +44,7 @@ impl<L: Ledger> Steps<L> {
         self.book.add(&mut self.share, 1);
     }
 
-    /// Counts so many steps at once, for the calls of the arena that count by the dart.
+    /// Counts `times` steps at once, for the calls of the arena that count by the dart.
     pub(crate) fn tick_times(&mut self, times: u64)
         ensures { self.new ≡ self.old + times }
     {

@@ -21,7 +21,7 @@ pub(crate) struct Table {
     slots: Vec<u32>,
     /// How many names are reserved.
     len: usize,
-    /// Where no slot is listed, so many names have one.
+    /// Where no slot is listed, how many names have one.
     taken: u32,
     is_listed: bool,
 }
@@ -51,7 +51,7 @@ impl Table {
         }
     }
 
-    /// The names from 0 on, so many, each with the slot of its own number.
+    /// The first `count` names from 0 on, each with the slot of its own number.
     pub(crate) fn numbered(alloc: Global, count: usize) -> Result<Table, OutOfMemory>
         requires { count ≤ most_names }
         ensures { IfOk result (λ table. table ≡ range_with_len 0 count) }
@@ -141,7 +141,7 @@ fn slot_listed(slots: &[u32], name: u32) -> u32
     }
 }
 
-/// Lists the slots of so many names of so many: each of the first has that of its own number, and the
+/// Lists the slots of `len` names: each of the first `taken` has that of its own number, and the
 /// others have none. It takes no memory.
 #[cold]
 #[inline(never)]

@@ -12,11 +12,11 @@ labels_to n = λ i. leb i n
 abbrev pub labels_but : ℕ → ℕ → Labels
 labels_but n i = λ j. leb j n && not (j == i)
 
--- so many orbits over all labels but i
+-- this many orbits over all labels but i
 abbrev pub HasCellsOf : Map → ℕ → ℕ → Type 0
 HasCellsOf map i count = HasOrbits (IsDart map) map.alpha (labels_but (dimension map) i) count
 
--- so many darts are their own neighbour along i
+-- this many darts are their own neighbour along i
 abbrev pub HasFree : Map → ℕ → ℕ → Type 0
 HasFree map i count = HasCount (λ d. IsDart map d × (map.alpha i d ≡ d)) count
 

@@ -10,16 +10,16 @@ use gm_model::OutOfMemory;
 use gm_text::{Text, write_number_behind_blank};
 use std::alloc::Global;
 
-/// No more bytes are a number with a space before it.
+/// A number with a space before it has at most this many bytes.
 const NUMBER: usize = 11;
 
-/// No more bytes are the lines but for the numbers of the last.
+/// The lines have at most this many bytes, but for the numbers of the last.
 const OTHER_LINES: usize = 1024;
 
-/// So many numbers are composed before they are appended.
+/// How many numbers are composed before they are appended.
 const AT_ONCE: usize = 64;
 
-/// No more bytes are the numbers that are appended at once.
+/// The numbers that are appended at once have at most this many bytes.
 const PART: usize = AT_ONCE * NUMBER;
 
 /// The lines of the numbers, and those of the orientation.

@@ -12,10 +12,10 @@ use gm_model::OutOfMemory;
 use std::alloc::Global;
 use std::sync::ledger::Ledger;
 
-/// So many slots have their marks in a `u32`'s reach.
+/// How many slots have their marks in a `u32`'s reach.
 const MOST_SLOTS: usize = 1_073_741_824;
 
-/// A dart that was reached, by its slot, in so many steps.
+/// A dart that was reached, by its slot, and in how many steps.
 #[derive(Clone, Copy)]
 pub(crate) struct Visit {
     slot: Slot,

@@ -96,7 +96,7 @@ impl Kept {
         }
     }
 
-    /// What is kept between so many readings before the first of them: nothing, and where there is
+    /// What is kept between `readings` readings before the first of them: nothing, and where there is
     /// one, or no collector in what is read, nothing ever. It takes memory only where something may be
     /// kept.
     #[inline(always)]

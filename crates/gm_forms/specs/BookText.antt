@@ -172,7 +172,7 @@ pub data Role : Type 0 where
   NameAt : ℕ → Role
   -- the name of the parameter with this ordinal of its rule, at this place
   ParamName : ℕ → ℕ → Role
-  -- the sign after a name that makes it a node, where the rule then has so many different nodes
+  -- the sign after a name that makes it a node, where the rule then has this many different nodes
   NodeSign : ℕ → Role
   -- the sign after a name that makes it the beginning of a link, the one with this ordinal of its side
   LinkSign : ℕ → Role
@@ -212,7 +212,7 @@ letter role letters.Gone = record { symbol = Gone; role = role }
 
 -- Each spelling takes what stands after it.
 
--- letters up to label n, after so many
+-- letters up to label n, after k of them
 abbrev pub spell_letters : ℕ → ℕ → List Letter → List (Part Role) → List (Part Role)
 spell_letters n k [] rest = rest
 spell_letters n k (x ∷ word) rest = letter (LetterAt n (k + 1)) x ∷ spell_letters n (k + 1) word rest
@@ -254,7 +254,7 @@ spell_pre (Some tokens) rest = word Fixed (codes "pre") ∷ spell_value tokens r
 abbrev pub spell_param : ℕ → ParamForm → List (Part Role) → List (Part Role)
 spell_param k param rest = word (ParamName k param.name.place) param.name.name ∷ sign Fixed (codes ":") ∷ word Fixed (kind_word param.kind) ∷ rest
 
--- what stands after so many parameters, these ones and the sign that ends them
+-- what stands after k parameters: these ones and the sign that ends them
 abbrev pub spell_more_params : ℕ → List ParamForm → List (Part Role) → List (Part Role)
 spell_more_params k [] rest = sign Fixed (codes ")") ∷ rest
 spell_more_params k (param ∷ params) rest = sign Fixed (codes ",") ∷ spell_param (k + 1) param (spell_more_params (k + 1) params rest)
@@ -271,7 +271,7 @@ spell_rule n k rule rest =
     ∷ spell_params rule.params (word Fixed (codes "left")
     ∷ spell_items n no_count rule.left (word Fixed (codes "right") ∷ spell_items n (count_across (counted no_count rule.left)) rule.right (spell_pre rule.pre rest)))
 
--- rules after so many
+-- rules after k of them
 abbrev pub spell_rules : ℕ → ℕ → List RuleForm → List (Part Role) → List (Part Role)
 spell_rules n k [] rest = rest
 spell_rules n k (rule ∷ rules) rest = spell_rule n (k + 1) rule (spell_rules n (k + 1) rules rest)

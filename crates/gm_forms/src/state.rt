@@ -51,7 +51,7 @@ pub enum State {
     /// Before the name of the rule with this ordinal, and after it.
     Name(Heading, Tally),
     Left(Heading, Tally),
-    /// Before the name of a parameter after so many of its rule.
+    /// Before the name of a parameter, with how many of its rule stand before it.
     Param(Heading, Tally, u8),
     /// After the name of the parameter with this ordinal, before its kind, and after it.
     Colon(Heading, Tally, u8, Token),

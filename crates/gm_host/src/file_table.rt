@@ -51,7 +51,7 @@ impl FileTable {
         Ok(())
     }
 
-    /// Holds so many of the first bytes under the name, at most all, or leaves all as it is.
+    /// Holds this many of the first bytes under the name, at most all, or leaves all as it is.
     pub(crate) fn hold_part(
         &mut self,
         name: &str,

@@ -9,7 +9,7 @@ pub(crate) const OUTPUT: &str = "/proc/self/fd/1";
 /// The limits of this process, a line for each, as the system tells them.
 const LIMITS: &str = "/proc/self/limits";
 
-/// Whether the process may make a file of so many bytes. A write past that would end it by a signal.
+/// Whether the process may make a file of this many bytes. A write past that would end it by a signal.
 pub(crate) fn may_be_so_long<R: Files>(rt: &R, bytes: u64) -> bool {
     match read_limit(rt) {
         Some(most) => bytes <= most,
@@ -36,7 +36,7 @@ fn limit_in(limits: &str) -> Option<u64> {
     None
 }
 
-/// Whether the standard output may take so many bytes more: one that is a regular file has that limit.
+/// Whether the standard output may take this many bytes more: a regular file has that limit too.
 pub(crate) fn output_may_take<R: Files>(rt: &R, bytes: u64) -> bool {
     match fs::metadata(rt, OUTPUT) {
         Ok(found) if found.is_file() => may_be_so_long(rt, found.len().saturating_add(bytes)),

@@ -104,7 +104,7 @@ fn room_for<F: OpenFile>(file: &F, alloc: Global, limit: usize) -> Vec<u8>
     }
 }
 
-/// Appends zeros, at least one and at most so many. A vector that has room is lengthened within it.
+/// Appends zeros, at least one and at most `most`. A vector that has room is lengthened within it.
 fn lengthen(bytes: &mut Vec<u8>, most: usize) -> Result<(), AllocError>
     requires { 0 < most }
     ensures kept { OnOk result (StartsWith bytes.new.items bytes.old.items) }

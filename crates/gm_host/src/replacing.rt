@@ -50,7 +50,7 @@ pub(crate) fn write_file<R: Files<File = File> + AllocGlobal>(
     }
 }
 
-/// Whether the standard output goes to the regular file of this name: what is put would be written
+/// Whether the standard output goes to the regular file of this name: what is printed would be written
 /// over what is saved.
 fn is_output<R: Files>(rt: &R, name: &str) -> bool {
     match (fs::metadata(rt, name), fs::metadata(rt, OUTPUT)) {

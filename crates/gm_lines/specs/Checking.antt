@@ -54,7 +54,7 @@ refusals (Some fault) = 1
 
 -- ---- all rules
 
--- so many of the rules are refused, and these are their lines
+-- this many of the rules are refused, and these are their lines
 pub data AreLines (schema : Schema) : List Rule → ℕ → List ℕ → Type 0 where
   NoRules : AreLines schema [] 0 []
   NextRule : (rule : Rule) (verdict : Option RuleFault) (rules : List Rule) (refused : ℕ) (lines : List ℕ) → IsVerdict schema rule verdict

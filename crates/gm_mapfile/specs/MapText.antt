@@ -141,7 +141,7 @@ spelling form =
     word Fixed (codes "gmap") ∷ number Fixed (number_of form.version)
     ∷ (map (in_role InSchema) (schema.spell form.schema []) ++ spell_next form.version (spell_listing (embeds_of form) form.darts))
 
--- for each embedding so many numbers as its kind has
+-- for each embedding as many numbers as its kind has
 abbrev pub AreWide : List Embed → List (List Signed) → Type 0
 AreWide [] [] = Unit {0}
 AreWide (embed ∷ embeds) (value ∷ values) = (length value ≡ width embed.kind) × AreWide embeds values

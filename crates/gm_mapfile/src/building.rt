@@ -89,7 +89,7 @@ fn are_own(schema: &Schema, numbers: &[u32]) -> bool
     are_numbered(numbers, width) && are_below(numbers, (numbers.len() / width) as u32)
 }
 
-/// Whether the name on each line, of so many numbers, is how many lines stand before it.
+/// Whether the name on each line, of `width` numbers, is how many lines stand before it.
 fn are_numbered(numbers: &[u32], width: usize) -> bool
     requires { 0 < width }
     ensures { IsTrue result → (at : ℕ) → at < length numbers.now / width → get_or numbers.now (at * width) 0 ≡ at }

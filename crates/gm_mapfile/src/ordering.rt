@@ -90,7 +90,7 @@ fn names_end(numbers: &[u32]) -> u32
     end
 }
 
-/// The lines, each of so many numbers, in the order in which they stand.
+/// The lines, each of `width` numbers, in the order in which they stand.
 fn lines_of(alloc: Global, numbers: &[u32], width: usize) -> Result<Vec<Line>, OutOfMemory>
     requires some { 0 < width }
     requires few { length numbers.now / width ≤ most_darts }
@@ -118,7 +118,7 @@ fn lines_by_name(alloc: Global, numbers: &[u32], width: usize) -> Result<Vec<Lin
     Ok(lines)
 }
 
-/// Puts what stands on the lines in the place of all, where each has so many elements of it.
+/// Puts what stands on the lines in the place of all, where each has `width` elements of it.
 fn order_lines<T: Copy>(
     alloc: Global,
     lines: &[Line],
@@ -134,7 +134,7 @@ fn order_lines<T: Copy>(
     Ok(())
 }
 
-/// Appends what stands on the lines, where each has so many elements of all.
+/// Appends what stands on the lines, where each has `width` elements of all.
 fn take_lines<T: Copy>(
     lines: &[Line],
     width: usize,

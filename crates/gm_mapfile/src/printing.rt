@@ -23,15 +23,15 @@ use itoa::write_digits;
 use std::alloc::Global;
 use std::sync::ledger::Ledger;
 
-/// No more bytes are a name with a blank before it.
+/// A name with a blank before it has at most this many bytes.
 const NAME: usize = 11;
 
-/// No more bytes are a value with a blank before it: three numbers of twenty bytes each, two signs
-/// and three blanks.
+/// A value with a blank before it has at most this many bytes: three numbers of twenty bytes each,
+/// two signs and three blanks.
 const VALUE: usize = 65;
 
-/// No more bytes are a dart's line: its name and eight neighbours' names, eight values and the line
-/// feed.
+/// A dart's line has at most this many bytes: its name and eight neighbours' names, eight values and
+/// the line feed.
 const LINE: usize = 9 * NAME + 8 * VALUE + 1;
 
 /// The canonical text of the map in the version, with one step or more for each dart: the schema,

@@ -151,7 +151,7 @@ fn small_dart_name(lexer: &mut Lexer<'_>, blank: u8, guess: &mut Guess) -> Optio
     Some(value as u32)
 }
 
-/// Names that are small, up to so many, after those before them. The answer is how many; none are
+/// Names that are small, up to `count`, after those before them. The answer is how many; none are
 /// read where there is no room for all.
 // Inlined, as `read_number` is. The lexer is copied, so that the copy stays in registers.
 #[inline(always)]
@@ -182,7 +182,7 @@ fn read_small_dart_names(
     done
 }
 
-/// So many names, after those before them.
+/// `count` names, after those before them.
 // Inlined, as `read_number` is.
 #[inline(always)]
 fn read_names(
@@ -201,9 +201,9 @@ fn read_names(
     Ok(())
 }
 
-/// The lines of so many darts. Where the header names more than the text can hold, no more room is
-/// taken than for what it holds: each number and each value has two bytes at least, with the blank
-/// after it, but the last.
+/// The lines of as many darts as the header says. Where the header names more than the text can hold,
+/// no more room is taken than for what it holds: each number and each value has two bytes at least,
+/// with the blank after it, but the last.
 // Apart, since within all that reads a map its loops would have no register left.
 #[inline(never)]
 fn read_darts(

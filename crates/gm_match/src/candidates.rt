@@ -105,7 +105,7 @@ fn along_walk<L: Ledger>(
 }
 
 /// Puts the slots of the left nodes, by position and node, into the empty vector. The turns are those
-/// of the walk, so many at each position.
+/// of the walk, one for each place at each position.
 fn fill_slots<L: Ledger>(
     plan: &Plan<'_>,
     arena: &Arena,

@@ -10,7 +10,7 @@ use gm_arena::Slot;
 use gm_plan::Instances;
 use gm_walk::Scratch;
 
-/// So many slots are compared with one another, since that is faster than to mark them.
+/// At most this many slots are compared with one another, since that is faster than to mark them.
 const FEW: usize = 8;
 
 /// Tests that no two instances have one slot. Where it is said so, those of the first hook are walked,

@@ -99,7 +99,7 @@ fn step_hook<L: Ledger>(
     arena.alpha(from, label, steps)
 }
 
-/// The position and the place of the turn with this index, where each position has so many turns.
+/// The position and the place of the turn with this index, where each position has `places` turns.
 fn parts_of(turn: usize, places: u8) -> (usize, u8)
     requires { 0 < places }
     ensures position { result.0 ≡ turn / places }

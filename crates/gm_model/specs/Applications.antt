@@ -155,7 +155,7 @@ module _ (app : Application) where
     pub unfolded : IsUnfolding (scene_of app.map app.rule place) (IsDart result) result.alpha result.next
     pub values : (e d : ℕ) (embed : Embed) → IsEmbedAt app.map.schema e embed → IsDart result d → IsValueAfter app.map app.rule place result.alpha e (type_of embed) (GivesValue place e) d (result.value e d)
 
-  -- done, with this map as the result, and so many darts added and removed
+  -- done, with this map as the result, `added` darts added and `removed` ones removed
   pub record IsDone (result : Map) (added removed : ℕ) : Type 0 where
     pub place : Placement
     pub ready : IsReady place

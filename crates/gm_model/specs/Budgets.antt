@@ -63,7 +63,7 @@ entered (Some group) most entries = record { past = entries.past; future = []; g
 abbrev pub group_entered : Group → Entries → Entries
 group_entered group entries = record { past = if group.is_changed then entries.group ∷ entries.past else entries.past; future = entries.future; group = entries.group }
 
--- after an `each`, of whose applications so many were done
+-- after an `each`, of whose applications this many were done
 abbrev pub each_entered : ℕ → ℕ → Entries → Entries
 each_entered zero most entries = entries
 each_entered (suc done) most entries = entered None most entries

@@ -155,7 +155,7 @@ module _ (reading : Reading) where
   abbrev pub path_units : DartTerm → ℕ
   path_units term = length term.path
 
-  -- the reading follows so many path labels, reads so many fields and collects so many darts, all three together
+  -- this many path labels that the reading follows, fields that it reads and darts that it collects, all three together
   abbrev pub HasUnits : Tree → ℕ → Type 0
   HasUnits (Number n) u = u ≡ 0
   HasUnits (Truth b) u = u ≡ 0

@@ -26,7 +26,7 @@ pub record IsListOf (P : ℕ → Type 0) (darts : List ℕ) : Type 0 where
   pub distinct : HasNoRepeats darts
   pub same : (d : ℕ) → Contains darts d ↔ P d
 
--- so many darts have P
+-- this many darts have P
 abbrev pub HasCount : (ℕ → Type 0) → ℕ → Type 0
 HasCount P count = (darts : List ℕ) × IsListOf P darts × (length darts ≡ count)
 
@@ -37,7 +37,7 @@ pub record IsLead (IsLive : ℕ → Type 0) (alpha : ℕ → ℕ → ℕ) (o : L
   pub live : IsLive d
   pub least : (e : ℕ) → IsInOrbit alpha o d e → IsLive e → d ≤ e
 
--- so many orbits: one for each least dart of an orbit
+-- this many orbits: one for each least dart of an orbit
 abbrev pub HasOrbits : (ℕ → Type 0) → (ℕ → ℕ → ℕ) → Labels → ℕ → Type 0
 HasOrbits IsLive alpha o count = HasCount (IsLead IsLive alpha o) count
 

@@ -69,7 +69,7 @@ outcome_line schema rules k stat outcome = decimal k ++ codes " " ++ stat_words 
 
 -- ---- the report
 
--- the lines after so many
+-- the lines after k of them
 abbrev pub outcome_lines : Schema → List Rule → ℕ → List Stat → List Outcome → List ℕ
 outcome_lines schema rules k (stat ∷ stats) (outcome ∷ outcomes) = outcome_line schema rules (k + 1) stat outcome ++ outcome_lines schema rules (k + 1) stats outcomes
 outcome_lines schema rules k _ _ = []
@@ -96,6 +96,6 @@ counts_line outcomes darts next =
     codes "applied " ++ decimal (sum (map done_in outcomes)) ++ codes " refused " ++ decimal (sum (map refused_in outcomes))
     ++ codes " darts " ++ decimal darts ++ codes " next " ++ decimal next ++ codes "\n"
 
--- of the outcomes of a script's statements, with so many darts after them and this next name
+-- of the outcomes of a script's statements, with this many darts after them and this next name
 abbrev pub report_text : Schema → List Rule → List Stat → List Outcome → ℕ → ℕ → List ℕ
 report_text schema rules stats outcomes darts next = outcome_lines schema rules 0 stats outcomes ++ counts_line outcomes darts next

@@ -15,7 +15,7 @@ use Rattle.gm_model.specs.Rules.{Rule}
 
 -- what became of a statement
 pub data Outcome : Type 0 where
-  -- an application was done, with so many darts added and removed
+  -- an application was done, with this many darts added and this many removed
   Done : ℕ → ℕ → Outcome
   Refused : Cause → Outcome
   -- in a group that an earlier refusal broke
@@ -29,7 +29,7 @@ pub data Outcome : Type 0 where
   Kept : Outcome
   -- the group was broken, and its applications were taken back
   Dropped : Outcome
-  -- of the applications of an `each` so many were done and so many refused, and so many darts were passed over
+  -- how many applications of an `each` were done and how many refused, and how many darts were passed over
   Each : ℕ → ℕ → ℕ → Outcome
 
 -- ---- one application

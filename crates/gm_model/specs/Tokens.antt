@@ -56,7 +56,7 @@ IsLexeme kinds.Sign (b ∷ []) = IsTrue (is_sign b)
 IsLexeme kinds.Sign (b ∷ c ∷ []) = IsTrue (is_two_byte_sign b c)
 IsLexeme kinds.Sign (b ∷ c ∷ d ∷ bytes) = ⊥
 
--- a token of the kind and of so many bytes stands at the front, and no longer token does
+-- a token of the kind and of this many bytes stands at the front, and no longer token does
 pub record IsLongest (kind : TokenKind) (size : ℕ) (bytes : List ℕ) : Type 0 where
   pub within : size ≤ length bytes
   pub lexeme : IsLexeme kind (take size bytes)
@@ -69,9 +69,9 @@ HasNoLexeme bytes = (kind : TokenKind) (size : ℕ) → size ≤ length bytes �
 -- ---- what stands at the front of bytes
 
 pub data Front : Type 0 where
-  -- so many bytes of no meaning: a blank, or a comment up to its line's end
+  -- this many bytes of no meaning: a blank, or a comment up to its line's end
   Gap : ℕ → Front
-  -- a token of so many bytes
+  -- a token of this many bytes
   Lexeme : TokenKind → ℕ → Front
   -- a byte that no token begins with
   Stray : Front
@@ -112,7 +112,7 @@ item_before place (Gap size) items = items
 item_before place (Lexeme kind size) items = Lexed (record { kind = kind; start = place; end = place + size }) ∷ items
 item_before place Stray items = StrayAt place ∷ []
 
--- the items from a place on, where so many of the bytes there belong to what stood before
+-- the items from a place on, where this many of the bytes there belong to what stood before
 abbrev pub items_from : ℕ → ℕ → List ℕ → List Item
 items_from place taken [] = EndAt place ∷ []
 items_from place (suc taken) (b ∷ bytes) = items_from (suc place) taken bytes

@@ -83,7 +83,7 @@ fn put_behind<T: Copy>(all: &mut Vec<T>, items: &[T]) -> Result<Part, OutOfMemor
     ensures items { IfOk result (λ part. items_at all.new.items part ≡ items.now) }
 {
     let start = all.len();
-    // So many items take more memory than there is.
+    // More items than that take more memory than there is.
     if start > MOST_ITEMS || items.len() > MOST_ITEMS - start {
         return Err(OutOfMemory);
     }
@@ -189,7 +189,7 @@ impl Model for Script {
 }
 
 impl Script {
-    /// No statements, with room for so many.
+    /// No statements, with room for `stats` of them.
     pub fn with_capacity(alloc: Global, stats: usize) -> Result<Script, OutOfMemory>
         ensures { IfOk result (λ script. script.stats ≡ []) }
     {

@@ -81,7 +81,7 @@ abbrev pub with_arity : Option Function → ℕ → Option Function
 with_arity None count = None
 with_arity (Some function) count = if nat_eq (arity function) count then Some function else None
 
--- the function with this name and so many arguments
+-- the function with this name and this many arguments
 abbrev pub function_of : List ℕ → ℕ → Option Function
 function_of name count = with_arity (function_named name) count
 

@@ -16,7 +16,7 @@ pub enum SyntaxFault {
 #[derive(Clone, Copy, Debug)]
 pub enum ExprFault {
     /// The name at the place is none of what its place asks for: a parameter, a left node, an
-    /// embedding, or a function with so many arguments.
+    /// embedding, or a function with as many arguments as stand there.
     Unknown { place: usize },
     /// The label at the place was mentioned before in its orbit.
     Twice { place: usize },

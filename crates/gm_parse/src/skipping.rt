@@ -24,7 +24,7 @@ fn end_before(state: &State, place: usize) -> Result<Option<Token>, SyntaxFault>
     }
 }
 
-/// Goes past the next token of an expression, after so many, and answers it, or `None` where no
+/// Goes past the next token of an expression, after `count` of them, and answers it, or `None` where no
 /// expression goes on with it. After a refusal the lexer is as before.
 pub fn advance(
     lexer: &mut Lexer<'_>,

@@ -236,7 +236,7 @@ impl Rewrite<'_> {
     }
 }
 
-/// Adds so many darts with their values, and puts their slots into the room after the others.
+/// Adds `added` darts with their values, and puts their slots into the room after the others.
 fn add_darts<L: Ledger>(
     arena: &mut Arena,
     added: usize,

@@ -23,7 +23,7 @@ pub(crate) struct DecidedOrbits {
 /// it takes no memory.
 pub(crate) type OrbitsByEmbed = Vec<Option<DecidedOrbits>>;
 
-/// Those of so many embeddings that were not asked for.
+/// Those of `embeds` embeddings that were not asked for.
 pub(crate) fn no_orbits(alloc: Global, embeds: usize) -> Result<OrbitsByEmbed, OutOfMemory>
     ensures { IfOk result (λ orbits. orbits.items ≡ replicate embeds None) }
 {

@@ -28,7 +28,8 @@ use gm_plan::Lookup;
 use gm_walk::{Mark, PackedAt};
 use std::sync::ledger::Ledger;
 
-/// So many instances are looked through one after another, since that is faster than any look-up.
+/// At most this many instances are looked through one after another, since that is faster than any
+/// look-up.
 const FEW: u64 = 16;
 
 impl Pending<'_, '_> {
@@ -451,7 +452,7 @@ fn add_instance(
     ensures few { OnOk result (length instances.old.items < 4294967295) }
     ensures err { OnErr result (instances.new.items ≡ instances.old.items) }
 {
-    // So many instances take more memory than there is.
+    // More instances than that take more memory than there is.
     if instances.len() >= u32::MAX as usize {
         return Err(OutOfMemory);
     }

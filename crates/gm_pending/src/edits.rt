@@ -71,8 +71,8 @@ impl Model for Edits {
 }
 
 impl Changes<'_> {
-    /// The same edits, which own what they hold and tell which darts they touch. So many darts are
-    /// added and removed. The scratch may have grown.
+    /// The same edits, which own what they hold and tell which darts they touch. `applied` says
+    /// how many darts are added and removed. The scratch may have grown.
     pub fn into_edits(
         self,
         alloc: Global,

@@ -29,7 +29,7 @@ impl Pending<'_, '_> {
         self.arena.schema().embeds.as_slice().len() as u8
     }
 
-    /// The values of so many new darts, by their number and by embedding.
+    /// The values of `added` new darts, by their number and by embedding.
     pub(crate) fn added_values<L: Ledger>(
         &self,
         added: usize,
@@ -52,7 +52,7 @@ impl Pending<'_, '_> {
         Ok(values)
     }
 
-    /// The values that so many new darts have in orbits without a deciding instance, by their
+    /// The values that `added` new darts have in orbits without a deciding instance, by their
     /// number and by embedding. Where an added node has no keeper, they may be any.
     fn kept_values<L: Ledger>(
         &self,

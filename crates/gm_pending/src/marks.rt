@@ -14,13 +14,13 @@ use gm_walk::{Mark, PackedAt};
 use std::alloc::Global;
 use std::marker::Model;
 
-/// So many darts are searched one after another, since that is faster than any index.
+/// Fewer than this many darts are searched one after another, since that is faster than any index.
 const FEW: usize = 16;
 
-/// An index that was made with less room than for one in so many slots has no table of them.
+/// An index that was made with less room than for one in this many slots has no table of them.
 const SLOTS_A_DART: usize = 8;
 
-/// It is made again with one where a walk reaches one in so many.
+/// It is made again with one where a walk reaches one in this many.
 const SLOTS_REACHED: usize = 32;
 
 /// The darts that are reached, in the order in which they were found. None comes twice.
@@ -33,10 +33,10 @@ pub(crate) struct Marks {
     index: Option<Box<Index>>,
     /// The bits of all marked darts. A dart whose bit isn't set is not marked, and needs no search.
     bits: u64,
-    /// The index is made with room for so many darts, and for as many as there are slots where more
+    /// The index is made with room for this many darts, and for as many as there are slots where more
     /// come.
     room: usize,
-    /// And for an arena of so many slots.
+    /// And for an arena of this many slots.
     slots: usize,
     /// As long as fewer darts are reached, one more needs neither room nor an index.
     quick: usize,
@@ -59,7 +59,7 @@ impl Model for Marks {
 
 impl Marks {
     /// No darts, in the room of an empty vector. It takes no memory; but where an index is needed, it is
-    /// made with room for so many, of an arena with so many slots.
+    /// made with room for `room` darts, of an arena with `slots` slots.
     pub(crate) fn new(alloc: Global, reached: Vec<Mark>, room: usize, slots: usize) -> Marks
         requires { reached.items ≡ [] }
         ensures { result ≡ [] }
@@ -258,7 +258,7 @@ impl Marks {
 
     /// Marks a dart that isn't marked. Where memory ran out, nothing is marked. It makes no index,
     /// so that darts that need no search are marked without one; and where there is no room, it makes
-    /// room for so many at once.
+    /// room for `room` entries at once.
     #[inline(always)]
     pub(crate) fn mark_new(
         &mut self,
@@ -311,7 +311,7 @@ impl Marks {
     }
 }
 
-/// Puts an entry after the others. Where there is no room, it makes room for so many at once.
+/// Puts an entry after the others. Where there is no room, it makes room for `room` at once.
 #[inline(always)]
 pub(crate) fn push<T: Copy>(entries: &mut Vec<T>, entry: T, room: usize) -> Result<(), OutOfMemory>
     ensures ok { OnOk result (entries.new.items ≡ entries.old.items ++ entry ∷ []) }
@@ -325,7 +325,7 @@ pub(crate) fn push<T: Copy>(entries: &mut Vec<T>, entry: T, room: usize) -> Resu
     Ok(())
 }
 
-/// Makes room for so many more entries, and for one at least.
+/// Makes room for `room` further entries, and for one at least.
 // Cold and on its own, so that `push` stays a test and a write where darts are walked.
 #[cold]
 #[inline(never)]
@@ -338,7 +338,7 @@ fn make_room<T>(entries: &mut Vec<T>, room: usize) -> Result<(), OutOfMemory>
 }
 
 /// The index of the deciding instance of each dart: the one that there is, or a new one with room for
-/// so many darts of an arena with so many slots. Where one was made with less room and many darts are
+/// `room` darts of an arena with `slots` slots. Where one was made with less room and many darts are
 /// reached, it is made again with a place for each slot, so that a walk of a large orbit takes no longer
 /// where the rule touches little of it.
 fn index(

@@ -91,7 +91,7 @@ impl Rewrite<'_> {
         self.found.slot(node, position)
     }
 
-    /// Puts the slots of so many left nodes, which are all, in the place of what is in the vector, and
+    /// Puts the slots of all `left` left nodes in the place of what is in the vector, and
     /// makes room for those of the added ones after them.
     pub(crate) fn left_slots(
         &self,

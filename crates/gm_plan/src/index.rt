@@ -7,7 +7,7 @@ use gm_model::OutOfMemory;
 use std::alloc::Global;
 use std::collections::HashMap;
 
-/// A table has so many slots at most for each dart that is expected.
+/// How many slots a table has at most for each dart that is expected.
 const SLOTS_A_DART: usize = 8;
 
 /// Indices by the numbers of darts. The number of a dart that has a slot is twice the slot; others are
@@ -22,7 +22,7 @@ pub struct Index {
 }
 
 impl Index {
-    /// No dart. It has room for so many, and the arena has so many slots.
+    /// No dart. It has room for `room` darts, and the arena has `slots` slots.
     pub fn build(alloc: Global, room: usize, slots: usize) -> Result<Index, OutOfMemory>
         ensures { IfOk result (λ index. (key : ℕ) → index_at index key ≡ None) }
     {

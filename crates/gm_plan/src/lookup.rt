@@ -17,7 +17,7 @@ pub struct Lookup {
 }
 
 impl Lookup {
-    /// The instances of so many left nodes.
+    /// The instances of `nodes` left nodes.
     pub fn build(alloc: Global, found: &Instances, nodes: u8) -> Result<Lookup, OutOfMemory>
         requires { nodes ≡ found.now.nodes }
         ensures { IfOk result (IsLookupIn found.now) }
@@ -41,7 +41,7 @@ impl Lookup {
     }
 }
 
-/// Adds the instances of so many left nodes, where there are none.
+/// Adds the instances of `nodes` left nodes, where there are none.
 fn add_nodes(
     instances: &mut HashMap<u32, (u8, u32)>,
     found: &Instances,

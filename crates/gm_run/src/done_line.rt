@@ -7,12 +7,12 @@ use gm_model::OutOfMemory;
 use gm_text::{Text, write_number, write_word};
 use itoa::write_digits;
 
-/// No more bytes are the line: its number of twenty digits, a name of 32 bytes, two counts of ten
-/// digits each, and 23 bytes between and after them.
+/// The line has at most this many bytes: its number of twenty digits, a name of 32 bytes, two counts
+/// of ten digits each, and 23 bytes between and after them.
 const LINE: usize = 96;
 
 /// Appends the line of this number about a rule of this name.
-// It is composed first and put at once: where each piece is put by itself, room is looked for anew.
+// It is composed first and appended at once: for each piece by itself room would be looked for anew.
 pub(crate) fn put_done_line(
     text: &mut Text,
     number: usize,

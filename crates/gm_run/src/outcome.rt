@@ -22,8 +22,8 @@ pub enum Outcome {
     Kept,
     /// A group ended in which an application was refused: the map is what it was where it began.
     Dropped,
-    /// Of the applications at the least darts of the orbits, so many were done and so many refused,
-    /// and so many of these darts were passed over, since they were darts no more.
+    /// How many of the applications at the least darts of the orbits were done and how many refused,
+    /// and how many of these darts were passed over, since they were darts no more.
     Each {
         done: u32,
         refused: u32,

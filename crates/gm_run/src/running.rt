@@ -92,7 +92,7 @@ pub fn run<L: Ledger>(
     })
 }
 
-/// So many of the statements go back or on.
+/// How many of the statements go back or on.
 fn goings(script: &Script) -> usize
     ensures { result ≡ sum_by definition.going script.now.stats }
 {

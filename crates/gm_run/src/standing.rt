@@ -57,7 +57,7 @@ impl Open {
 pub(crate) struct Keeping {
     /// Whether anything is: a statement to come goes back or on, or a group is open.
     pub(crate) on: bool,
-    /// So many statements to come go back or on. No more entries of the past can be reached.
+    /// How many statements to come go back or on. No more entries of the past can be reached.
     pub(crate) reach: usize,
 }
 

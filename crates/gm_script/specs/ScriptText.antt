@@ -146,7 +146,7 @@ spell_stat n k (Applies line) rest = spell_line k line rest
 spell_stat n k (GoesOver form) rest = spell_each n k form rest
 spell_stat n k (Says bare place) rest = word (StatAt k place) (bare_word bare) ∷ rest
 
--- statements after so many
+-- statements after k of them
 abbrev pub spell_stats : ℕ → ℕ → List StatForm → List (Part Role) → List (Part Role)
 spell_stats n k [] rest = rest
 spell_stats n k (form ∷ forms) rest = spell_stat n (k + 1) form (spell_stats n (k + 1) forms rest)
@@ -281,7 +281,7 @@ pub data Disagreement : Type 0 where
 
 -- The name of a statement's rule is looked up first; then its hooks are counted; and then its values are compared with the parameters.
 module _ (rules : List Rule) where
-  -- the statement at the place names the rule, gives so many hooks, and these values
+  -- the statement at the place names the rule, gives this many hooks, and these values
   pub data DisagreesAt (place : ℕ) (name : Mention) (hooks : ℕ) (forms : List ValueForm) : Disagreement → Type 0 where
     UnknownRule : index_of rules name.name ≡ None → DisagreesAt place name hooks forms (UnknownRuleAt name.place)
     HookCount : (k : ℕ) (rule : Rule) → IsOfRule rules name.name k rule → hooks ≢ length rule.hooks → DisagreesAt place name hooks forms (HookCountAt place)

@@ -107,7 +107,7 @@ impl Compared {
         })
     }
 
-    /// Compares a further statement, whose values are then put as its rule takes them. After one that
+    /// Compares a further statement, whose values are then made what its rule takes. After one that
     /// disagrees none is kept.
     // Inlined up to who reads a line, but for what looks a name up: that takes some 30 instructions less.
     #[inline(always)]

@@ -107,7 +107,7 @@ impl Draft {
         self.values.clear();
     }
 
-    /// Puts its values as the parameters' kinds take them, and answers whether they take all of them.
+    /// Makes its values what the parameters' kinds take, and answers whether they take all of them.
     pub(crate) fn fit(&mut self, params: &[Param]) -> bool
         ensures others { self.new ≡ record self.old { values = self.new.values } }
         ensures fit { IsTrue result → comparing.params_for params.now self.old.values ≡ Some self.new.values }

@@ -219,7 +219,7 @@ fn read_stats(
 
 /// The script that the text stands for under the book. A fault of the text, by its grammar and
 /// limits, comes before any disagreement of a statement with the book. A book that a text stands for
-/// has so few rules that a statement can name each; of more than 65,536, the first so many.
+/// has so few rules that a statement can name each; of more than 65,536, the first 65,536.
 pub fn read_script(alloc: Global, bytes: &[u8], book: &Book) -> Result<Script, ScriptFault>
     ensures script { IfOk result (λ script. ScriptText bytes.now book.now.schema.dim (first_rules book.now.rules) script.stats) }
     ensures fault { IfErr result (IsFaultOf bytes.now book.now.schema.dim (first_rules book.now.rules)) }

@@ -6,8 +6,8 @@ ghost use Rattle.gm_script.specs.inner.Comparing.{value_for, params_for};
 
 use gm_model::{Kind, Param, Value};
 
-/// Puts the values as the parameters' kinds take them, and answers whether they take all of them. Where
-/// they don't, some may be put so.
+/// Makes the values what the parameters' kinds take, and answers whether they take all of them. Where
+/// they don't, some may be made so.
 pub(crate) fn fit(values: &mut [Value], params: &[Param]) -> bool
     ensures fit { IsTrue result → params_for params.now values.old ≡ Some values.new }
     ensures unfit { IsFalse result → params_for params.now values.old ≡ None }

@@ -57,7 +57,7 @@ fn remove_eight<L: Ledger>(rt: &impl Abort, arena: &mut Arena, steps: &mut Steps
     }
 }
 
-/// So many darts are live, this name comes next, and so many slots were ever in use.
+/// That `count` darts are live, `next` is the next name, and `bound` slots were ever in use.
 fn expect_counts(rt: &impl Abort, arena: &Arena, count: usize, next: usize, bound: usize)
     ensures { arena.now.count ≡ count }
 {

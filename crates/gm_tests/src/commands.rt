@@ -37,7 +37,7 @@ fn run<L: Ledger>(
     tool(host.alloc(), words, store, out, &mut steps)
 }
 
-/// How a line ends: its status, and the text that it puts.
+/// How a line ends: its status, and the text that it prints.
 pub(crate) type End<'a> = (u8, &'a str);
 
 /// The line ends so over the store and the sink. A message shows the line.

@@ -28,7 +28,7 @@ pub(crate) fn leading_digits(digits: u8x16) -> usize
     }
 }
 
-/// The number that so many of them make, from the first on.
+/// The number that the first `count` of them make.
 #[inline(always)]
 pub(crate) fn leading_number(digits: u8x16, count: usize) -> u32
     requires some { 0 < count }

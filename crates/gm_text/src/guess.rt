@@ -30,7 +30,7 @@ impl Guess {
         Guess { digits: 1 }
     }
 
-    /// The end of a number of so many digits, where it has one digit at least and eight at most. As
+    /// The end of a number of `count` digits, where it has one digit at least and eight at most. As
     /// many are guessed from then on.
     // Inlined, as `small_at` is.
     #[inline(always)]
@@ -53,7 +53,7 @@ impl Guess {
     }
 }
 
-/// The end of a number of so many digits.
+/// The end of a number of `count` digits.
 // Not inlined, since a compiler that saw both ends would make them one, and wait for the count.
 #[cold]
 #[inline(never)]

@@ -181,8 +181,8 @@ fn read_embed(
     Ok(Embed { name, mask, kind })
 }
 
-/// The next embedding after so many, or `None` where none begins. Where a second declaration is
-/// judged, those before it are known.
+/// The next embedding after `count` of them, or `None` where none begins. Where a second declaration
+/// is judged, those before it are known.
 fn next_embed(
     lexer: &mut Lexer<'_>,
     dim: Dim,

@@ -32,7 +32,7 @@ impl Text {
         }
     }
 
-    /// No bytes, with room for so many, so that they are put without taking more memory.
+    /// No bytes, with room for `room` of them, so that these are appended without taking more memory.
     pub fn with_room(alloc: Global, room: usize) -> Result<Text, OutOfMemory>
         ensures { IfOk result (λ text. text ≡ []) }
     {
@@ -41,7 +41,7 @@ impl Text {
         })
     }
 
-    /// No bytes, in the room that these had, which is made greater where it isn't enough for so many.
+    /// No bytes, in the room that these had, which is made greater where it isn't enough for `room` bytes.
     pub fn in_room_of(mut bytes: Vec<u8>, room: usize) -> Result<Text, OutOfMemory>
         ensures { IfOk result (λ text. text ≡ []) }
     {

@@ -1,5 +1,5 @@
 //! Words and numbers that are written from the end of bytes on, each piece before what stands there
-//! already, so that many are put at once.
+//! already, so that many are appended at once.
 ghost use Rattle.std.specs.Prelude.{◌≡◌, ◌+◌, ◌≤◌, ◌∷◌, ◌++◌, length, drop, decimal};
 
 use itoa::write_digits;

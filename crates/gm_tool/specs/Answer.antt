@@ -1,4 +1,4 @@
--- What a command on one file answers: the status, and the text put.
+-- What a command on one file answers: the status, and the text printed.
 use Rattle.std.specs.Prelude.{◌≡◌, ℕ, ◌<◌, ◌≤◌, List, [], ◌∷◌, ◌++◌, length, Option, Some, None, codes}
 use Rattle.gm_cells.specs.declared.counts.Counts.{Counts}
 use Rattle.gm_cells.specs.declared.orientation.Orientation.{Orientation}
@@ -15,7 +15,7 @@ use Rattle.gm_model.specs.Rules.{Rule}
 use Rattle.gm_lines.specs.Refusing.{Role, TheMap, TheBook, role_word, refusal, IsBad}
 use Rattle.gm_lines.specs.Checking.{AreLines, counts_line, check_status}
 
--- the most bytes of a file that is read or of a text that is put
+-- the most bytes of a file that is read or of a text that is printed
 abbrev pub most_bytes : ℕ
 most_bytes = 268435456
 
@@ -63,7 +63,7 @@ role_of Cells = TheMap
 abbrev pub Asks : List (List ℕ) → Command → List ℕ → Type 0
 Asks words command name = words ≡ command_word command ∷ name ∷ []
 
--- ---- what is put
+-- ---- what is printed
 
 -- the text is that of the map's numbers of cells, and of its orientation
 pub record TellsCells (map : Map) (text : List ℕ) : Type 0 where
@@ -73,7 +73,7 @@ pub record TellsCells (map : Map) (text : List ℕ) : Type 0 where
   pub orientation_is : IsOrientation map orientation
   pub is : text ≡ counts_text counts ++ orientation_text orientation
 
--- the command on these bytes has this status and puts this text, however long
+-- the command on these bytes has this status and prints this text, however long
 pub data IsOutput (bytes : List ℕ) : Command → ℕ → List ℕ → Type 0 where
   -- the canonical text of the map, in the version that it is read in
   Shown : (version : MapVersion) (map : ListedMap) → MapText bytes version map → IsOutput bytes Show 0 (canonical version map)

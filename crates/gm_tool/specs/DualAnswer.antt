@@ -137,6 +137,6 @@ abbrev pub IsDualMade : Files → DualNames → (ℕ → Type 0) → Result (Vec
 IsDualMade files named load_fails (Ok text) = IsGoodDual files named text.items
 IsDualMade files named load_fails (Err stop) = IsStopFor (IsDualAnswer files named) (IsDualLoadFailure files named load_fails) stop
 
--- the text to put, and what the store then holds
+-- the text to print, and what the store then holds
 abbrev pub IsDualReply : Files → DualNames → (ℕ → Type 0) → Type 0 → Contents → Result Reply NoText → Type 0
 IsDualReply files named load_fails save_fails after reply = IsTextOf files (IsDualAnswer files named) (IsDualLoadFailure files named load_fails) save_fails after reply

@@ -1,4 +1,4 @@
--- What is to be put, with which status, and what the store then holds: as a definition says, or as a fault of the store leaves it.
+-- What is to be printed, with which status, and what the store then holds: as a definition says, or as a fault of the store leaves it.
 use Rattle.std.specs.Prelude.{◌≡◌, ℕ, List, Option, Some, None, Result, Ok, Err, codes}
 use Rattle.gm_host.specs.Store.{Contents}
 use Rattle.gm_host.specs.Saves.{IsSaved, IsSavedInPart}
@@ -31,7 +31,7 @@ status_given (Ok reply) = reply.status
 status_given (Err nothing.OutOfMemory) = 7
 status_given (Err (nothing.Refused why)) = status_of why
 
--- the text to put is that of an ending; where memory ran out, the store is as at entry
+-- the text to print is that of an ending; where memory ran out, the store is as at entry
 abbrev pub IsTextOf : Files → (Answer → Type 0) → (Answer → Type 0) → Type 0 → Contents → Result Reply NoText → Type 0
 IsTextOf files IsDefined IsLoadFailure save_fails after (Ok reply) = IsEnding files IsDefined IsLoadFailure save_fails reply.status reply.text.items after
 IsTextOf files IsDefined IsLoadFailure save_fails after (Err nothing.OutOfMemory) = after ≡ Some files

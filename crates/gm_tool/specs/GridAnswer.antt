@@ -1,4 +1,4 @@
--- What `grid` answers to its number: a grid of so many rows is made, the script is run on it, and a line tells what is left.
+-- What `grid` answers to its number: a grid of that many rows is made, the script is run on it, and a line tells what is left.
 use Rattle.std.specs.Prelude.{◌≡◌, ℕ, ◌≤◌, ◌*◌, List, [], ◌∷◌, ◌++◌, map, Result, Ok, Err, codes, decimal}
 use Rattle.std.specs.List.{count_by, range_with_len}
 use Rattle.gm_cells.specs.Cells.{HasCells}

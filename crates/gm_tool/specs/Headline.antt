@@ -17,7 +17,7 @@ module _ (files : Files) (named : RunNames) (status : ℕ) (before written : Lis
     -- the files are the texts of a map, of a book whose rules are accepted, and of a script; and the statements have these outcomes, and leave this map
     pub good : IsGoodRun files named inputs ran
     pub status_is : status ≡ run_status ran.outcomes
-    -- the report is put, and nothing else
+    -- the report is printed, and nothing else
     pub report : written ≡ before ++ report_of inputs ran
     -- the map is saved, and all else is held as before
     pub saved : IsSaved (Some files) named.out (saved_of inputs ran) after

@@ -11,7 +11,7 @@ use Rattle.gm_tool.specs.declared.refusal.Stop.{Stop}
 use Rattle.gm_tool.specs.declared.refusal.Stop.TheVariants as stops
 use Rattle.gm_tool.specs.declared.reply.Reply.{Reply}
 
--- a count of loads after so many more
+-- a count of loads after this many more
 abbrev pub loads_after : ℕ → ℕ → ℕ
 loads_after zero count = count
 loads_after (suc k) count = counted (loads_after k count)

@@ -80,7 +80,7 @@ IsStopFor IsDefined IsLoadFailure (stops.NoText (nothing.Refused why)) = IsDefin
 abbrev pub IsStopOf : Files → RunNames → (ℕ → Type 0) → Stop → Type 0
 IsStopOf files named load_fails stop = IsStopFor (IsRunAnswer files named) (IsRunLoadFailure files named load_fails) stop
 
--- what is saved and put of a run, or why it stops
+-- what is saved and printed of a run, or why it stops
 abbrev pub IsMade : Files → RunNames → (ℕ → Type 0) → Result Made Stop → Type 0
 IsMade files named load_fails (Ok made) = (inputs : Inputs) × (ran : Ran) × IsGoodRun files named inputs ran × IsFitted (run_status ran.outcomes) (report_of inputs ran) (saved_of inputs ran) (Ok made)
 IsMade files named load_fails (Err stop) = IsStopOf files named load_fails stop
@@ -102,7 +102,7 @@ HoldsSuch IsSuch contents name = IfSome contents (λ files. (bytes : List ℕ) �
 abbrev pub HoldsMap : Contents → List ℕ → Type 0
 HoldsMap contents name = HoldsSuch IsMapBytes contents name
 
--- the text to put of a run, and what the store then holds
+-- the text to print of a run, and what the store then holds
 abbrev pub IsRunText : Files → RunNames → (ℕ → Type 0) → Type 0 → Contents → Result Reply NoText → Type 0
 IsRunText files named load_fails save_fails after reply = IsTextOf files (IsRunAnswer files named) (IsRunLoadFailure files named load_fails) save_fails after reply
 
@@ -113,7 +113,7 @@ IsSoundReply (Err (nothing.Refused refusals.Save)) P Q = Q
 IsSoundReply (Err (nothing.Refused refusals.Usage)) P Q = ⊥
 IsSoundReply _ P Q = Unit {0}
 
--- the map is saved and the report is to be put; or the store failed and saved it in part; or memory ran out, and nothing changed
+-- the map is saved and the report is to be printed; or the store failed and saved it in part; or memory ran out, and nothing changed
 abbrev pub IsSaving : Contents → List ℕ → Made → Type 0 → Contents → Result Reply NoText → Type 0
 IsSaving before name made fails after (Ok reply) = (reply.status ≡ made.status) × (reply.text.items ≡ made.report.items) × IsSaved before name made.map.items after
 IsSaving before name made fails after (Err nothing.OutOfMemory) = after ≡ before

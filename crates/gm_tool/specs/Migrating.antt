@@ -45,7 +45,7 @@ pub data IsMigrateAnswer (files : Files) (named : MigrateNames) (answer : Answer
   MapFails : IsFailing files TheMap named.map IsBadMap answer → IsMigrateAnswer files named answer
   -- the text to save is too long
   LongOutput : (map : ListedMap) → HasMigrated files named map → most_bytes < length (migrated_text map) → answer ≡ answers 8 (refusal (codes "size output")) → IsMigrateAnswer files named answer
-  -- the line is put, and the text is saved
+  -- the line is printed, and the text is saved
   Done : (map : ListedMap) → HasMigrated files named map → length (migrated_text map) ≤ most_bytes
       → answer ≡ record { status = 0; text = migrated_line map; saved = Some (record { name = named.out; bytes = migrated_text map }) } → IsMigrateAnswer files named answer
 
@@ -61,6 +61,6 @@ IsMigrated map (Err (nothing.Refused why)) = (why ≡ refusals.SizeOutput) × (m
 abbrev pub IsMigrateLoadFailure : (ℕ → Type 0) → Answer → Type 0
 IsMigrateLoadFailure load_fails given = load_fails 1 × (given ≡ answers 3 (refusal (codes "load " ++ role_word TheMap)))
 
--- the text to put of a migration, and what the store then holds
+-- the text to print of a migration, and what the store then holds
 abbrev pub IsMigrateText : Files → MigrateNames → (ℕ → Type 0) → Type 0 → Contents → Result Reply NoText → Type 0
 IsMigrateText files named load_fails save_fails after reply = IsTextOf files (IsMigrateAnswer files named) (IsMigrateLoadFailure load_fails) save_fails after reply

@@ -1,4 +1,4 @@
--- What the program answers to its words and files: the status, the text put, and the bytes saved.
+-- What the program answers to its words and files: the status, the text printed, and the bytes saved.
 use Rattle.std.specs.Prelude.{◌≡◌, ◌⊎◌, ℕ, List, codes}
 use Rattle.gm_tool.specs.Answer.{Files, Answer, answers, Command, Asks, IsFileAnswer}
 use Rattle.gm_tool.specs.DualAnswer.{DualNames, AsksDual, IsDualAnswer}

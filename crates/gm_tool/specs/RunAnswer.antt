@@ -136,7 +136,7 @@ pub data IsRunAnswer (files : Files) (named : RunNames) (answer : Answer) : Type
   -- the report or the map is too long
   LongOutput : (inputs : Inputs) (ran : Ran) → IsGoodRun files named inputs ran → (most_bytes < length (report_of inputs ran)) ⊎ (most_bytes < length (saved_of inputs ran))
       → answer ≡ answers 8 (refusal (codes "size output")) → IsRunAnswer files named answer
-  -- the report is put, and the map is saved
+  -- the report is printed, and the map is saved
   Done : (inputs : Inputs) (ran : Ran) → IsGoodRun files named inputs ran → length (report_of inputs ran) ≤ most_bytes → length (saved_of inputs ran) ≤ most_bytes
       → answer ≡ record { status = run_status ran.outcomes; text = report_of inputs ran; saved = Some (record { name = named.out; bytes = saved_of inputs ran }) } → IsRunAnswer files named answer
 

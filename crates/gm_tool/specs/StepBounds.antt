@@ -28,7 +28,7 @@ darts_read inputs = length inputs.map.darts
 abbrev pub darts_left : Ran → ℕ
 darts_left ran = length ran.map.darts
 
--- what a map of so many darts takes to be read, and what it takes to be printed
+-- what a map of this many darts takes to be read, and what it takes to be printed
 abbrev pub reading : ℕ → ℕ → ℕ
 reading n darts = 32 * ((n + 1) * (n + 1)) * (darts + 1)
 
@@ -46,7 +46,7 @@ turning n darts = 24 * ((n + 1) * (n + 1)) * (darts + 1)
 abbrev pub dualising : ℕ → ℕ → ℕ
 dualising n darts = 56 * ((n + 1) * (n + 1)) * (darts + 1)
 
--- what it takes at most to read a map of so many darts, to test its laws, and to print the one of so many that is left
+-- what it takes at most to read a map of this many darts, to test its laws, and to print the one of `left` darts that it leaves
 abbrev pub handling : ℕ → ℕ → ℕ → ℕ
 handling n darts left = 64 * ((n + 1) * (n + 1)) * (darts + left + 1)
 
@@ -97,7 +97,7 @@ MigrateStaysWithin words contents before after = (named : MigrateNames) → Asks
 
 -- ---- a map and its dual
 
--- where the bytes stand for a map, no more steps than reading it and putting its dual
+-- where the bytes stand for a map, no more steps than reading it and printing its dual
 abbrev pub DualsWithin : List ℕ → ℕ → ℕ → Type 0
 DualsWithin bytes before after = (version : MapVersion) (map : ListedMap) → MapText bytes version map → after ≤ before + dualising map.schema.dim (length map.darts)
 
@@ -172,7 +172,7 @@ RunsAtLeast inputs before after = (ran : Ran) (bounds : Bounds) → IsRan inputs
 
 -- ---- the parts of a grid
 
--- what it takes to count the cells of a map of so many darts
+-- what it takes to count the cells of a map of this many darts
 abbrev pub counting : ℕ → ℕ
 counting darts = 72 * darts
 

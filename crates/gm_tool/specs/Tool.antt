@@ -41,7 +41,7 @@ pub data IsLoadFailure (words : List (List ℕ)) (files : Files) (load_fails : �
   OfMigrate : (named : MigrateNames) → AsksMigrate words named → IsMigrateLoadFailure load_fails given → IsLoadFailure words files load_fails given
   OfDual : (named : DualNames) → AsksDual words named → IsDualLoadFailure files named load_fails given → IsLoadFailure words files load_fails given
 
--- the text to put is that of the words' answer or of a fault of the store, and the store holds what it then holds
+-- the text to print is that of the words' answer or of a fault of the store, and the store holds what it then holds
 abbrev pub IsText : List (List ℕ) → Files → (ℕ → Type 0) → Type 0 → Contents → Result Reply NoText → Type 0
 IsText words files load_fails save_fails after reply = IsTextOf files (IsAnswer words files) (IsLoadFailure words files load_fails) save_fails after reply
 
@@ -56,7 +56,7 @@ module _ (words : List (List ℕ)) (files : Files) (load_fails : ℕ → Type 0)
     Put : (text : List ℕ) → Ends status text after → written ≡ before ++ text → Leaves put_fails before status written after
     -- the sink failed: some first bytes of it
     PutFailed : put_fails → (given : ℕ) (text : List ℕ) (kept : ℕ) → Ends given text after → status ≡ 6 → written ≡ before ++ take kept text → Leaves put_fails before status written after
-    -- memory ran out for the put, and nothing was put
+    -- memory ran out for the put, and nothing was printed
     Unput : (given : ℕ) (text : List ℕ) → Ends given text after → status ≡ 7 → written ≡ before → Leaves put_fails before status written after
     -- memory ran out before, and all is as at entry
     NoMemory : status ≡ 7 → written ≡ before → after ≡ Some files → Leaves put_fails before status written after
@@ -78,7 +78,7 @@ pub data IsLoadCause (words : List (List ℕ)) (contents : Contents) (load_fails
 abbrev pub HoldsSaved : (List ℕ → Type 0) → List (List ℕ) → Contents → Type 0
 HoldsSaved IsSuch words contents = ((named : RunNames) → AsksRun words named → HoldsSuch IsSuch contents named.out) × ((named : MigrateNames) → AsksMigrate words named → HoldsSuch IsSuch contents named.out)
 
--- bytes are put whole with the status given; or the sink failed, and some first bytes are; or memory ran out, and none are
+-- bytes are printed whole with the status given; or the sink failed, and some first bytes are; or memory ran out, and none are
 abbrev pub IsPut : Option (List ℕ) → Option (List ℕ) → Type 0 → List ℕ → ℕ → ℕ → Type 0
 IsPut before after fails bytes given status =
     ((status ≡ given) × (after ≡ extended before bytes)) ⊎ (((status ≡ 6) × fails × ExtendsInPart before bytes after) ⊎ ((status ≡ 7) × (after ≡ before)))

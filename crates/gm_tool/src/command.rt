@@ -16,9 +16,9 @@ use itoa::Buffer;
 /// A command on one file.
 #[derive(Clone, Copy)]
 pub enum Command {
-    /// `show MAP`: put the canonical text of a map.
+    /// `show MAP`: print the canonical text of a map.
     Show,
-    /// `book BOOK`: put the canonical text of a rule book.
+    /// `book BOOK`: print the canonical text of a rule book.
     Book,
     /// `check BOOK`: tell of each rule of a book whether it is accepted.
     Check,
@@ -42,7 +42,7 @@ pub struct MigrateFiles<'w> {
     pub out: &'w str,
 }
 
-/// The files whose duals are put, by name.
+/// The files whose duals are printed, by name.
 #[derive(Clone, Copy)]
 pub struct DualFiles<'w> {
     pub map: &'w str,

@@ -1,5 +1,5 @@
 //! The program's commands, over any store and sink: what the words of the command line ask for, what
-//! is put and saved, and with which status.
+//! is printed and saved, and with which status.
 #![tactic(auto)]
 
 mod answers;

@@ -39,7 +39,7 @@ fn line_of(alloc: Global, arena: &Arena) -> Result<Vec<u8>, OutOfMemory>
 }
 
 /// The text of the map in the second version of the format, in the room of these bytes, and the line
-/// that is put.
+/// that is printed.
 fn prepared<L: Ledger>(
     alloc: Global,
     arena: &Arena,

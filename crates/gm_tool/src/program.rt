@@ -24,7 +24,7 @@ use gm_host::{PutFault, Sink, Store};
 use std::alloc::Global;
 use std::sync::ledger::Ledger;
 
-/// What the command puts on the bytes of its file.
+/// What the command prints of the bytes of its file.
 fn judged<L: Ledger>(
     alloc: Global,
     command: Command,
@@ -112,7 +112,7 @@ fn reply_to<S: Store, L: Ledger>(
     running::answer(alloc, files, store, steps)
 }
 
-/// Puts the bytes by one put, and gives the status where that goes well.
+/// Prints the bytes by one put, and gives the status where that goes well.
 fn put_whole<O: Sink>(out: &mut O, bytes: &[u8], status: u8) -> u8
     ensures put { IsPut (O.written out.old) (O.written out.new) (Rises (O.faults out.old) (O.faults out.new)) bytes.now status result }
     ensures one { O.puts out.new ≡ counted (O.puts out.old) }
@@ -129,22 +129,22 @@ fn put_whole<O: Sink>(out: &mut O, bytes: &[u8], status: u8) -> u8
 /// Runs the command that the words ask for, over any store, sink and step counter, and answers the
 /// program's status.
 ///
-/// `words` are the words after the program's name, read by position. `show MAP` puts the canonical
+/// `words` are the words after the program's name, read by position. `show MAP` prints the canonical
 /// text of the map in the file MAP, `book BOOK` that of the rule book in the file BOOK, and
-/// `check BOOK` a line for each rule of the book and one that counts. `cells MAP` puts the numbers of
+/// `check BOOK` a line for each rule of the book and one that counts. `cells MAP` prints the numbers of
 /// the map's cells, components and free darts, and its two colours or an odd walk. `run MAP BOOK SCRIPT OUT`
-/// applies the lines of the script to the map, saves the map as OUT, which may be MAP, and puts a
+/// applies the lines of the script to the map, saves the map as OUT, which may be MAP, and prints a
 /// report. `migrate MAP OUT` saves the map as OUT, which may be MAP, in the second version of the
-/// format, and puts a line with the number of its darts and its next name. `dual MAP BOOK` puts the
+/// format, and prints a line with the number of its darts and its next name. `dual MAP BOOK` prints the
 /// canonical text of the map's dual, and after it that of the book's. `grid M`, for M from 1 to
-/// 100, makes a grid of M rows of M squares, triangulates each, and puts a line that counts the
-/// lines done, the darts and the cells; it reads no file. All that is put goes out by one put: the
+/// 100, makes a grid of M rows of M squares, triangulates each, and prints a line that counts the
+/// lines done, the darts and the cells; it reads no file. All that is printed goes out by one put: the
 /// text, with status 0, or 1 where a rule isn't accepted or a line is refused, or the one line of a
 /// refusal. Status 2 is for words that are no
 /// command, 3 for a file that can't be loaded, 4 for a text that stands for nothing, a rule that
 /// isn't accepted in a run, or a map and a book that don't agree, 8 for a file or a text past
-/// 268,435,456 bytes, 5 for a save that failed, 6 for a put that failed, and 7 for want of memory,
-/// after which nothing is put. Only a run and a migration save, and only where they are done: with
+/// 268,435,456 bytes, 5 for a save that failed, 6 for a put that failed, and 7 where memory ran out,
+/// and then nothing is printed. Only a run and a migration save, and only where they are done: with
 /// status 0 or 1, or where the save or the put failed.
 pub fn tool<S: Store, O: Sink, L: Ledger>(
     alloc: Global,
@@ -164,8 +164,8 @@ pub fn tool<S: Store, O: Sink, L: Ledger>(
         (Rises (S.load_faults store.old) (S.load_faults store.new)) (Rises (S.save_faults store.old) (S.save_faults store.new)) (Rises (O.faults out.old) (O.faults out.new))
         (O.written out.old) result (O.written out.new) steps.old steps.new }
 
-    // The steps of a run, where the store tells, and of a grid: at most so many whatever is answered,
-    // and at least so many where it is done; and the most of a map that is shown or migrated.
+    // The steps of a run, where the store tells, and of a grid: how many at most whatever is answered,
+    // and how many at least where it is done; and the most of a map that is shown or migrated.
     ensures steps { KeepsSteps (words_of words.now) (S.holds store.old) result steps.old steps.new }
 
     // What the status says of the words, of the loads and of the save. This and the rest hold whatever
@@ -181,8 +181,8 @@ pub fn tool<S: Store, O: Sink, L: Ledger>(
     ensures put_failed { result ≡ 6 → Rises (O.faults out.old) (O.faults out.new) }
     ensures no_put_failed { result ≢ 6 → O.faults out.new ≡ O.faults out.old }
 
-    // Where memory ran out nothing is printed; and over a sink that never wants it, that is before the put, and
-    // saves nothing.
+    // Where memory ran out nothing is printed; and over a sink that takes none, that is before the put,
+    // and nothing is saved.
     ensures no_memory { result ≡ 7 → O.written out.new ≡ O.written out.old }
     ensures no_memory_before { IsTrue O.never_wants_memory → result ≡ 7 → S.holds store.new ≡ S.holds store.old }
     ensures none_put { IsTrue O.never_wants_memory → result ≡ 7 → O.puts out.new ≡ O.puts out.old }

@@ -23,7 +23,7 @@ pub enum Refusal {
     Load(Role),
     /// The file is longer than the limit.
     Size(Role),
-    /// The text to put or to save is longer than the limit.
+    /// The text to print or to save is longer than the limit.
     SizeOutput,
     /// The map and the book are not of one dimension with the same embeddings.
     Agree,
@@ -45,7 +45,7 @@ impl Refusal {
         }
     }
 
-    /// The line that is put, with its line end.
+    /// The line that is printed, with its line end.
     pub fn line(self) -> &'static [u8]
         ensures { result.now ≡ line_of self }
     {
@@ -64,12 +64,12 @@ impl Refusal {
     }
 }
 
-/// Why there is no text to put that takes memory.
+/// Why there is no text to print, of those that take memory.
 #[derive(Clone, Copy)]
 pub enum NoText {
-    /// Memory ran out, so nothing is put.
+    /// Memory ran out, so nothing is printed.
     OutOfMemory,
-    /// The command is refused, and its line is put.
+    /// The command is refused, and its line is printed.
     Refused(Refusal),
 }
 

@@ -6,10 +6,10 @@ ghost use Rattle.gm_tool.specs.inner.Stops.{reply_of};
 
 use crate::refusal::{NoText, Refusal, Stop};
 
-/// The most bytes of a file that is read or of a text that is put.
+/// The most bytes of a file that is read or of a text that is printed.
 pub const MOST_BYTES: usize = 268_435_456;
 
-/// A text to put, with the status of the program where that goes well.
+/// A text to print, with the status of the program where that goes well.
 #[derive(Drop)]
 pub struct Reply {
     pub status: u8,
@@ -26,7 +26,7 @@ pub fn reply_within_limit(status: u8, text: Vec<u8>) -> Result<Reply, NoText>
     Ok(Reply { status, text })
 }
 
-/// What is put of a stop before anything is saved.
+/// What is printed of a stop before anything is saved.
 pub fn stopped(stop: Stop) -> Result<Reply, NoText>
     ensures { result ≡ reply_of stop }
 {

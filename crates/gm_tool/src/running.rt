@@ -39,7 +39,7 @@ use gm_run::{Outcome, Report, print_report};
 use std::alloc::Global;
 use std::sync::ledger::Ledger;
 
-/// What is saved and put, with the status where that goes well.
+/// What is saved and printed, with the status where that goes well.
 #[derive(Drop)]
 pub struct Made {
     pub status: u8,
@@ -236,7 +236,7 @@ fn same_embed(embed: &Embed, other: &Embed) -> bool
         && embed.kind == other.kind
 }
 
-/// What is saved and put of the run, which loads its files and saves nothing.
+/// What is saved and printed of the run, which loads its files and saves nothing.
 fn prepared<S: Store, L: Ledger>(
     alloc: Global,
     files: RunFiles<'_>,
@@ -300,7 +300,7 @@ fn prepared_behind<S: Store, L: Ledger>(
     applied(alloc, plans.as_slice(), book, script, loaded, steps)
 }
 
-/// Saves the map, and answers the text to put.
+/// Saves the map, and answers the text to print.
 pub fn saved<S: Store>(out: &str, made: Made, store: &mut S) -> Result<Reply, NoText>
     ensures one_save { S.saves store.new ≡ counted (S.saves store.old) }
     ensures no_load { S.loads store.new ≡ S.loads store.old }

@@ -26,7 +26,7 @@ fn arity(function: Function) -> usize
     }
 }
 
-/// Whether it is a function with so many arguments.
+/// Whether it is a function with `count` arguments.
 pub(crate) fn takes(function: Option<Function>, count: usize) -> bool
     ensures { result ≡ is_some (with_arity function count) }
 {
@@ -88,7 +88,7 @@ pub(crate) fn call_with_three(
     }
 }
 
-/// The place of the function, where it doesn't take so many arguments.
+/// The place of the function, where it doesn't take `count` arguments.
 fn misfit_of(callee: Callee, count: usize) -> Option<usize>
     ensures { result ≡ building.misfit_of callee count }
 {

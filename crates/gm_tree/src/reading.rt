@@ -26,7 +26,7 @@ struct Built {
     partial: Partial,
 }
 
-/// Goes past the next token of an expression, after so many, where it has no fault. Answers `None`
+/// Goes past the next token of an expression, after `count` of them, where it has no fault. Answers `None`
 /// where it ends.
 fn go_on(lexer: &mut Lexer<'_>, dim: Dim, count: usize, state: &mut State) -> Option<Token>
     requires few { count ≤ 256 }

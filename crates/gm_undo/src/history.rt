@@ -37,7 +37,7 @@ use std::sync::ledger::Ledger;
 pub struct History {
     rows: KeptRows,
     changes: Vec<Made>,
-    /// So many of the changes are made; the others were taken back.
+    /// How many of the changes are made; the others were taken back.
     made: usize,
     /// Where a group is open, how many changes were made where it began.
     group: Option<usize>,

@@ -44,7 +44,7 @@ pub(crate) fn kept_end(changes: &[Made], count: usize) -> usize
     }
 }
 
-/// Makes room for the rows and the change of the edits, after so many rows.
+/// Makes room for the rows and the change of the edits, after the first `kept` rows.
 pub(crate) fn make_room(
     rows: &mut KeptRows,
     changes: &mut Vec<Made>,
@@ -162,7 +162,7 @@ fn keep_staying<L: Ledger>(
     }
 }
 
-/// Puts the rows of so many darts, by their names from `first` on, after the others.
+/// Puts the rows of `added` darts, by their names from `first` on, after the others.
 fn keep_added<L: Ledger>(
     rows: &mut KeptRows,
     first: u32,

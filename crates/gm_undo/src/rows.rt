@@ -14,12 +14,12 @@ use std::alloc::Global;
 use std::marker::Model;
 use std::sync::ledger::Ledger;
 
-/// The rows of darts of maps with so many labels and embeddings.
+/// The rows of darts of maps with one number of labels and one of embeddings.
 #[derive(Drop)]
 pub(crate) struct KeptRows {
     labels: usize,
     width: usize,
-    /// For so many rows there is room without memory.
+    /// For how many rows there is room without taking memory.
     room: usize,
     names: Vec<u32>,
     staying: Vec<bool>,
@@ -65,7 +65,7 @@ impl KeptRows {
         self.names.len()
     }
 
-    /// Makes room for so many rows in all, of maps with so many labels and embeddings. Where it is
+    /// Makes room for `rows` rows in all, of maps with `labels` labels and `width` embeddings. Where it is
     /// missing, twice the room is made, so that most calls only compare.
     pub(crate) fn reserve(
         &mut self,
@@ -86,7 +86,7 @@ impl KeptRows {
         self.grow(rows.max(self.room.saturating_mul(2)), labels, width)
     }
 
-    /// Makes room for so many rows in all, of maps with so many labels and embeddings.
+    /// Makes room for `rows` rows in all, of maps with `labels` labels and `width` embeddings.
     #[cold]
     #[inline(never)]
     fn grow(&mut self, rows: usize, labels: usize, width: usize) -> Result<(), OutOfMemory>
@@ -143,7 +143,7 @@ impl KeptRows {
         self.staying[index] = true;
     }
 
-    /// Forgets all but so many rows.
+    /// Forgets all rows but the first `rows`.
     pub(crate) fn truncate(&mut self, rows: usize)
         requires { rows ≤ length self.old.rows }
         ensures { self.new ≡ record self.old { rows = take rows self.old.rows } }
@@ -185,7 +185,7 @@ impl KeptRows {
     }
 }
 
-/// What a row has of the items, of which each row has so many.
+/// What a row has of the items, of which each row has `width`.
 fn part<T>(items: &[T], width: usize, index: usize) -> &[T]
     requires { index * width + width ≤ length items.now }
     ensures { result.now ≡ part_of width items.now index }
@@ -193,7 +193,7 @@ fn part<T>(items: &[T], width: usize, index: usize) -> &[T]
     &items[index * width..index * width + width]
 }
 
-/// So many times as many; refused where no vector has room for it.
+/// The product, refused where no vector has room for it.
 fn times(count: usize, each: usize) -> Result<usize, OutOfMemory>
     ensures { IfOk result (λ all. all ≡ count * each) }
 {
@@ -203,7 +203,7 @@ fn times(count: usize, each: usize) -> Result<usize, OutOfMemory>
     }
 }
 
-/// Makes room for so many items in all.
+/// Makes room for `count` items in all.
 fn make_room<T>(items: &mut Vec<T>, count: usize) -> Result<(), OutOfMemory>
     ensures room { OnOk result (count ≤ vec_capacity items.new) }
     ensures items { items.new.items ≡ items.old.items }

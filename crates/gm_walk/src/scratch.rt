@@ -12,7 +12,7 @@ use std::alloc::Global;
 use std::marker::Model;
 use std::mem;
 
-/// So many marks are made ahead, so that a map that grows by a few darts at a time is seldom met
+/// How many marks are made ahead, so that a map that grows by a few darts at a time is seldom met
 /// here again.
 const MARKS_AHEAD: usize = 1_024;
 

@@ -30,7 +30,7 @@ IsRefusedFor app (refusals.FullNames next more) = IsRefused app (causes.FullName
 IsRefusedFor app (refusals.NoValue embed node) = IsRefused app (causes.NoValue embed node)
 IsRefusedFor app refusals.OutOfMemory = Unit {0}
 
--- The found match has room for its result: the darts and names that are added fit, so many, and so many darts go.
+-- The found match has room for its result: the `added` darts and their names fit, and `removed` darts go.
 pub record HasRoom (app : Application) (place : Placement) (added removed : ℕ) : Type 0 where
   pub ready : IsReady app place
   pub added_is : added ≡ more app place

@@ -25,6 +25,6 @@ pub record IsReadyToCommit (app : Application) (m : ArenaMap) (edits : OwnEdits)
 abbrev pub cost_with_rows : ℕ → OwnEdits → ℕ
 cost_with_rows dim edits = cost_of edits.lists + 4 * (dim + 1) * length edits.touched + 2 * (dim + 1) * edits.lists.added
 
--- so many rows the touched darts have before and after, and the added ones after
+-- how many rows the touched darts have before and after, and the added ones after
 abbrev pub rows_of : OwnEdits → ℕ
 rows_of edits = 2 * length edits.touched + edits.lists.added

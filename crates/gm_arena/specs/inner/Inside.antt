@@ -56,7 +56,7 @@ linked labels label (two ∷ more) neighbours = linked labels label more (slice_
 abbrev pub slot_numbered : ℕ → Slot
 slot_numbered at = record { at = at }
 
--- the neighbours of so many lines one after another, as slots: a line has the number of a dart and then those of its neighbours
+-- the neighbours of this many lines one after another, as slots: a line has the number of a dart and then those of its neighbours
 abbrev pub links_in : ℕ → ℕ → List ℕ → List Slot
 links_in labels zero lines = []
 links_in labels (suc count) lines = map slot_numbered (drop 1 (take (labels + 1) lines)) ++ links_in labels count (drop (labels + 1) lines)

@@ -28,7 +28,7 @@ pub record AreLines (schema : Schema) (lines : List ℕ) (values : List Value) :
   pub long : length values ≡ line_count schema lines * length schema.embeds
   pub good : (at : ℕ) → at < line_count schema lines → AreGoodValues schema (values_on schema values at)
 
--- the darts 0, 1 and so on, so many, each at the slot of its own number, with the neighbours and the values of its line
+-- the darts 0, 1 and so on, one for each line, at the slots of their own numbers, with the neighbours and the values of their lines
 pub record HoldsLines (schema : Schema) (lines : List ℕ) (values : List Value) (m : ArenaMap) : Type 0 where
   pub schema_is : m.schema ≡ schema
   pub count : m.count ≡ line_count schema lines

@@ -3,7 +3,7 @@ use Rattle.std.specs.Prelude.{◌≡◌, ℕ, ◌-◌, ◌≤◌, List, [], ◌+
 use Rattle.std.specs.List.{range_with_len}
 use Rattle.gm_arena.specs.inner.Inside.{no_slot}
 
--- of so many names so many have the slots of their own numbers, and the others none
+-- of `len` names the first `taken` have the slots of their own numbers, and the others none
 abbrev pub even : ℕ → ℕ → List ℕ
 even taken len = range_with_len 0 taken ++ replicate (len - taken) no_slot
 

@@ -9,7 +9,7 @@ use Rattle.std.specs.List.{AllByRecursion}
 use Rattle.gm_expr.specs.ExprText.{IsNamed}
 use Rattle.gm_book.specs.Canonical.{node_line, hook_text}
 
--- both ends are among so many nodes
+-- both ends are among this many nodes
 abbrev pub AreEndsNodes : ℕ → Link → Type 0
 AreEndsNodes nodes link = (link.from < nodes) × (link.to < nodes)
 

@@ -20,7 +20,7 @@ reading_in m placed position params = record { map = as_map m; place = placement
 abbrev pub AreLiveAt : ArenaMap → Placed → ℕ → Type 0
 AreLiveAt m placed position = (x : ℕ) → x < placed.nodes → IsLiveSlot m (slot_number placed x position)
 
--- The expression has a kind, as one of a rule whose left nodes are among the first so many and whose parameters these
+-- The expression has a kind, as one of a rule whose left nodes are among the first `nodes` and whose parameters these
 -- are values for.
 pub record IsTypedFor (schema : Schema) (nodes : ℕ) (params : List Value) (tree : Tree) : Type 0 where
   pub rule : Rule

@@ -58,7 +58,7 @@ module _ (AtHand : Collector → Type 0) (reading : Reading) where
   abbrev pub HasOwnUnits : Form → Mask → DartTerm → ℕ → ℕ → Type 0
   HasOwnUnits form mask term e u = ((c : Collector) × IsOwn form mask term e c × AtHand c × (u ≡ 0)) ⊎ HasUnits reading (collector_at form mask term e) u
 
-  -- The reading takes so many units, where each collector that is at hand may be left out. With none at hand these are the
+  -- The reading takes this many units, where each collector that is at hand may be left out. With none at hand these are the
   -- model's, form by form; with some there are several numbers of units, and what is bounded by each is by the least.
   abbrev pub HasUnitsBeside : Tree → ℕ → Type 0
   HasUnitsBeside (Number n) u = HasUnits reading (Number n) u

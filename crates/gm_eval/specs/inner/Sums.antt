@@ -12,7 +12,7 @@ use Rattle.gm_arena.specs.inner.ArenaMap.{ArenaMap, name_at}
 abbrev pub part : ℕ → Value → ℤ
 part k v = slice_index_or (components v) k (pos 0)
 
--- so many numbers as a value of the kind has components
+-- as many numbers as a value of the kind has components
 abbrev pub parts_for : Kind → ℤ → ℤ → ℤ → List ℤ
 parts_for Int x y z = x ∷ []
 parts_for Bool x y z = []

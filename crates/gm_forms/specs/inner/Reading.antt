@@ -44,7 +44,7 @@ pub data State : Type 0 where
   -- before the name of the rule with this ordinal, and after it
   AtName : Heading → ℕ → State
   AtLeft : Heading → ℕ → State
-  -- before the name of a parameter after so many of its rule
+  -- before the name of a parameter, after this many of its rule
   AtParam : Heading → ℕ → ℕ → State
   -- after the name of the parameter with this ordinal, before its kind, and after it
   AtColon : Heading → ℕ → ℕ → State
@@ -55,13 +55,13 @@ pub data State : Type 0 where
   -- where an item can begin, and after its first name
   AtItem : Spot → State
   AtSign : Spot → List ℕ → State
-  -- in a node's word after so many letters, and after the word
+  -- in a node's word after this many letters, and after the word
   AtLetter : Spot → ℕ → State
   AtBehind : Spot → State
   -- in an assignment before the name of an embedding, and after it
   AtSet : Spot → State
   AtEqual : Spot → State
-  -- in an expression, after so many of its symbols
+  -- in an expression, after this many of its symbols
   AtExpr : Slot → exprs.Spot → State
   -- after the precondition of the rule with this ordinal
   AtRuleEnd : Heading → ℕ → State

@@ -65,7 +65,7 @@ after_save before name bytes = record before { files = insert before.files name 
 abbrev pub after_unmade_save : StoreState → StoreState
 after_unmade_save before = record before { saves = counted before.saves }
 
--- the files after a save that failed: as they were, or with so many of the first bytes under the name
+-- the files after a save that failed: as they were, or with this many of the first bytes under the name
 abbrev pub kept_files : Files → List ℕ → List ℕ → Option ℕ → Files
 kept_files files name bytes None = files
 kept_files files name bytes (Some kept) = insert files name (take kept bytes)

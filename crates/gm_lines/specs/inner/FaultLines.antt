@@ -12,7 +12,7 @@ use Rattle.gm_lines.specs.BookFaults.{book_fault_words}
 use Rattle.gm_lines.specs.BookFaults as book_faults
 use Rattle.gm_lines.specs.Refusing.{IsBad, TheMap}
 
--- words that say why the bytes stand for no map are put after the text
+-- words that say why the bytes stand for no map are appended to the text
 abbrev pub PutsMapFault : List ℕ → List ℕ → List ℕ → Type 0
 PutsMapFault bytes old new = (why : List ℕ) × IsBad bytes TheMap why × (new ≡ old ++ why)
 

@@ -5,7 +5,7 @@ use Rattle.gm_model.specs.declared.rule.RuleFault.TheVariants as faults
 use Rattle.gm_model.specs.declared.schema.Schema.{Schema}
 use Rattle.gm_model.specs.Rules.{Rule}
 
--- the fault speaks of nodes and embeddings that there are, of so many
+-- the fault speaks of nodes and embeddings that there are, where there are this many
 abbrev pub SpeaksOf : ℕ → ℕ → RuleFault → Type 0
 SpeaksOf nodes embeds faults.Hooks = Unit {0}
 SpeaksOf nodes embeds (faults.HookWord x) = x < nodes

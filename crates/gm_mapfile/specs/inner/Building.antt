@@ -15,7 +15,7 @@ use Rattle.gm_mapfile.specs.MapText.{Version, First, Second, DartRow, IsNext, na
 use Rattle.gm_mapfile.specs.MapFaults.{AreNamedOnce, IsLeastTwice, IsLeastNotBelow, AreBelow, HaveTargets}
 use Rattle.gm_mapfile.specs.inner.Rows.{darts_in}
 
--- numbers and values that fit an arena over the schema: of so many lines, each number a name, and each line's values good
+-- numbers and values that fit an arena over the schema: no more lines than a map has darts, each number a name, and each line's values good
 pub record AreInRoom (schema : Schema) (numbers : List ℕ) (values : List Value) : Type 0 where
   pub few : length numbers / (schema.dim + 2) ≤ most_darts
   pub small : All (λ x. x < most_names) numbers

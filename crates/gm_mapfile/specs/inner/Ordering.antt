@@ -2,12 +2,12 @@
 use Rattle.std.specs.Prelude.{ℕ, zero, suc, ◌+◌, ◌*◌, List, [], ◌∷◌, slice_range}
 use Rattle.std.specs.List.{flat_map}
 
--- so many numbers, from this one up
+-- this many numbers, from this one up
 abbrev pub counted_from : ℕ → ℕ → List ℕ
 counted_from start zero = []
 counted_from start (suc count) = start ∷ counted_from (suc start) count
 
--- what stands on a line, where each has so many elements
+-- what stands on a line, where each has this many elements
 abbrev pub on_line : {A : Type 0} → ℕ → List A → ℕ → List A
 on_line width all line = slice_range all (line * width) (line * width + width)
 

@@ -25,7 +25,7 @@ abbrev pub row_in : List ℕ → Row
 row_in [] = record { name = 0; alphas = [] }
 row_in (name ∷ alphas) = record { name = name; alphas = alphas }
 
--- the rows of so many lines, each of n + 2 numbers
+-- the rows of this many lines, each of n + 2 numbers
 abbrev pub rows_from : ℕ → ℕ → List ℕ → List Row
 rows_from n zero numbers = []
 rows_from n (suc count) numbers = row_in (take (n + 2) numbers) ∷ rows_from n count (drop (n + 2) numbers)
@@ -38,7 +38,7 @@ rows_in n numbers = rows_from n (length numbers / (n + 2)) numbers
 abbrev pub valued : Row → List Value → DartRow
 valued row values = record { name = row.name; alphas = row.alphas; values = values }
 
--- the darts of the rows, each with so many values
+-- the darts of the rows, each with this many values
 abbrev pub darts_from : ℕ → List Row → List Value → List DartRow
 darts_from width [] values = []
 darts_from width (row ∷ rows) values = valued row (take width values) ∷ darts_from width rows (drop width values)

@@ -31,7 +31,7 @@ pub record AreHookSlots (m : ArenaMap) (hooks : List ℕ) (slots : List Slot) : 
   pub live : AreLive m slots
   pub names : names_of m slots ≡ hooks
 
--- the first hooks, so many of them, name live darts
+-- the first `count` hooks name live darts
 abbrev pub AreDarts : ArenaMap → List ℕ → ℕ → Type 0
 AreDarts m hooks count = (k d : ℕ) → k < count → slice_get hooks k ≡ Some d → IsLiveName m d
 
@@ -41,7 +41,7 @@ pub data IsNoDart (m : ArenaMap) (hooks : List ℕ) : MatchFault → Type 0 wher
 
 -- ---- turns
 
--- the first turns, so many of them, lead to positions before p
+-- the first `count` turns lead to positions before p
 abbrev pub LeadBefore : List ℕ → ℕ → ℕ → Type 0
 LeadBefore turns count p = (j : ℕ) → j < count → slice_index turns j < p
 
@@ -54,11 +54,11 @@ pub record IsFirstTo (turns : List ℕ) (p k : ℕ) : Type 0 where
 abbrev pub HaveFirstTurns : List ℕ → ℕ → ℕ → Type 0
 HaveFirstTurns turns positions places = (p : ℕ) → 0 < p → p < positions → (k : ℕ) × (k < p * places) × IsFirstTo turns p k
 
--- the slots of a walk along one label, so many as there are turns
+-- the slots of a walk along one label, as many as there are turns
 abbrev pub ends : Slot → Slot → List ℕ → List Slot
 ends from to turns = take (length turns) (from ∷ to ∷ [])
 
--- the slots of a walk along so many labels: those of the walk along one label, or those that were walked
+-- the slots of a walk along this many labels: those of the walk along one label, or those that were walked
 abbrev pub walk_of : ℕ → List Slot → List Slot → List Slot
 walk_of (suc zero) one walked = one
 walk_of zero one walked = walked
@@ -66,7 +66,7 @@ walk_of (suc (suc places)) one walked = walked
 
 -- ---- slots
 
--- what slots are put for: the hooks of a plan have these darts, and the first of them lies along this walk
+-- what slots are found for: the hooks of a plan have these darts, and the first of them lies along this walk
 pub record AreWalkedFrom (m : ArenaMap) (plan : PlanOf) (darts walk : List Slot) : Type 0 where
   pub matchable : AreMatchable m plan
   pub some : 0 < length darts
@@ -81,7 +81,7 @@ pub record AreWalkedFrom (m : ArenaMap) (plan : PlanOf) (darts walk : List Slot)
 abbrev pub dart_in : ArenaMap → List Slot → ℕ → ℕ
 dart_in m row x = name_of m (slice_get row x)
 
--- the dart that rows of so many slots have for node x at position p
+-- the dart that rows of this many slots have for node x at position p
 abbrev pub dart_at : ArenaMap → ℕ → List Slot → ℕ → ℕ → ℕ
 dart_at m nodes slots x p = name_of m (slice_get slots (p * nodes + x))
 
@@ -99,24 +99,24 @@ pub record IsForcedRow (m : ArenaMap) (rule : Rule) (row : List Slot) : Type 0 w
   pub live : AreLive m row
   pub forced : (x hook : ℕ) (path : List ℕ) → IsPathTo rule x hook path → dart_in m row x ≡ follow (alpha m) path (dart_in m row hook)
 
--- in the first rows, so many of them, each left node lies where its least path leads from its hook
+-- in the first `rows` rows each left node lies where its least path leads from its hook
 abbrev pub AreForcedRows : ArenaMap → Rule → ℕ → ℕ → List Slot → Type 0
 AreForcedRows m rule nodes rows slots = (x p hook : ℕ) (path : List ℕ) → p < rows → IsPathTo rule x hook path → dart_at m nodes slots x p ≡ follow (alpha m) path (dart_at m nodes slots hook p)
 
--- the first rows, so many of them, are all: of live slots, where the first hook lies along the walk and each left node is forced
+-- the first `rows` rows are all: of live slots, where the first hook lies along the walk and each left node is forced
 pub record AreAlongWalk (m : ArenaMap) (rule : Rule) (nodes : ℕ) (walk : List ℕ) (rows : ℕ) (slots : List Slot) : Type 0 where
   pub long : rows * nodes ≡ length slots
   pub live : AreLive m slots
   pub hooked : (h p : ℕ) → first_hook rule ≡ Some h → p < rows → dart_at m nodes slots h p ≡ slice_index walk p
   pub forced : AreForcedRows m rule nodes rows slots
 
--- Of hooks of one label each, the first, so many of them, lie in their rows: the first hook along the walk, each other one at its dart, and at the second position, where there is one, at the neighbour of that along its own label.
+-- Of hooks of one label each, the first `count` lie in their rows: the first hook along the walk, each other one at its dart, and at the second position, where there is one, at the neighbour of that along its own label.
 pub record AreHooksLaid (m : ArenaMap) (rule : Rule) (hooks walk : List ℕ) (rows nodes count : ℕ) (slots : List Slot) : Type 0 where
   pub first : (h p : ℕ) → first_hook rule ≡ Some h → p < rows → dart_at m nodes slots h p ≡ slice_index walk p
   pub at_darts : (t h : ℕ) → 0 < t → t < count → slice_get rule.hooks t ≡ Some h → dart_at m nodes slots h 0 ≡ slice_index hooks t
   pub in_step : (t h : ℕ) → 0 < t → t < count → slice_get rule.hooks t ≡ Some h → 1 < rows → dart_at m nodes slots h 1 ≡ alpha m (label_at (letters rule Left h) 0) (slice_index hooks t)
 
--- The first rows, so many of them, are those of the candidate at these hook darts, by its walk and its turns.
+-- The first `rows` rows are those of the candidate at these hook darts, by its walk and its turns.
 pub record AreRows (m : ArenaMap) (rule : Rule) (hooks walk turns : List ℕ) (nodes rows : ℕ) (slots : List Slot) : Type 0 where
   pub along : AreAlongWalk m rule nodes walk rows slots
   pub at_darts : (t h d : ℕ) → 0 < rows → slice_get rule.hooks t ≡ Some h → slice_get hooks t ≡ Some d → dart_at m nodes slots h 0 ≡ d

@@ -236,7 +236,7 @@ role_at n state symbol place = key_role n state.place (key_of symbol) place
 
 -- ---- symbols are counted
 
--- after so many symbols
+-- after this many symbols
 pub record Spot : Type 0 where
   pub count : ℕ
   pub state : State

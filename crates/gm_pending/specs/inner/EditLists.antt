@@ -120,7 +120,7 @@ module _ (app : PendingOf) where
   abbrev pub AllGiven : Type 0
   AllGiven = (e : ℕ) → e < length app.map.schema.embeds → AreAllGiven app e
 
-  -- Over the embeddings, so many darts in all are in orbits with an assigned instance.
+  -- Over the embeddings, this many darts in all are in orbits with an assigned instance.
   pub record IsReachedSumIn (count : ℕ) : Type 0 where
     pub result : Unfolded
     pub unfolded : IsUnfoldedIn app result
@@ -129,7 +129,7 @@ module _ (app : PendingOf) where
     pub counts_are : (e c : ℕ) (embed : Embed) → slice_get counts e ≡ Some c → IsEmbedAt app.map.schema e embed → HasCount (IsReachedIn app result e embed) c
     pub sum_is : count ≡ sum counts
 
-  -- each of so many added darts has its value of each embedding
+  -- each of this many added darts has its value of each embedding
   pub record AreAddedValues (added : ℕ) (values : List Value) : Type 0 where
     pub long : length values ≡ added * length app.map.schema.embeds
     pub given : (number e : ℕ) (embed : Embed) → number < added → IsEmbedAt app.map.schema e embed → IsValueIn app e embed (app.map.next + number) (added_value app.map.schema values number e)

@@ -19,7 +19,7 @@ module _ (app : PendingOf) where
   abbrev pub IsKeptValue : ℕ → Embed → ℕ → Value → Type 0
   IsKeptValue e embed number v = (x : ℕ) × (p : ℕ) × IsResultDart app (New x p) × (new_number x p ≡ number) × IsSourceValue app e embed (New x p) v
 
-  -- each of so many new darts has such a value of each embedding
+  -- each of this many new darts has such a value of each embedding
   pub record AreKeptValues (added : ℕ) (values : List Value) : Type 0 where
     pub long : length values ≡ added * length app.map.schema.embeds
     pub kept : (number e : ℕ) (embed : Embed) → number < added → IsEmbedAt app.map.schema e embed → IsKeptValue e embed number (added_value app.map.schema values number e)

@@ -48,6 +48,6 @@ pub record AreMarked (reached : List Mark) (by_key : Option ByKey) (bits : ℕ) 
   pub indexed : IfSome by_key (IsIndex reached)
   pub seen : AreSeen reached bits
 
--- Up to so many entries there is room, and no index.
+-- Up to this many entries there is room, and no index.
 abbrev pub IsQuick : {I : Type 0} → ℕ → ℕ → Option I → Type 0
 IsQuick quick capacity index = (quick ≤ capacity) × (0 < quick → index ≡ None)

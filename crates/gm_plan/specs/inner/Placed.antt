@@ -17,7 +17,7 @@ pub record Placed : Type 0 where
 abbrev pub placed_of : List Slot → List ℕ → ℕ → ℕ → ℕ → Placed
 placed_of slots turns positions nodes places = record { slots = slots; turns = turns; positions = positions; nodes = nodes; places = places }
 
--- so many entries are a whole number for each position
+-- this many entries are a whole number for each position
 abbrev pub HasRowsOf : ℕ → ℕ → Type 0
 HasRowsOf positions entries = (nodes : ℕ) × (positions * nodes ≡ entries)
 

@@ -14,14 +14,14 @@ use Rattle.gm_run.specs.inner.Lines.{cause_of, outcome_of, Tells}
 
 -- ---- which can be printed
 
--- the outcome speaks of nodes and embeddings that there are, of so many
+-- the outcome speaks of nodes and embeddings that there are, where there are this many
 abbrev pub SpeaksOf : ℕ → ℕ → runs.Outcome → Type 0
 SpeaksOf nodes embeds (runs.Refused (causes.Arc x p i)) = x < nodes
 SpeaksOf nodes embeds (runs.Refused (causes.Same x p y q)) = (x < nodes) × (y < nodes)
 SpeaksOf nodes embeds (runs.Refused (causes.NoValue e x)) = (e < embeds) × (x < nodes)
 SpeaksOf nodes embeds _ = Unit {0}
 
--- the rule that the statement names is one of so many
+-- the rule that the statement names is one of this many
 abbrev pub IsNamed : ℕ → Stat → Type 0
 IsNamed rules (statements.Apply line) = line.rule < rules
 IsNamed rules (statements.Each mask rule params) = rule < rules

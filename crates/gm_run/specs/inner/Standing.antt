@@ -58,14 +58,14 @@ going _ = 0
 
 -- ---- what is kept
 
--- so many of the maps of the past and of the future, the nearest ones
+-- this many of the maps of the past and of the future, the nearest ones
 abbrev pub nearest : ℕ → ℕ → History → History
 nearest past future told = record { past = take past told.past; future = take future told.future; group = told.group }
 
 abbrev pub nearest_entries : ℕ → ℕ → Entries → Entries
 nearest_entries past future entries = record { past = take past entries.past; future = take future entries.future; group = entries.group }
 
--- the history stands for this one as far as so many statements can go, back or on
+-- the history stands for this one as far as this many statements can go, back or on
 pub record Recalls (reach : ℕ) (history : HistoryOf) (m : ArenaMap) (told : History) : Type 0 where
   pub past : ℕ
   pub future : ℕ

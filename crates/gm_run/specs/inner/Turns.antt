@@ -16,7 +16,7 @@ use Rattle.gm_run.specs.declared.standing.Standing.{Standing}
 use Rattle.gm_run.specs.inner.Alike.{AreAlike}
 use Rattle.gm_run.specs.inner.Standing.{HasLine, IsUnapplied, MayGoBack, Remembers, entered_by, told_behind}
 
--- what is remembered in the group that began at the map, where so many applications of it were done
+-- what is remembered in the group that began at the map, where this many applications of it were done
 abbrev pub within_turns : Map → History → ℕ → History
 within_turns map history zero = begun_at map history
 within_turns map history (suc done) = record { past = history.past; future = []; group = Some (record { map = map; is_changed = true }) }
@@ -53,7 +53,7 @@ entered_by_turn (Some outcome) group most entries = entered_by outcome group mos
 abbrev pub AreTallied : List Rule → ℕ → List Value → Map → List ℕ → List Turn → TurnCosts → Map → Type 0
 AreTallied rules rule params before leads turns costs after = AreTurns rules rule params before leads turns after × AreTurnCosts rules turns costs
 
--- so many were done, refused and passed over
+-- how many of the turns were done, refused and passed over
 pub record Tells (counts : Counts) (turns : List Turn) : Type 0 where
   pub done : counts.done ≡ count_by is_done_turn turns
   pub refused : counts.refused ≡ count_by is_refused_turn turns

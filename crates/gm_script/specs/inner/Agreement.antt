@@ -7,7 +7,7 @@ use Rattle.gm_model.specs.Kinds.{AreGoodParams}
 use Rattle.gm_model.specs.Labels.{has}
 use Rattle.gm_model.specs.Rules.{Rule}
 
--- the rule with this index takes so many hooks and these values
+-- the rule with this index takes this many hooks and these values
 pub record Takes (rules : List Rule) (k hooks : ℕ) (params : List Value) : Type 0 where
   pub rule : Rule
   pub rule_is : slice_get rules k ≡ Some rule

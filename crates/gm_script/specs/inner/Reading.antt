@@ -303,7 +303,7 @@ number_passes n spot labels m = if nat_lt (greatest (is_minus spot)) m then Some
 abbrev pub name_passes : ℕ → Option Passed
 name_passes size = if nat_lt MOST_NAME_BYTES size then Some (LimitOf limits.Name) else None
 
--- what is passed at the spot, where so much has been and the token has so many bytes
+-- what is passed at the spot, where so much has been and the token has this many bytes
 abbrev pub passed_in : ℕ → Spot → Been → Sight → ℕ → Option Passed
 passed_in n spot been (sights.Number m) size = number_passes n spot been.labels m
 passed_in n spots.Apply been sight size = name_passes size

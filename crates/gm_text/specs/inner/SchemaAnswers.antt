@@ -121,7 +121,7 @@ pub record IsEmbedNext (old new : Cursor) (place : ℕ) : Type 0 where
   pub within : new.place ≤ length new.text
   pub behind : IsBehindToken old new
 
--- a further embedding after so many, or none
+-- a further embedding after this many, or none
 abbrev pub ReadsEmbed : Bool → ℕ → ℕ → List Embed → Cursor → Cursor → Option Embed → Type 0
 ReadsEmbed strict n count known old new (Some embed) = (declared : List Embed) → length declared ≡ count → IsKnown strict known declared → Reads strict (AtEmbeds n declared) old new (AtEmbeds n (declared ++ embed ∷ []))
 ReadsEmbed strict n count known old new None = IsNoEmbedNext old new

@@ -1,4 +1,4 @@
--- What loading a file and judging its bytes answer, before anything is put.
+-- What loading a file and judging its bytes answer, before anything is printed.
 use Rattle.std.specs.Prelude.{◌≡◌, ◌⊎◌, ℕ, ◌<◌, ◌≤◌, List, ◌++◌, length, Some, None, Result, Ok, Err, codes}
 use Rattle.std.specs.Global.{Vec}
 use Rattle.gm_host.specs.Store.{Contents, Lacks, IsHeld, HoldsLongerFile}
@@ -45,7 +45,7 @@ no_file_for role faults.OutOfMemory = nothing.OutOfMemory
 
 -- ---- judging
 
--- what the command puts on the bytes: its output, which is not too long, or the line that refuses them
+-- what the command prints of the bytes: its output, which is not too long, or the line that refuses them
 abbrev pub IsJudged : List ℕ → answer.Command → Result Reply NoText → Type 0
 IsJudged bytes command (Ok reply) =
     (IsOutput bytes command reply.status reply.text.items × (length reply.text.items ≤ most_bytes)) ⊎ ((reply.status ≡ 4) × IsBadLine bytes (role_of command) reply.text.items)
@@ -81,7 +81,7 @@ abbrev pub IsBookRefusal : BookFault → Result Reply NoText → Type 0
 IsBookRefusal fault (Ok reply) = IsSaidOfBook fault × (reply.status ≡ 4) × (reply.text.items ≡ refusal (codes "BOOK" ++ codes " " ++ book_words fault))
 IsBookRefusal fault (Err none) = none ≡ nothing.OutOfMemory
 
--- what a check puts on these rules, where it is not too long
+-- what a check prints of these rules, where it is not too long
 abbrev pub IsChecked : Schema → List Rule → Result Reply NoText → Type 0
 IsChecked schema rules (Err nothing.OutOfMemory) = Unit {0}
 IsChecked schema rules reply = (refused : ℕ) × (lines : List ℕ) × AreLines schema rules refused lines × IsWithinLimit (check_status refused) (lines ++ counts_line (length rules) refused) reply

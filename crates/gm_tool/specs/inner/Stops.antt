@@ -49,7 +49,7 @@ IsSoundStop (NoText (nothing.Refused Usage)) P = ⊥
 IsSoundStop (NoText (nothing.Refused Save)) P = ⊥
 IsSoundStop _ P = Unit {0}
 
--- a text that can't be run has its line put with status 4
+-- a text that can't be run has its line printed with status 4
 abbrev pub reply_of : Stop → Result Reply none_of.NoText
 reply_of (Bad line) = Ok (record { status = 4; text = line })
 reply_of (NoText none) = Err none

@@ -174,7 +174,7 @@ reduced level (frame ∷ frames) tree = if nat_le (least_in frame) level then he
 
 -- ---- after an operand
 
--- whether the callee takes so many arguments, or else its place
+-- whether the callee takes this many arguments, or else its place
 abbrev pub misfit_of : Callee → ℕ → Option ℕ
 misfit_of callee count = if is_some (with_arity callee.function count) then None else Some callee.place
 

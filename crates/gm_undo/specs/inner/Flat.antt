@@ -1,4 +1,4 @@
--- How rows are kept: names, neighbours and values in lists of their own, so many for each row. No public clause cites this module.
+-- How rows are kept: names, neighbours and values in lists of their own, a fixed number for each row. No public clause cites this module.
 use Rattle.std.specs.Prelude.{◌≡◌, ℕ, ◌*◌, ◌≤◌, Bool, true, false, List, [], length, map, slice_index, slice_index_or, refl}
 use Rattle.std.specs.Coded.{Coded, code_by, coded×, coded_ℕ, coded_list}
 use Rattle.std.specs.List.{range_with_len}
@@ -10,7 +10,7 @@ use Rattle.gm_undo.specs.inner.Kept.{KeptRow, row_code}
 pub record RowsOf : Type 0 where
   pub labels : ℕ
   pub width : ℕ
-  -- for so many rows there is room
+  -- for how many rows there is room
   pub room : ℕ
   pub rows : List KeptRow
 
@@ -46,7 +46,7 @@ flat_rows labels width room names stays neighbours values = record {
   rows = map (flat_row labels width names stays neighbours values) (range_with_len 0 (length names));
 }
 
--- the lists have their entries for each row, and room for so many rows
+-- the lists have their entries for each row, and room for this many rows
 pub record AreFlat (labels width room names stays neighbours values names_room stays_room neighbours_room values_room : ℕ) : Type 0 where
   pub stays_long : stays ≡ names
   pub neighbours_long : neighbours ≡ names * labels

@@ -37,7 +37,7 @@ pub record AreBehindKept (m : ArenaMap) (first end : ℕ) (old new : RowsOf) : T
   pub all : (k : ℕ) → first ≤ k → k < end → IsLiveName m (row_in old.rows k).name → (j : ℕ) × (end ≤ j) × (j < length new.rows) × ((row_in new.rows j).name ≡ (row_in old.rows k).name)
   pub once : AreOnce old.rows first end → AreOnce new.rows end (length new.rows)
 
--- after the old rows stand those of so many darts from the name on
+-- after the old rows stand those of this many darts from the name on
 pub record AreAddedKept (m : ArenaMap) (first added : ℕ) (old new : RowsOf) : Type 0 where
   pub more : HasMoreRows old new
   pub count : length new.rows ≡ length old.rows + added

@@ -24,7 +24,7 @@ pub record HistoryOf : Type 0 where
   pub labels : ℕ
   pub width : ℕ
   pub changes : List Change
-  -- so many of them are made; the others were taken back
+  -- how many of them are made; the others were taken back
   pub made : ℕ
   -- where a group is open, how many were made where it began
   pub group : Option ℕ

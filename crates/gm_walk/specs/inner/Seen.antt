@@ -47,7 +47,7 @@ pub record HasFollowed (m : ArenaMap) (first second d : ℕ) (old new : List ℕ
 abbrev pub IsMetLead : ArenaMap → Labels → List ℕ → ℕ → Type 0
 IsMetLead m o darts d = IsLead (IsLiveName m) (alpha m) o d × Contains darts d
 
--- the darts that were met are live, and are so many whole orbits
+-- the darts that were met are live, and are this many whole orbits
 pub record HasMet (m : ArenaMap) (o : Labels) (word : List Letter) (darts : List ℕ) (count : ℕ) : Type 0 where
   pub closed : IsClosed m word darts
   pub live : (d : ℕ) → Contains darts d → IsLiveName m d
