@@ -116,6 +116,7 @@ def test_orbits():
 
 
 def test_large_maps_take_a_second_or_two():
+    # Of the processor, and three times as much where its caches are shared with other work.
     count = 300_000
     darts = list(range(count))
     along = {dart: dart ^ 1 for dart in darts}
@@ -126,7 +127,7 @@ def test_large_maps_take_a_second_or_two():
     printed = time.process_time()
     assert read_map(text) == given
     read = time.process_time()
-    assert printed - began < 2 and read - printed < 3, (printed - began, read - printed)
+    assert printed - began < 6 and read - printed < 9, (printed - began, read - printed)
 
 
 def test_the_program_that_is_run():
