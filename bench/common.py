@@ -35,8 +35,8 @@ def choose_program(words: "list[str]") -> str:
 def timed(words: "list[str]", out: "str | None" = None, may_fail: bool = False) -> Spent:
     """What a run takes, whose output goes to a file or nowhere. AssertionError where it fails and may not."""
     began = time.monotonic()
-    with open(out or os.devnull, "wb") as put:
-        child = subprocess.Popen(words, stdout=put)
+    with open(out or os.devnull, "wb") as printed:
+        child = subprocess.Popen(words, stdout=printed)
         _, raw, usage = os.wait4(child.pid, 0)
     child.returncode = status = os.waitstatus_to_exitcode(raw)
     assert may_fail or status == 0, f"{words}: status {status}"

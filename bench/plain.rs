@@ -1,15 +1,15 @@
 //! A plain program that saves the maps of `gmr`, beside which `bench/beside` times it: dimension 2,
 //! at most one embedding of points on the vertices, and operations that are written by hand, with
 //! nothing proved. It reads and writes in pieces, or holds each text whole, and its report is its own;
-//! what `cells` puts is what `gmr` puts. A text that is no map, a script that it doesn't know and a number
+//! what `cells` prints is what `gmr` prints. A text that is no map, a script that it doesn't know and a number
 //! of more than 18 digits end it. `grid` has a map of its own, without names and free places, in which
 //! nothing is looked up: the least that its work can cost.
 //!
-//!     plain show MAP            puts the map
-//!     plain cells MAP           puts how many cells, components and free darts there are, and the colours
-//!     plain run MAP SCRIPT OUT  applies the lines of the script, saves the map, puts a line for each
-//!     plain grid M              triangulates each face of M by M squares, puts how many cells there are
-//!     plain whole WORDS         the same of the first three, with each text held whole, as it is read and put
+//!     plain show MAP            prints the map
+//!     plain cells MAP           prints how many cells, components and free darts there are, and the colours
+//!     plain run MAP SCRIPT OUT  applies the lines of the script, saves the map, prints a line for each
+//!     plain grid M              triangulates each face of M by M squares, prints how many cells there are
+//!     plain whole WORDS         the same of the first three, with each text held whole, as it is read and printed
 use std::env;
 use std::fs::{self, File};
 use std::io::{self, Cursor, Read, Write};
@@ -39,7 +39,7 @@ struct Input {
 /// No number and no word that is read is longer.
 const LONGEST: usize = 64;
 
-/// So many bytes are looked at in one.
+/// How many bytes are looked at in one.
 const EIGHT: usize = 8;
 
 /// The digits at the start of these bytes: how many there are, and the number that they are.

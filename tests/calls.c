@@ -116,7 +116,7 @@ ssize_t read(int descriptor, void *bytes, size_t count) { return move(SYS_read, 
 
 ssize_t write(int descriptor, const void *bytes, size_t count) {
     long room = room_for(descriptor, count);
-    tell(descriptor == 1 ? "put" : "write", file_of(descriptor), count);
+    tell(descriptor == 1 ? "print" : "write", file_of(descriptor), count);
     if (count && !room) {
         errno = ENOSPC;
         return -1;

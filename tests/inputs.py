@@ -96,7 +96,7 @@ def chains(rules: int, embeds: int) -> str:
 
 
 def chained(lines: int, embeds: int = 8) -> Input:
-    """A chain of nodes added at each of so many darts."""
+    """A chain of nodes added at each of a number of darts."""
     heads = "".join(f"embed e{embed} <0 1> int\n" for embed in range(embeds))
     darts = [f"{dart} " + " ".join([str(dart)] * 8) + " 7" * embeds + "\n" for dart in range(lines)]
     script = "".join(f"apply r0 {line}\n" for line in range(lines))

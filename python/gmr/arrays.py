@@ -24,7 +24,7 @@ PIECE = 1 << 18  # bytes that are read at once
 TOP = 1 << 16  # bytes in which the head of a text stands, as a rule
 EIGHT, SURE = 8, 18  # letters of a word of 64 bits; digits that fit in one, whichever they are
 ZERO, MINUS = 48, 45
-# What leaves of eight letters the digits of the last so many: the later a letter, the higher its byte.
+# What leaves of eight letters the digits of the last 0 to 8 of them: the later a letter, the higher its byte.
 LAST = numpy.array([0x0F0F0F0F0F0F0F0F >> 8 * (8 - many) << 8 * (8 - many) for many in range(9)], numpy.uint64)
 
 
@@ -106,12 +106,12 @@ def print_values(table: Whole) -> Bytes:
 
 def read_arrays(text: bytes) -> Arrays:
     """The map that a text stands for, as maps.read_map takes it; ValueError with one plain line where it is none."""
-    behind = text.find(b"\n", text.rfind(b"#")) if b"#" in text else 0
-    behind = len(text) if behind < 0 else behind
-    bare = re.sub(rb"#[^\n]*", b" ", text[:behind])
-    head = HEAD_BYTES.match(bare + text[behind: behind + TOP])
+    after = text.find(b"\n", text.rfind(b"#")) if b"#" in text else 0
+    after = len(text) if after < 0 else after
+    bare = re.sub(rb"#[^\n]*", b" ", text[:after])
+    head = HEAD_BYTES.match(bare + text[after: after + TOP])
     if not head or not len(bare) <= head.end() < len(bare) + TOP:
-        bare, behind = bare + text[behind:], len(text)
+        bare, after = bare + text[after:], len(text)
         head = HEAD_BYTES.match(bare)
     if not head:
         raise ValueError("this is no text of a map: it doesn't open with gmap, dim and darts")
@@ -127,7 +127,7 @@ def read_arrays(text: bytes) -> Arrays:
         for name, labels, kind in re.findall(EMBED, head[3].decode())
     ]
     width = dimension + 2 + sum(WIDTHS[embed.kind] for embed in embeds)
-    body = text[behind + head.end() - len(bare):] if behind < len(text) else bare[head.end():]
+    body = text[after + head.end() - len(bare):] if after < len(text) else bare[head.end():]
     rows = read_numbers(body, width, count)
     return join_rows(version, dimension, embeds, head[7], rows)
 

@@ -31,10 +31,10 @@ def marked(text: str, place: int, end: int | None = None) -> list[str]:
     line_end = text.find("\n", place)
     line_end = len(text) if line_end < 0 else line_end
     cut = max(0, column - WIDEST)
-    before, behind = shown(text[begin + cut:place]), shown(text[place:min(line_end, begin + cut + WIDEST + 20)])
+    before, after = shown(text[begin + cut:place]), shown(text[place:min(line_end, begin + cut + WIDEST + 20)])
     length = max(1, len(shown(text[place:min(line_end, end or place + 1)])))
     head = f"{number:>5} | "
-    return [head + ("..." if cut else "") + before + behind,
+    return [head + ("..." if cut else "") + before + after,
             " " * (len(head) - 2) + "| " + " " * (len(before) + (3 if cut else 0)) + "^" * length]
 
 

@@ -61,16 +61,16 @@ def ask(*words: str | os.PathLike[str]) -> tuple[int, bytes]:
 
 def answer(*words: str | os.PathLike[str]) -> tuple[int, str]:
     """The same as text."""
-    status, put = ask(*words)
-    return status, put.decode("utf-8", "replace")
+    status, printed = ask(*words)
+    return status, printed.decode("utf-8", "replace")
 
 
 def bytes_or_refuse(*words: str | os.PathLike[str]) -> bytes:
     """What the program prints for the words; Refused with its own first line where its status isn't 0."""
-    status, put = ask(*words)
+    status, printed = ask(*words)
     if status:
-        raise refusal_of(status, put.decode("utf-8", "replace"))
-    return put
+        raise refusal_of(status, printed.decode("utf-8", "replace"))
+    return printed
 
 
 def put_or_refuse(*words: str | os.PathLike[str]) -> str:

@@ -35,10 +35,10 @@ def run_blocks(document: Path, top: Path) -> int:
     blocks = blocks_of(document.read_text(encoding="utf-8"))
     for block in blocks:
         wanted = re.findall(r"print\(.*\)\s+# (.*)$", block, re.MULTILINE)
-        put = io.StringIO()
-        with contextlib.redirect_stdout(put):
+        printed = io.StringIO()
+        with contextlib.redirect_stdout(printed):
             exec(compile(block, os.fspath(document), "exec"), names)
-        assert put.getvalue().splitlines() == wanted, f"{block}\nprints\n{put.getvalue()}"
+        assert printed.getvalue().splitlines() == wanted, f"{block}\nprints\n{printed.getvalue()}"
     return len(blocks)
 
 

@@ -37,7 +37,7 @@ def test_quiet(tmp_path: Path) -> None:
 
 @pytest.mark.parametrize("place", range(4))
 def test_shared_options_anywhere(tmp_path: Path, place: int) -> None:
-    """--quiet and --version stand before, between and behind the words of a subcommand."""
+    """--quiet and --version stand before, between and after the words of a subcommand."""
     words: list[str | Path] = ["import", EXAMPLES / "cube.obj", tmp_path / "cube.gmap"]
     words[place:place] = ["--quiet"]
     assert run(TOP / "tools" / "mesh", *words).stdout == "" and (tmp_path / "cube.gmap").exists()
@@ -52,7 +52,7 @@ def test_version_is_looked_for_when_asked() -> None:
 
 
 def test_shared_options_first() -> None:
-    """What all tools share goes before all else, but for what stands behind `--`, where no word is an option."""
+    """What all tools share goes before all else, but for what stands after `--`, where no word is an option."""
     assert with_shared_first(["a", "--quiet", "-b", "--unproved"]) == ["--quiet", "--unproved", "a", "-b"]
     assert with_shared_first(["a", "--", "--quiet"]) == ["a", "--", "--quiet"]
     assert with_shared_first(["--version"]) == ["--version"]

@@ -183,7 +183,7 @@ def test_a_look_takes_less_than_ten_milliseconds() -> None:
 
 
 def least_of(program: Path, times: int) -> float:
-    """The least time, in seconds by the clock, of so many calls."""
+    """The least time, in seconds by the clock, of a number of calls."""
     found = []
     for _ in range(times):
         began = time.monotonic()

@@ -51,7 +51,7 @@ class Took(NamedTuple):
 
 
 def torus(count: int) -> Map:
-    """A torus of squares with about so many darts, a point on each vertex and a colour on each face: square s has the
+    """A torus of squares with about `count` darts, a point on each vertex and a colour on each face: square s has the
     darts 8s to 8s + 7, two to each side, round it."""
     side = round((count / 8) ** 0.5)
     row, column, dart = (axis.ravel() for axis in np.meshgrid(*map(np.arange, (side, side, 8)), indexing="ij"))
@@ -69,7 +69,7 @@ def torus(count: int) -> Map:
 
 @contextmanager
 def open_torus(count: int) -> Iterator[Page]:
-    """The page of a studio over a torus of about so many darts, on which clicks are timed."""
+    """The page of a studio over a torus of about `count` darts, on which clicks are timed."""
     with tempfile.TemporaryDirectory(prefix="gmr-studio-test-") as name:
         torus(count).save(Path(name, "torus.gmap"))
         Path(name, "values2.gbook").write_bytes(BOOK.read_bytes())

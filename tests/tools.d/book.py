@@ -70,10 +70,10 @@ def test_nodes_links_and_expressions_are_read():
 
 def test_books_are_joined_with_their_comments():
     files = {"first.gbook": FIRST, "second.gbook": "# Of faces.\n" + SECOND}
-    status, put, said = book("join", "first.gbook", "second.gbook", "--order", "paint pos", files=files)
+    status, printed, said = book("join", "first.gbook", "second.gbook", "--order", "paint pos", files=files)
     equal((status, said), (0, ""))
     wanted = "# Of corners.\n# where a corner lies\nbook 2\ndim 2\nembed paint <0 1> rgb\nembed pos <1 2> vec2\n\n"
-    equal(put, wanted + FIRST[FIRST.index("# Moves") : FIRST.index("rule lift")] + "\n"
+    equal(printed, wanted + FIRST[FIRST.index("# Moves") : FIRST.index("rule lift")] + "\n"
           + FIRST[FIRST.index("rule lift") :] + "\n# Of faces.\n\n" + SECOND[SECOND.index("rule") :])
 
 
@@ -89,18 +89,18 @@ def test_what_cannot_be_joined_is_one_line():
     }
     for words, line in lines.items():
         equal(book("join", *words.split(), files=files), (1, "", f"book: {line}\n"))
-    status, put, said = book("join", "flat.gbook", "second.gbook", files=files)
-    equal((status, put, said.endswith(", and flat.gbook hasn't\n")), (1, "", True))
+    status, printed, said = book("join", "flat.gbook", "second.gbook", files=files)
+    equal((status, printed, said.endswith(", and flat.gbook hasn't\n")), (1, "", True))
 
 
 def test_a_book_is_taken_for_a_script_without_its_unfinished_rules():
     files = {"all.gbook": FIRST + UNFINISHED, "go.gscript": "apply lift 3 # up\napply lift 4 apply lift 5"}
-    status, put, said = book("take", "all.gbook", "go.gscript", files=files)
+    status, printed, said = book("take", "all.gbook", "go.gscript", files=files)
     equal((status, said), (0, ""))
-    equal(put, FIRST[: FIRST.index("# Moves")] + FIRST[FIRST.index("rule lift") : FIRST.index("# The end")])
+    equal(printed, FIRST[: FIRST.index("# Moves")] + FIRST[FIRST.index("rule lift") : FIRST.index("# The end")])
     with tempfile.TemporaryDirectory() as folder:
         path = Path(folder) / "used.gbook"
-        path.write_text(put, encoding="latin-1")
+        path.write_text(printed, encoding="latin-1")
         equal(program.answer("check", path), (0, "rule lift accepted\nrules 1 refused 0\n"))
 
 

@@ -108,18 +108,18 @@ def test_a_large_surface_is_drawn_as_triangles():
 
 
 def test_names_are_written_and_left_out():
-    status, put, _ = run("examples/painted.gmap")
-    texts = re.findall(r">([^<>]+)</text>", put.decode())
+    status, printed, _ = run("examples/painted.gmap")
+    texts = re.findall(r">([^<>]+)</text>", printed.decode())
     equal((status, texts), (0, [*map(str, range(8)), "α0", "α1", "α2"]))
-    status, put, _ = run("examples/painted.gmap", "--no-names")
-    equal((status, re.findall(r">([^<>]+)</text>", put.decode())), (0, ["α0", "α1", "α2"]))
+    status, printed, _ = run("examples/painted.gmap", "--no-names")
+    equal((status, re.findall(r">([^<>]+)</text>", printed.decode())), (0, ["α0", "α1", "α2"]))
 
 
 def test_maps_stand_side_by_side_under_titles():
-    status, put, _ = run("examples/square.gmap", "examples/squares.gmap", "--flat")
-    equal((status, re.findall(r">(squares?)</text>", put.decode())), (0, ["square", "squares"]))
-    status, put, _ = run("examples/square.gmap", "examples/square.gmap", "--titles", "one", "two")
-    equal((status, re.findall(r">(one|two)</text>", put.decode())), (0, ["one", "two"]))
+    status, printed, _ = run("examples/square.gmap", "examples/squares.gmap", "--flat")
+    equal((status, re.findall(r">(squares?)</text>", printed.decode())), (0, ["square", "squares"]))
+    status, printed, _ = run("examples/square.gmap", "examples/square.gmap", "--titles", "one", "two")
+    equal((status, re.findall(r">(one|two)</text>", printed.decode())), (0, ["one", "two"]))
 
 
 def test_hidden_faces_of_a_solid_are_left_out():
@@ -173,16 +173,16 @@ def test_two_thousand_faces_are_drawn_as_a_solid_without_names():
         path = Path(folder) / "torus.gmap"
         path.write_text(torus(50, 40).text(), encoding="ascii")
         began = time.monotonic()
-        status, put, _ = run(path)
-        equal((status, put.count(b"<text"), 800 < put.count(b"<path") < 1400), (0, 0, True))
+        status, printed, _ = run(path)
+        equal((status, printed.count(b"<text"), 800 < printed.count(b"<path") < 1400), (0, 0, True))
         equal(time.monotonic() - began < 90, True)
 
 
 def test_what_cannot_be_drawn_is_one_line():
     for words in ("examples/square.gmap --solid", "examples/edge.gmap --solid", "examples/painted.gmap x.png",
                   "examples/broken.gmap", "examples/painted.gmap --colours none", "README.md", "none.gmap"):
-        status, put, said = run(*words.split())
-        equal((words, status, put, said.count("\n")), (words, 1, b"", 1))
+        status, printed, said = run(*words.split())
+        equal((words, status, printed, said.count("\n")), (words, 1, b"", 1))
     equal(run()[0], 2)
     equal(run("examples/square.gmap", "--titles", "one", "two")[0], 2)
     equal(run("--help")[0], 0)

@@ -67,8 +67,8 @@ def test_a_volume_holds_what_lies_within():
 
 
 def test_what_several_cells_have_in_common():
-    status, put, _ = find(SQUARE, "--vertex", "0", "0", "--edge", "5", "0", "--lead")
-    equal((status, put), (0, "0\n"))
+    status, printed, _ = find(SQUARE, "--vertex", "0", "0", "--edge", "5", "0", "--lead")
+    equal((status, printed), (0, "0\n"))
 
 
 def test_every_list_has_each_dart_once():
@@ -91,22 +91,22 @@ def test_a_list_has_each_cell_as_it_is_found_alone():
 
 
 def test_an_orbit_goes_as_the_program_walks():
-    status, put, _ = find(SQUARE, "--orbit", "0 1", "3", "--json")
-    equal((status, json.loads(put)[0]["darts"]), (0, [3, 2, 4, 1, 5, 0, 6, 7]))
+    status, printed, _ = find(SQUARE, "--orbit", "0 1", "3", "--json")
+    equal((status, json.loads(printed)[0]["darts"]), (0, [3, 2, 4, 1, 5, 0, 6, 7]))
 
 
 def test_the_cell_of_a_dart():
-    status, put, _ = find(SQUARE, "--of", "3", "--cell", "1")
+    status, printed, _ = find(SQUARE, "--of", "3", "--cell", "1")
     wanted = "edge of dart 3: darts 3 2, vertices 2, edges 1, faces 1, pos (10 10) (10 0), paint (200 30 30)\n"
-    equal((status, put), (0, wanted))
+    equal((status, printed), (0, wanted))
 
 
 def test_a_script_is_written():
     form = "apply move {dart} with {pos} # {number}"
-    status, put, _ = find(SQUARE, "--list", "0", "--script", form)
+    status, printed, _ = find(SQUARE, "--list", "0", "--script", form)
     lines = [f"apply move {dart} with {at} # {number}\n" for number, (dart, at) in enumerate(
         ((0, "(0 0)"), (1, "(10 0)"), (3, "(10 10)"), (5, "(0 10)")))]
-    equal((status, put), (0, "".join(lines)))
+    equal((status, printed), (0, "".join(lines)))
 
 
 def test_only_free_darts_and_only_some_values():
@@ -114,8 +114,8 @@ def test_only_free_darts_and_only_some_values():
     equal(border[1].split(), "0 2 4 6 8 10 12 14".split())
     equal(find("examples/squares.gmap", "--list", "1", "--free", "1")[0], 1)
     equal(find(SQUARE, "--list", "2", "--where", "paint=(200 30 30)", "--lead")[1], "0\n")
-    status, put, said = find(SQUARE, "--list", "2", "--where", "paint=(1 2 3)", "--lead")
-    equal((status, put, said), (1, "", "find: nothing that was asked for is there\n"))
+    status, printed, said = find(SQUARE, "--list", "2", "--where", "paint=(1 2 3)", "--lead")
+    equal((status, printed, said), (1, "", "find: nothing that was asked for is there\n"))
 
 
 def test_the_parts_of_a_map_are_found():
@@ -133,8 +133,8 @@ def test_places_are_scaled_and_bounded():
 def test_what_cannot_be_found_is_one_line():
     equal(find("examples/torn.gmap", "--list", "2"), (1, "", "find: examples/torn.gmap: refused MAP embedding pos darts 5 6\n"))
     for words in ("--of 99", "--list 3", "--list 2 --script {x}", "--at 0 0 --points paint", "--orbit 0 x", "--orbit 7 0"):
-        status, put, said = find(SQUARE, *words.split())
-        equal((status, put, said.count("\n")), (1, "", 1))
+        status, printed, said = find(SQUARE, *words.split())
+        equal((status, printed, said.count("\n")), (1, "", 1))
     equal(find("examples/square.gmap", "--at", "0", "0")[0], 1)
     equal(find(SQUARE)[0], 2)
     equal(find(SQUARE, "--at", "1")[0], 2)

@@ -35,7 +35,7 @@ def seconds(work: Callable[[], None]) -> float:
 
 
 def files_of(folder: Path, rows: int, script: str) -> dict[str, str]:
-    """A grid of so many rows of as many squares, the book, and a script."""
+    """A grid of a number of rows of as many squares, the book, and a script."""
     texts = {"MAP": grid_text(rows, rows), "BOOK": BOOK, "SCRIPT": script}
     files = {role: str(folder / role) for role in texts}
     for role, text in texts.items():

@@ -166,9 +166,9 @@ def run(stored: Path, script: str) -> tuple[int, str, bytes]:
     with tempfile.TemporaryDirectory() as folder:
         lines, out = Path(folder, "script"), Path(folder, "out")
         lines.write_text(script, encoding="utf-8")
-        status, put = answer("run", stored, BOOK, lines, out)
-        assert out.exists(), put
-        return status, put, out.read_bytes()
+        status, printed = answer("run", stored, BOOK, lines, out)
+        assert out.exists(), printed
+        return status, printed, out.read_bytes()
 
 
 def cells_of(path: Path) -> tuple[int, ...]:
@@ -201,11 +201,11 @@ def test_schemes_make_the_points_the_faces_and_the_counts_of_plain_ones():
         for scheme, start in cases(Path(name)):
             stored, plain, cells = start, surface_of(maps.load_map(start)), cells_of(start)
             for number, script in enumerate(rounds(scheme)):
-                status, put, saved = run(stored, script)
+                status, printed, saved = run(stored, script)
                 stored = Path(name, f"{scheme}_{number}")
                 stored.write_bytes(saved)
                 plain, case = SCHEMES[scheme](plain), (scheme, start.name, number)
-                assert status == 0, (case, put)
+                assert status == 0, (case, printed)
                 wanted, cells = COUNTS[scheme](*cells), cells_of(stored)
                 assert cells == wanted, (case, cells)
                 assert cells[0] - cells[1] + cells[2] == 2, case
@@ -225,12 +225,12 @@ def test_a_line_saves_what_its_single_applications_save():
                 labels, rule = line.removeprefix("each <").split("> ")
                 orbits = maps.load_map(stored).orbits(tuple(map(int, labels.split())))
                 singles = "".join(f"apply {rule} {orbit[0]}\n" for orbit in orbits)
-                _, put, saved = run(stored, line)
+                _, printed, saved = run(stored, line)
                 _, single_put, single_saved = run(stored, singles)
                 case = (scheme, start.name, line)
                 assert saved == single_saved, case
                 passed = single_put.count(" refused no-dart hook 0\n")
-                assert put.splitlines()[0] == (f"1 each {rule} done {len(orbits) - passed} refused 0 "
-                                               f"passed {passed}"), (case, put)
+                assert printed.splitlines()[0] == (f"1 each {rule} done {len(orbits) - passed} refused 0 "
+                                               f"passed {passed}"), (case, printed)
                 stored = Path(name, "next")
                 stored.write_bytes(saved)

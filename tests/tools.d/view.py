@@ -252,6 +252,6 @@ def test_what_is_wrong_is_told_in_a_line() -> None:
         for words, said in (((broken, "-o", page), "points back"), (("nothing.gmap", "-o", page), "nothing.gmap"),
                             ((copy, "-o", copy), "can't be written"),
                             ((broken, *SCRIPT[1:], "-o", page), "refused MAP involution dart 0 label 0")):
-            status, put, fault = view(*words)
-            assert (status, put) == (1, "") and said in fault and fault.count("\n") == 1, (words, fault)
+            status, printed, fault = view(*words)
+            assert (status, printed) == (1, "") and said in fault and fault.count("\n") == 1, (words, fault)
         assert not page.exists()

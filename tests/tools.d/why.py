@@ -34,7 +34,7 @@ class Case(NamedTuple):
 
 
 def why(*texts: str, options: tuple[str, ...] = ()) -> tuple[int, str]:
-    """The status of tools/why for these texts, and what it puts."""
+    """The status of tools/why for these texts, and what it prints."""
     with tempfile.TemporaryDirectory() as folder:
         names = []
         for name, text in zip(("a.gmap", "a.gbook", "a.gscript"), texts):

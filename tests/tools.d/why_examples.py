@@ -30,7 +30,7 @@ def book_of(case: dict[str, str]) -> Book:
 
 
 def said_of(command: str, text: str) -> str:
-    """The first line that the program puts for a file with this text."""
+    """The first line that the program prints for a file with this text."""
     with tempfile.TemporaryDirectory() as folder:
         path = Path(folder, "file")
         path.write_text(text, encoding="ascii")

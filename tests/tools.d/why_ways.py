@@ -145,6 +145,6 @@ def test_embeddings_that_an_import_makes() -> None:
 
 
 def told_by_why(files: dict[str, str]) -> str:
-    """What tools/why puts for a map, a book and a script."""
+    """What tools/why prints for a map, a book and a script."""
     command = [sys.executable, ROOT / "tools" / "why", *files.values()]
     return subprocess.run(command, capture_output=True, text=True, check=False).stdout

@@ -110,11 +110,11 @@ def main(words: Sequence[str]) -> None:
         view = View(above, turn, asked.axis, asked.apart, asked.clear, asked.columns, asked.size, asked.names)
         picture = BytesIO()
         draw_solid.draw(titled, view, picture, form)
-        put(picture.getvalue(), asked.out)
+        write_picture(picture.getvalue(), asked.out)
     elif form != "svg":
         raise ValueError(f"a flat picture is .svg, and no .{form}; --solid draws faces as .{form} too")
     else:
-        put(draw_flat.draw(titled, asked.names).encode("utf-8"), asked.out)
+        write_picture(draw_flat.draw(titled, asked.names).encode("utf-8"), asked.out)
 
 
 def draw_crowds(asked: argparse.Namespace) -> bool:
@@ -134,11 +134,11 @@ def draw_crowds(asked: argparse.Namespace) -> bool:
     tell("drawing")
     picture = BytesIO()
     draw_solid.draw_listed(drawn, view, picture, Path(asked.out).suffix[1:] if asked.out else "svg")
-    put(picture.getvalue(), asked.out)
+    write_picture(picture.getvalue(), asked.out)
     return True
 
 
-def put(picture: bytes, out: str | None) -> None:
+def write_picture(picture: bytes, out: str | None) -> None:
     """Writes a picture into a file, whole or not at all, or to standard output."""
     if out:
         write_whole(out, picture)

@@ -49,7 +49,7 @@ def new_parser(name: str, description: str | None, examples: str, usage: str | N
 
 
 def with_shared_first(words: Sequence[str]) -> list[str]:
-    """The words with the options that all tools share before all else, as a subcommand knows none of them; behind `--`
+    """The words with the options that all tools share before all else, as a subcommand knows none of them; after `--`
     no word is an option."""
     end = words.index("--") if "--" in words else len(words)
     shared = [word for word in words[:end] if word in SHARED]

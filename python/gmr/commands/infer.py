@@ -79,7 +79,7 @@ def tell_broken(line: str) -> None:
     print(f"infer: {line}", file=sys.stderr)
 
 
-def put(book: str, script: str, files: list[str] | None, reads: Sequence[str]) -> None:
+def write_rule(book: str, script: str, files: list[str] | None, reads: Sequence[str]) -> None:
     """Writes the book and its script into the files, or else to standard output, the script as comments."""
     if files is None:
         print(book + "".join(f"# {line}\n" for line in script.splitlines()), end="")
@@ -104,7 +104,7 @@ def main(words: Sequence[str]) -> None:
     except NoRule as fault:
         candidate, none = fault.candidate, fault
     if candidate is not None:
-        put(write_book(example, candidate, asked.name), candidate.script(asked.name), asked.out, reads)
+        write_rule(write_book(example, candidate, asked.name), candidate.script(asked.name), asked.out, reads)
     if none is not None:
         raise none
 

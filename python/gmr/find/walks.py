@@ -9,7 +9,7 @@ Bools = NDArray[np.bool_]
 
 
 def walk_orbits(steps: Sequence[Rows], firsts: Rows) -> tuple[Rows, Rows]:
-    """The rows of the orbits over the steps from their first rows on, behind each other, and how many each has: the
+    """The rows of the orbits over the steps from their first rows on, one after another, and how many each has: the
     first new one by place, then by step, as `maps.walk` goes."""
     seen = np.zeros(len(steps[0]) if len(steps) else int(firsts.max(initial=0)) + 1, bool)
     rows, owners = [firsts], [np.arange(len(firsts))]
@@ -27,7 +27,7 @@ def walk_orbits(steps: Sequence[Rows], firsts: Rows) -> tuple[Rows, Rows]:
 
 
 def walk_rims(along: Rows, around: Rows, firsts: Rows) -> tuple[Rows, Rows]:
-    """The rows round closed faces from their first rows on, along 0 and 1 by turns, behind each other, and how many
+    """The rows round closed faces from their first rows on, along 0 and 1 by turns, one after another, and how many
     each has."""
     rows, owners = [firsts], [np.arange(len(firsts))]
     while len(rows[-1]):

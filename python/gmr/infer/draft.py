@@ -104,8 +104,8 @@ class Draft:
         standing = [(at, node, steps) for at, node, steps in of_side if steps is not None]
         for at, node, steps in standing:
             sets = [f" with {embed} = {value.format(*names)}" for embed, value in node.sets.items()]
-            behind = (" hook" if node.is_hook else "") if side == "left" else "".join(sets)
-            yield f"{names[at]} <{' '.join(self._letters(steps))}>{behind}"
+            after = (" hook" if node.is_hook else "") if side == "left" else "".join(sets)
+            yield f"{names[at]} <{' '.join(self._letters(steps))}>{after}"
         for at, _, steps in standing:
             for label, step in sorted(steps.items()):
                 if isinstance(step, Link) and step.node >= at:

@@ -157,7 +157,7 @@ class Fold:
 
     # ------------------------------------------------------------------ what lies further away
     def reach(self, most: int) -> None:
-        """Goes on along what doesn't change, by at most so many labels, to what differs and has no node."""
+        """Goes on along what doesn't change, by at most `most` labels, to what differs and has no node."""
         self.grow()
         while missing := self.example.missing(self.owner):
             way = self.find_way(missing, most)

@@ -67,7 +67,7 @@ def first_certified(example: Example, further: Sequence[Further], found: Sequenc
 
 
 def distinct(some: Iterator[Candidate]) -> Iterator[Candidate]:
-    """The first candidates of each text, so many at most."""
+    """The first candidate of each text, as far as a limit."""
     seen: set[str] = set()
     for candidate in some:
         text = candidate.draft.text("r")

@@ -137,7 +137,7 @@ def start_fold(example: Example, word: tuple[int, ...], hook: int | None, hand: 
 
 
 def could_be_whole(fold: Fold, hand: Hand) -> bool:
-    """Whether so many nodes have room for all that differs."""
+    """Whether the nodes of a hand have room for all that differs."""
     return max(len(fold.example.moved), len(fold.example.groups)) <= hand.nodes * len(fold.positions)
 
 

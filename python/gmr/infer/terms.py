@@ -8,7 +8,7 @@ from gmr.infer.draft import Draft
 from gmr.maps import Embed, Map, Value
 
 FURTHEST = 3            # labels of a path
-MOST_OF_SUM = {2: 40, 3: 24, 4: 18}    # of how many terms sums of so many are tried
+MOST_OF_SUM = {2: 40, 3: 24, 4: 18}    # of how many terms sums are tried, by how many a sum has
 FACTORS = {
     2: ((2, 1), (3, 1), (3, 2), (2, -1), (3, -1), (3, -2), (4, -1), (5, 1), (5, 3), (7, 1)),
     3: ((1, 1, 1), (1, 1, 2), (1, 1, -1), (6, 1, 1), (2, 2, -1), (1, 1, 4)),

@@ -85,7 +85,7 @@ def assign(places: Sequence[Place], forced: Iterable[tuple[str, int]]) -> list[U
 
 
 def thinned(draft: Draft) -> Draft:
-    """The draft at so many positions at most: of a large orbit a part decides which expression it is, and the program
+    """The draft at a limited number of positions: a part of a large orbit decides which expression it is; the program
     tries the rule on all of it."""
     size = len(draft.nodes[0].darts) if draft.nodes else 0
     if size <= MOST_POSITIONS:

@@ -160,7 +160,7 @@ def block_polyhedra(cells: Sequence[Cell]) -> list[tuple[str, list[Any]]]:
 
 
 def block_polygons(faces: Sequence[Polygon], form: str) -> list[tuple[str, list[Any]]]:
-    """The polygons, in runs of one number of corners; Unfit where the format has none of so many."""
+    """The polygons, in runs of one number of corners; Unfit where the format has none of that number."""
     blocks: list[tuple[str, list[Any]]] = []
     for size, run in groupby(faces, len):
         if size > 4 and form not in (*HAS_POLYGONS, *HAS_POLYHEDRA):

@@ -26,7 +26,7 @@ class Claims(NamedTuple):
 
 class Read(NamedTuple):
     """What a file has: points, and the words or decimals that they are; how far these may be apart, as a part of them;
-    the corners of faces behind each other, how many each has, and of a volume the cell of each face."""
+    the corners of faces one after another, how many each has, and of a volume the cell of each face."""
 
     points: Array
     words: Any

@@ -12,7 +12,7 @@ OFF_COUNTS = re.compile(rb"(?:[A-Z4n]*OFF)?(?:\s|#[^\n]*\n)*([0-9]{1,18})[ \t]+(
 
 
 def check_counts(path: Path, suffix: str) -> None:
-    """Unfit where a file tells of so many faces that no map has darts for triangles of them."""
+    """Unfit where a file tells of more faces than a map has darts for, were they triangles."""
     faces = count_faces(path, suffix)
     if FEWEST_DARTS * faces > MOST_DARTS:
         least = FEWEST_DARTS * faces

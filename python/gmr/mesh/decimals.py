@@ -70,7 +70,7 @@ class Decimals:
 
 
 def trim(digits: Whole, powers: Whole, is_exact: bool = True) -> Decimals:
-    """The numbers without zeros behind their digits; 0 has the power 0."""
+    """The numbers without zeros after their digits; 0 has the power 0."""
     digits, powers = digits.copy(), powers.copy()
     powers[(digits == 0) & (powers != NONE)] = 0
     open_places = np.nonzero((digits != 0) & (digits % 10 == 0))
@@ -96,7 +96,7 @@ def parse_words(words: Sequence[bytes] | NDArray[np.bytes_]) -> tuple[Decimals, 
 def parse_letters(
     letters: NDArray[np.uint8], sizes: Whole, word: Callable[[int], bytes]
 ) -> tuple[Decimals, NDArray[np.bool_]]:
-    """The same of the letters of words, a row for each place in a word with zeros behind its end, and how many each
+    """The same of the letters of words, a row for each place in a word with zeros after its end, and how many each
     has; `word` tells one of them."""
     digits, powers, is_plain = scan_plain(letters, sizes)
     is_wrong, is_exact = np.zeros(len(sizes), bool), True

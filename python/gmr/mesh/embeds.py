@@ -89,7 +89,7 @@ def choose_paint(mesh: Surface | Volume, colours: Colours) -> Paint | None:
 
 
 def repeat(colour: Sequence[int], count: int) -> Whole:
-    """The same colour so many times."""
+    """The same colour, `count` times."""
     return np.broadcast_to(np.array(colour, np.int64), (count, len(colour)))
 
 

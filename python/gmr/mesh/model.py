@@ -100,7 +100,7 @@ class Mesh:
 class Surface(Mesh):
     """A mesh of polygons, with the colours that its file has for faces or points.
 
-    The corners of all faces stand in one array behind each other, and `sizes` tells how many each face has.
+    The corners of all faces stand in one array one after another, and `sizes` tells how many each face has.
     """
 
     corners: Whole
@@ -163,7 +163,7 @@ def place_points(points: Sequence[Sequence[float]]) -> Decimals:
 
 
 def flatten(faces: Sequence[Sequence[int]]) -> Whole:
-    """The corners of faces behind each other."""
+    """The corners of faces one after another."""
     return np.fromiter(chain.from_iterable(faces), np.int64)
 
 
@@ -173,7 +173,7 @@ def sizes_of(faces: Sequence[Sequence[Any]]) -> Whole:
 
 
 def next_corners(sizes: Whole) -> Whole:
-    """The place of the next corner in its face, for the corners of faces behind each other."""
+    """The place of the next corner in its face, for the corners of faces one after another."""
     ends = np.cumsum(sizes)
     following = np.arange(1, int(ends[-1]) + 1 if len(ends) else 1)
     filled = sizes > 0

@@ -56,7 +56,7 @@ def check_length(words: Words, begin: int, count: int, ends: int) -> None:
 
 
 def read_colours(words: Words, points: Whole, skip: int) -> Whole:
-    """The colours of points, which stand after so many numbers."""
+    """The colours of points, which stand after `skip` numbers."""
     short = words.sizes[points] < skip + 3
     colours = None if short.any() else parse_colours([words.row(row)[skip: skip + 3] for row in points.tolist()])
     if colours is None:

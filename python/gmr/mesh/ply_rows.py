@@ -25,14 +25,14 @@ class Element(NamedTuple):
 
 
 class Column(NamedTuple):
-    """The numbers of a property of all rows behind each other, and how many each row has where it is a list."""
+    """The numbers of a property of all rows one after another, and how many each row has where it is a list."""
 
     numbers: Decimals | Whole
     sizes: Whole | None
 
 
 def read_binary_table(body: bytes, place: int, element: Element, order: str) -> tuple[dict[str, Column], int]:
-    """The columns of an element, and the place behind its rows; Unfit where the file ends before."""
+    """The columns of an element, and the place after its rows; Unfit where the file ends before."""
     if not element.rows or not element.properties:
         none = {item.name: Column(np.empty(0, np.int64), np.empty(0, np.int64)) for item in element.properties}
         return none, place

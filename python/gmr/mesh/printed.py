@@ -44,17 +44,17 @@ def print_faces(corners: Whole, sizes: Whole, head: bytes | None = None, tails: 
 
 
 def as_bytes(words: NDArray[np.bytes_]) -> Bytes:
-    """Words as rows of bytes, those of value 0 behind them."""
+    """Words as rows of bytes, those of value 0 after them."""
     return np.ascontiguousarray(words).view(np.uint8).reshape(len(words), words.dtype.itemsize)
 
 
 def column(word: bytes, count: int) -> Bytes:
-    """A word so many times."""
+    """A word, `count` times."""
     return np.broadcast_to(np.frombuffer(word, np.uint8), (count, len(word)))
 
 
 def squeeze(pieces: Sequence[Bytes]) -> bytes:
-    """Rows of bytes behind each other, without those of value 0."""
+    """Rows of bytes one after another, without those of value 0."""
     flat = np.concatenate(pieces, axis=1).ravel()
     return bytes(flat[flat != 0].tobytes())
 

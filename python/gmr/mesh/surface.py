@@ -69,7 +69,7 @@ def map_surface(surface: Surface, points: Whole, wish: Wish) -> tuple[Mapped, Su
 
 
 def check_size(count: int) -> None:
-    """Unfit where a map can't have so many darts."""
+    """Unfit where a map can't have `count` darts."""
     # With so few darts, neither the names nor the bytes of a map's file come near their own limits.
     if count > MOST_DARTS:
         raise Unfit(f"it needs {count} darts, and a map has at most {MOST_DARTS}")

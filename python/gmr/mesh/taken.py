@@ -17,7 +17,7 @@ from gmr.mesh.volume import KINDS, name_faces
 
 
 class Taken(NamedTuple):
-    """A mesh of a map: its faces begin at these rows of darts, those of cells behind each other, and each row lies at
+    """A mesh of a map: its faces begin at these rows of darts, those of cells one after another, and each row lies at
     the point of this number."""
 
     mesh: Surface | Volume
@@ -33,7 +33,7 @@ def number_vertices(given: Arrays) -> tuple[Whole, Whole]:
 
 
 def walk_faces(given: Arrays, starts: Whole) -> tuple[Whole, Whole]:
-    """The darts at the corners of faces, from their starts on, behind each other, and how many each face has.
+    """The darts at the corners of faces, from their starts on, one after another, and how many each face has.
 
     Unfit where a face isn't closed.
     """

@@ -27,7 +27,7 @@ class Words:
         is_broken = goes_on and b"\\" in data
         if is_broken:
             data = re.sub(rb"\\[ \t]*\n", b" \v", data)     # counts as a line, and ends none
-        self.data = b"\n" + data + b"\n" * WIDEST     # so that a place behind any word's end is there
+        self.data = b"\n" + data + b"\n" * WIDEST     # so that a place after any word's end is there
         self.letters = np.frombuffer(self.data, np.uint8)
         is_word = (self.letters != SPACE) & (self.letters - np.uint8(TAB) > RETURN - TAB)
         edges = np.flatnonzero(is_word[1:] != is_word[:-1]) + 1
@@ -57,7 +57,7 @@ class Words:
         return np.where(is_alone, self.letters[self.begins[self.rows]], 0).astype(np.uint8)
 
     def select(self, places: Whole, ends: Whole | None = None) -> tuple[NDArray[np.uint8], Whole] | None:
-        """The letters of words, with zeros behind them, a row for each place in a word, and how many each has; None
+        """The letters of words, with zeros after them, a row for each place in a word, and how many each has; None
         where one is too wide. `ends` is where they end, if that isn't where the words do."""
         begins = self.begins[places]
         sizes = (self.ends[places] if ends is None else ends) - begins
@@ -89,7 +89,7 @@ class Words:
         return parse_whole([self.data[begin:end] for begin, end in zip(self.begins[places].tolist(), stops)])
 
     def points(self, rows: Whole, skip: int, where: Callable[[int], str]) -> Decimals:
-        """Points of three words each behind so many others; Unfit at the first row that hasn't three numbers there,
+        """Points of three words each, after a number of others; Unfit at the first row that hasn't three numbers there,
         which stands at its `where`."""
         short = self.sizes[rows] < skip + 3
         wrong = int(np.argmax(short)) if short.any() else None
@@ -102,7 +102,7 @@ class Words:
 
 
 def spread(begins: Whole, sizes: Whole) -> Whole:
-    """The places from each begin on, as many as its size, behind each other."""
+    """The places from each begin on, as many as its size, one after another."""
     found: Whole = np.repeat(begins - (np.cumsum(sizes) - sizes), sizes) + np.arange(int(sizes.sum()))
     return found
 

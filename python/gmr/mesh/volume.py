@@ -17,7 +17,7 @@ KINDS = {tuple(sorted(map(len, faces))): kind for kind, faces in CELL_FACES.item
 
 
 class Sides(NamedTuple):
-    """The faces of all cells behind each other: their corners, and the first dart of each."""
+    """The faces of all cells one after another: their corners, and the first dart of each."""
 
     faces: list[Polygon]
     corners: list[int]

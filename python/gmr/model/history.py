@@ -69,7 +69,7 @@ class History:
             self._note_done(line, step)
 
     def note_applications(self, begin: int, count: int, step: int) -> None:
-        """Notes so many lines, from one on, outside a group, each of which is an application that was done, and a step
+        """Notes `count` lines, from one on, outside a group, each of which is an application that was done, and a step
         of its own."""
         if count:
             self.future.clear()
@@ -101,8 +101,8 @@ class History:
         return count
 
     def least_line(self, begin: int, undos: int, redos: int) -> int:
-        """The last line, at most `begin`, from which lines can be run alone: no undo or redo behind it, nor any of
-        so many more, leads to a map that was there before it."""
+        """The last line, at most `begin`, from which lines can be run alone: no undo or redo after it, nor any of
+        as many more as are asked for, leads to a map that was there before it."""
         bounds = [begin]
         if undos and self.past:
             bounds.append(self.past.begins[max(-undos, -len(self.past))])

@@ -46,7 +46,7 @@ class Outcome(ABC):
 
     @property
     def end(self) -> int:
-        """The place in the script behind it, when it is settled."""
+        """The place in the script after it, when it is settled."""
         raise NotImplementedError
 
     @property
@@ -96,7 +96,7 @@ class Outcome(ABC):
 
     @property
     def cause(self) -> str:
-        """The words behind `refused`, as 'pre-false'; of an `each` how many; empty where it was done."""
+        """The words after `refused`, as 'pre-false'; of an `each` how many; empty where it was done."""
         if self.done:
             return ""
         words = self.line.split(" ", 3)
@@ -116,7 +116,7 @@ class Outcome(ABC):
 
     @property
     def added(self) -> int:
-        """How many darts there are behind it that weren't there before."""
+        """How many darts there are after it that weren't there before."""
         return len(self.new)
 
     @property
@@ -260,7 +260,7 @@ class Application(Outcome):
 
     @property
     def end(self) -> int:
-        """The place in the script behind it, when it is settled."""
+        """The place in the script after it, when it is settled."""
         return self.begin + (not is_refusal(self.lines[0]))
 
 

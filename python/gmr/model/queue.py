@@ -57,7 +57,7 @@ class Stretch:
 class Queue:
     """The statements that wait to be handed to the program, and the session that runs them.
 
-    run: the applications that were gathered last, behind all that waits."""
+    run: the applications that were gathered last, after all that waits."""
 
     def __init__(self, session: Session) -> None:
         self.session = session
@@ -122,7 +122,7 @@ class Queue:
         return Run(self, min(MOST_GATHERED, MOST_LINES - len(self.session.lines)) - self._count)
 
     def _close_run(self) -> None:
-        """Lets the applications that were gathered last wait with all else; a new run begins behind them."""
+        """Lets the applications that were gathered last wait with all else; a new run begins after them."""
         if self.run.lines:
             self._waiting.append(Stretch(self.run, self.run.lines))
             self._count += len(self.run.lines)
@@ -148,7 +148,7 @@ class Queue:
                 done, rest = one.split(refused)
                 taken.append((done, said[:refused]))
                 self._break_off(taken, rest, said[refused:refused + 1], piece, has_more or len(rest.lines) > 1)
-            # behind a line that was refused alone the map is as before it
+            # after a line that was refused alone the map is as before it
             self._break_off(taken, one, said, piece, has_more or len(said) > 1)
         self._take(taken, piece)
 
@@ -273,7 +273,7 @@ def did_something(line: str, said: str) -> bool:
 def kept_lines(one: Waiting, report: Sequence[str], has_future: bool) -> tuple[list[str], list[str]]:
     """The lines of a statement that stay in the script, and what the report says of each.
 
-    A group that was dropped stays where it took away what could have been brought again: then a redo behind it finds
+    A group that was dropped stays where it took away what could have been brought again: then a redo after it finds
     nothing, with it alone."""
     if one.keeps_refused or report[-1] == "end dropped" and has_future and any(map(is_done, report)):
         return list(one.lines), list(report)

@@ -20,8 +20,8 @@ MOST_KEPT_BYTES = 256 * 2**20   # of maps that are kept, before every second one
 
 
 class Piece(NamedTuple):
-    """Lines that were tried behind a script: what the report says of each, the file of the map that they leave, and
-    what the report says behind them."""
+    """Lines that were tried after a script: what the report says of each, the file of the map that they leave, and
+    what the report says after them."""
 
     report: list[str]
     map: Path
@@ -66,7 +66,7 @@ class Session:
         return self._maps[place]
 
     def attempt(self, lines: Sequence[str]) -> Piece:
-        """What lines would do behind those that are done, which stay as they are. Refused where they are no script
+        """What lines would do after those that are done, which stay as they are. Refused where they are no script
         of the book."""
         base = self._base(len(self.lines), lines.count("undo"), lines.count("redo"))
         before = self.lines[base:]
@@ -74,8 +74,8 @@ class Session:
         return piece._replace(report=piece.report[len(before):])
 
     def take(self, lines: Sequence[str], dids: Sequence[bool]) -> None:
-        """Takes lines that were tried into the script, as one step, with whether each did something. The map behind
-        them is given to `keep`, at the latest behind the last of what was tried together."""
+        """Takes lines that were tried into the script, as one step, with whether each did something. The map after
+        them is given to `keep`, at the latest after the last of what was tried together."""
         for place, (line, did) in enumerate(zip(lines, dids), len(self.lines)):
             self.history.note(place, line.split(None, 1)[0], did, self._step)
         self._step += 1
@@ -88,7 +88,7 @@ class Session:
         self.lines.extend(lines)
 
     def keep(self, file: Path) -> None:
-        """Keeps the file of the map behind all lines."""
+        """Keeps the file of the map after all lines."""
         if len(self.lines) not in self._files:
             self._keep(len(self.lines), file)
 
@@ -108,7 +108,7 @@ class Session:
             raise
 
     def _base(self, place: int, undos: int, redos: int) -> int:
-        """The greatest place of a kept map from which the lines up to a place, and so many undos and redos behind
+        """The greatest place of a kept map from which the lines up to a place, and these undos and redos after
         them, lead to no map from before it."""
         bound = self.history.least_line(place, undos, redos)
         while True:

@@ -12,7 +12,7 @@ Json = dict[str, Any]
 
 def state_of(session: Session, is_whole: bool = False) -> Json:
     """What the page shows beside the map: the script and what can be done. Of the steps those are sent that differ from
-    what was told last, behind the first ones, which stay; or all of them."""
+    what was told last, after the first ones, which stay; or all of them."""
     back = session.timeline.taken_back()
     steps = [{"text": step.text, "report": step.report, "came": "undone" if at in back else step.came}
              for at, step in enumerate(session.timeline.steps)]

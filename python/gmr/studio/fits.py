@@ -37,7 +37,7 @@ class Table:
 
 
 def find_fitting(rule: Rule, it: Map, given: list[int]) -> list[int] | None:
-    """The darts that fit as the next hook, behind those that are given; None where that would take too long."""
+    """The darts that fit as the next hook, after those that are given; None where that would take too long."""
     hooks = [node for node in rule.nodes if node.hook]
     if len(given) >= len(hooks) or not it.darts:
         return []

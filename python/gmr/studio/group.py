@@ -1,4 +1,4 @@
-"""An open group: its lines are done one after another behind the map at which it began, and become one statement of the
+"""An open group: its lines are done one after another on the map at which it began, and become one statement of the
 script when it ends."""
 from pathlib import Path
 
@@ -21,7 +21,7 @@ class Group:
         return self.session.file_at(len(self.lines))
 
     def attempt(self, text: str) -> Piece:
-        """What lines would do behind the group's; nothing changes. A group within is as its lines are."""
+        """What lines would do after the group's; nothing changes. A group within is as its lines are."""
         return self.session.attempt([line for line in text.split("\n") if line not in ("group", "end")])
 
     def keep(self, lines: list[str], piece: Piece) -> None:

@@ -140,7 +140,7 @@ def read_data(environ: Environ) -> bytes:
 
 
 def send(status: int, answer: dict[str, Any]) -> Any:
-    """An answer as JSON, with columns of numbers behind it."""
+    """An answer as JSON, with columns of numbers after it."""
     data, has_columns = wire.to_bytes(answer)
     kind = "application/octet-stream" if has_columns else "application/json; charset=utf-8"
     return bottle.HTTPResponse(data, status, {"Content-Type": kind})

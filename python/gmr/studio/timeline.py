@@ -49,11 +49,11 @@ class Timeline:
         return self.session.file_at(len(self.session.lines))
 
     def attempt(self, text: str) -> Piece:
-        """What lines would do behind the steps; nothing changes. Refused where they are no script of the book."""
+        """What lines would do after the steps; nothing changes. Refused where they are no script of the book."""
         return self.session.attempt(text.split("\n"))
 
     def keep(self, steps: list[Step], made: Path) -> None:
-        """Takes up steps, and the file of the map behind them."""
+        """Takes up steps, and the file of the map after them."""
         for step in steps:
             self.begins.append(len(self.session.lines))
             self.steps.append(step)
@@ -78,7 +78,7 @@ class Timeline:
         return split_steps(text, tuple(piece.report[:-1])), piece
 
     def replace(self, steps: list[Step], made: Path) -> None:
-        """Takes other steps in the place of all, with the file of the map behind them, under the book as it is."""
+        """Takes other steps in the place of all, with the file of the map after them, under the book as it is."""
         kept = made.rename(self.place / "run.gmap")     # the files of the session go with it
         self.forget()
         self.keep(steps, kept)
@@ -108,7 +108,7 @@ def split_steps(text: str, report: tuple[str, ...]) -> list[Step]:
 
 
 def line_end(text: str, place: int) -> int:
-    """Where the comment ends that stands behind a statement on its line, or the place itself."""
+    """Where the comment ends that stands after a statement on its line, or the place itself."""
     end = text.find("\n", place)
     rest = text[place:end if end >= 0 else len(text)]
     return place + len(rest) if rest.lstrip().startswith("#") else place

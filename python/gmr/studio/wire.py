@@ -1,8 +1,8 @@
-"""Answers with columns of numbers, as bytes: a text of JSON, and behind it the columns of which it speaks.
+"""Answers with columns of numbers, as bytes: a text of JSON, and after it the columns of which it speaks.
 
 The first four bytes are the length of the JSON, little end first. It ends with blanks, so that what follows begins at a
 multiple of eight, as each column does. In the JSON a column is `{"type", "at", "count"}`: the narrowest type that holds
-its numbers, where it begins behind the JSON, and how many numbers it has; or `{"from", "count"}`, a run in order."""
+its numbers, where it begins after the JSON, and how many numbers it has; or `{"from", "count"}`, a run in order."""
 import json
 from typing import Any
 

@@ -77,7 +77,7 @@ def outer_darts(sheet: Sheet) -> Iterable[int]:
 
 
 def quantised(numbers: list[float], width: int, outer: list[int]) -> Places:
-    """Coordinates, of which so many make a place, in steps from the least ones."""
+    """Coordinates, of which `width` make a place, in steps from the least ones."""
     lows = tuple(min(numbers[axis::width]) for axis in range(width))
     reach = max(max(numbers[axis::width]) - lows[axis] for axis in range(width)) or 1.0
     step = reach / STEPS

@@ -42,7 +42,7 @@ class Spot:
         self.text, self.place = text, place
         self.book: Book = read_book(text, reader)
         self.before: list[Token] = tokens_up_to(text, place)
-        self.here, *self.behind = tokens_from(text, place, 2)
+        self.here, *self.after = tokens_from(text, place, 2)
         self.expression = next(((begin, end) for begin, end in reader.expressions if begin <= place < end), None)
 
     def word(self, back: int = 1) -> str:
@@ -50,8 +50,8 @@ class Spot:
         return self.before[-back].word if len(self.before) >= back else ""
 
     def next(self) -> str:
-        """The word of the token behind the one at the place."""
-        return self.behind[0].word if self.behind else ""
+        """The word of the token after the one at the place."""
+        return self.after[0].word if self.after else ""
 
     def rule(self) -> Rule:
         """The rule in which the place lies."""
@@ -65,18 +65,18 @@ class Spot:
 def tell_twice(path: str, text: str, place: int) -> list[str]:
     """What was said before at another place."""
     before = tokens_up_to(text, place)
-    here, *behind = tokens_from(text, place, 2)
-    what, earlier = first_mention(before, here, behind[0].word if behind else "")
+    here, *after = tokens_from(text, place, 2)
+    what, earlier = first_mention(before, here, after[0].word if after else "")
     said = f"`{here.word}` is {what} already, as the second mark shows." if what != "a label" else \
         f"The label {here.word} stands before it in the same orbit."
     return [*tell_place(path, text, place, here.end), *marked(text, earlier.begin, earlier.end),
             f"{said} Leave one out" + ("." if what in ("a label", "assigned") else ", or choose another name.")]
 
 
-def first_mention(before: list[Token], here: Token, behind: str) -> tuple[str, Token]:
+def first_mention(before: list[Token], here: Token, after: str) -> tuple[str, Token]:
     """What a name or label at a place names, and where it was said before."""
     last = before[-1].word
-    words = [token.word for token in before] + [here.word, behind]
+    words = [token.word for token in before] + [here.word, after]
     alike = [at for at, token in enumerate(before) if token.word == here.word]
     if here.word.isdigit():
         begin = rindex([token.word for token in before], "<")
@@ -84,7 +84,7 @@ def first_mention(before: list[Token], here: Token, behind: str) -> tuple[str, T
     for word, what in (("embed", "an embedding"), ("rule", "a rule"), ("with", "assigned")):
         if last == word:
             return what, before[next(at for at in reversed(alike) if words[at - 1] == word)]
-    sign, what = (":", "a parameter") if behind == ":" else ("<", "a node of this side")
+    sign, what = (":", "a parameter") if after == ":" else ("<", "a node of this side")
     return what, before[next(at for at in reversed(alike) if words[at + 1] == sign)]
 
 
@@ -143,5 +143,5 @@ def tell_type(path: str, text: str, place: int) -> list[str]:
     except NoKind as fault:
         return lines + [f"`{fault.tree.text}` has no kind: {fault.reason}.", "docs/FORMATS.md has the table of kinds."]
     turn = TURNS.get((wanted, kind), "")
-    place_of = "behind `pre` a bool" if wanted == "bool" else f"for `{spot.word(2)}` the kind {wanted}"
+    place_of = "after `pre` a bool" if wanted == "bool" else f"for `{spot.word(2)}` the kind {wanted}"
     return lines + [f"The expression is of kind {kind}, and {place_of} is needed{turn and f': {turn}'}."]

@@ -51,7 +51,7 @@ class Open(Exception):
 
 
 class Pattern:
-    """A rule laid over one orbit: its left instances as darts of a map that is known in part, its added ones behind."""
+    """A rule laid over one orbit: its left instances as darts of a map that is known in part, its added ones last."""
 
     def __init__(self, rule: Rule, dimension: int, turns: Turns) -> None:
         self.rule, self.labels, self.turns = rule, range(dimension + 1), turns

@@ -18,7 +18,7 @@ class Rows:
         self.text, self.begin, self.count = text, head.end(), int(head[8])
 
     def row(self, dart: int) -> list[int] | None:
-        """The numbers of a dart's row behind its name, or None where the map has no such dart: rows ascend by names,
+        """The numbers of a dart's row after its name, or None where the map has no such dart: rows ascend by names,
         so the row is found by halving the text."""
         low, high = self.begin + 1, len(self.text)
         while low < high:

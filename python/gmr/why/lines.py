@@ -183,7 +183,7 @@ def tell_where_it_lies(line: Line) -> list[str]:
 
 def darts_where_it_lies(line: Line, at: int) -> tuple[list[int], bool]:
     """The darts for a hook at which the left side lies, the other hooks being as they are; and whether all darts were
-    tried, where so many instances were gone over at most."""
+    tried, as far as a limit of instances to go over."""
     found: list[int] = []
     left = MOST_INSTANCES
     for dart in line.map.darts:
@@ -225,7 +225,7 @@ def blamed(tree: Tree, scene: Scene) -> list[Tree]:
 
 
 def tell_parts(tree: Tree, scene: Scene) -> list[str]:
-    """A truth, behind the values of its two parts; nothing for one without parts, which is told as what is read."""
+    """A truth, after the values of its two parts; nothing for one without parts, which is told as what is read."""
     if not tree.parts:
         return []
     values = [show(value_of(part, scene)) for part in tree.parts]

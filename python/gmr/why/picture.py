@@ -180,7 +180,7 @@ def draw(found: Found) -> str:
 
 
 def lines_of(text: str, width: int) -> list[str]:
-    """A text in lines of so many letters."""
+    """A text in lines of about `width` letters."""
     lines = [""]
     for word in text.split():
         if len(lines[-1]) + len(word) > width:

@@ -50,7 +50,7 @@ def tell_hooks(told: Told) -> list[str]:
     left = [node.name for node in told.rule.nodes if node.left is not None]
     if left:
         return [f"No node of the left side of {told.rule.name} is a hook; it has {', '.join(left)}.",
-                f"Write `hook` behind the node from which the part is walked, as `{left[0]} "
+                f"Write `hook` after the node from which the part is walked, as `{left[0]} "
                 f"{word_text(told.by_name[left[0]].left or ())} hook`."]
     return ["A rule without left nodes has no hook."]
 
@@ -175,7 +175,7 @@ def tell_set_twice(told: Told) -> list[str]:
     """Two nodes of one orbit assign."""
     embed, one, other = told.words
     return [f"On the right {one} and {other} share one value of {embed}, and both assign it.",
-            f"Leave one of the two out, as `with {embed} = {told.by_name[other].sets[embed]}` behind {other}: the "
+            f"Leave one of the two out, as `with {embed} = {told.by_name[other].sets[embed]}` after {other}: the "
             "other one gives its value to the whole orbit."]
 
 
@@ -184,7 +184,7 @@ def tell_no_value(told: Told) -> list[str]:
     embed, name = told.words
     return [f"{name}, and what hangs together with it along the labels of {embed}, is new: nothing says what its "
             f"{embed} is.",
-            f"Assign it behind the node: `{name} {word_text(told.by_name[name].right or ())} with {embed} = ..`; or "
+            f"Assign it after the node: `{name} {word_text(told.by_name[name].right or ())} with {embed} = ..`; or "
             f"join {name} to a node that stays along one of these labels."]
 
 

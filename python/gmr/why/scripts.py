@@ -41,7 +41,7 @@ def tell_params(rule: Rule, line: Statement) -> list[str]:
     said = f"{rule.name} has {f'the parameters ({wanted})' if wanted else 'no parameters'}"
     if len(line.values) != len(rule.params):
         return [f"{said}, and the line gives {len(line.values)} {'value' if len(line.values) == 1 else 'values'} "
-                "behind `with`."]
+                "after `with`."]
     for (name, kind), value in zip(rule.params, line.values):
         if not fits(kind, value):
             is_triple = isinstance(value, tuple) and len(value) == 3

@@ -7,7 +7,7 @@ Turns = tuple[tuple[int, ...], ...]     # turns[place of the word][position]
 
 @cache
 def shapes_of(word: tuple[int, ...], most: int) -> tuple[Turns, ...]:
-    """The orbits over the labels of a word with so many darts at most, the smallest first, each once. Labels two or
+    """The orbits over the labels of a word with at most `most` darts, the smallest first, each once. Labels two or
     more apart commute in each of them."""
     found: dict[Turns, Turns] = {}
     for size in range(1, most + 1):
@@ -17,7 +17,7 @@ def shapes_of(word: tuple[int, ...], most: int) -> tuple[Turns, ...]:
 
 
 def tables(word: tuple[int, ...], size: int) -> Iterator[Turns]:
-    """The orbits of just so many darts, from each of their darts, numbered in the order of the walk."""
+    """The orbits of just `size` darts, from each of their darts, numbered in the order of the walk."""
     rows: list[list[int | None]] = [[None] * size for _ in word]
     far = [[other for other in range(len(word)) if abs(word[one] - word[other]) >= 2] for one in range(len(word))]
 

@@ -1,7 +1,7 @@
 """Ways out of a refusal: changes of a rule, each tried by the program before it is offered.
 
 For each kind of fault there are changes that a person would think of; where one of them leads to another fault, the
-changes for that one are tried behind it. Those that lead to an accepted rule are offered, by how few letters they
+changes for that one are tried after it. Those that lead to an accepted rule are offered, by how few letters they
 change. A change after which the rule does nothing, or its right side falls apart, is no way out."""
 import difflib
 from collections import Counter
@@ -12,7 +12,7 @@ from gmr.books import Book, Link, Node, Rule
 from gmr.why.changes import CHANGES
 from gmr.why.edits import faults_of, link_text, node_text
 
-MOST_STEPS = 3           # changes behind one another
+MOST_STEPS = 3           # changes one after another
 MOST_OPEN = 60           # rules that are gone on from, at each step
 MOST_LETTERS = 60        # that a way may change
 

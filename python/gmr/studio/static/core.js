@@ -35,7 +35,7 @@
       return answer;
     },
 
-    // What an answer holds: JSON, with columns of numbers behind it or without, or a sentence.
+    // What an answer holds: JSON, with columns of numbers after it or without, or a sentence.
     async read(response) {
       const kind = response.headers.get('Content-Type') || '';
       if (kind.startsWith('application/octet-stream')) return gmr.unwired(await response.arrayBuffer());

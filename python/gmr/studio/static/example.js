@@ -46,7 +46,7 @@
     return text.split(/(?<=\n)/).map((line) => (line.startsWith('#') ? element('span', {class: 'comment'}, line) : line));
   }
 
-  // The book's text with the made rule behind it, in the version that several hooks need.
+  // The book's text with the made rule after it, in the version that several hooks need.
   function joined() {
     const hooks = made.book.rules[0].nodes.filter((node) => node.hook).length;
     const old = hooks > 1 ? studio.book.text.replace(/^(\s*(?:#[^\n]*\n\s*)*)book\s+0*1\b/, '$1book 2') : studio.book.text;

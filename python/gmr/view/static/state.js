@@ -113,7 +113,7 @@
       return found;
     }
 
-    // The name of the next dart behind one, round all of them.
+    // The name of the next dart after one, round all of them.
     nameBehind(name) {
       for (let at = name + 1; at < this.next; at += 1) if (this.slots[at]) return at;
       return this.slots.findIndex((slot) => slot > 0);
