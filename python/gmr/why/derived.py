@@ -5,7 +5,7 @@ A step of a node leads to a node at another position, which is told by the place
 `(b, ())` is a link to b, and `(a, (0,))` the letter at place 0 of a. Where a node has two labels that commute, three
 sides of a square give the fourth, in each map in which the left side lies. Two steps of one node along one label lead
 to one dart: those to two nodes can't, and those to two positions do over some orbits alone. With what is found so the
-conditions on arcs and squares are asked once more (MODEL, 'Refused rules', has why that is enough)."""
+conditions on arcs and squares are asked once more (`is_safe` has why that is enough)."""
 from collections.abc import Iterator
 from itertools import combinations
 from typing import NamedTuple
@@ -189,7 +189,14 @@ class Result:
 
 def is_safe(derived: Derived) -> bool:
     """Whether what is known of a left side shows that the rule breaks no law of neighbours, of whatever size the map
-    is."""
+    is.
+
+    Each node that is left must have just one step along each label, or one of which nothing is known, and the squares
+    of right nodes must close, or their arcs be as they were. That is enough. A neighbour of which nothing is known
+    keeps its arc: were it a dart of a node with a left step there, this step would lead back, and so be known. So each
+    dart has one neighbour along each label. Now go from any dart along i, j, i and j. If a node's dart whose square
+    closes is met on the way, one comes back to it, hence also to the dart at which one began. If none is met, all four
+    arcs are old ones, and the old law leads back."""
     result, labels = Result(derived), derived.labels
     pairs = [pair for pair in combinations(labels, 2) if pair[1] - pair[0] >= 2]
     return all(result.is_one(node.name, label) for node in derived.rule.nodes for label in labels) and all(
