@@ -56,7 +56,7 @@ class Rule(NamedTuple):
     def parse(cls, text: str) -> "Rule":
         """The rule that a text stands for; ValueError where it is none."""
         reader = Reader(text)
-        rule = reader.rule(text.strip())
+        rule = reader.read_rule(text.strip())
         if reader.peek():
             raise reader.fail("the end of the rule")
         return rule
@@ -143,13 +143,13 @@ class Book(NamedTuple):
 
     def canonical(self) -> str:
         """Its canonical text, as the program prints it; Refused where it takes no such book."""
-        return self._asked("book")
+        return self._ask_program("book")
 
     def check(self) -> list[Verdict]:
         """The program's verdict of each rule; Refused where it takes no such book."""
         from gmr.why.rules import tell_rule
         verdicts = []
-        for line in self._asked("check").splitlines()[:-1]:
+        for line in self._ask_program("check").splitlines()[:-1]:
             _, name, state, *fault = line.split()
             told = tell_rule(self.rule(name), self.dimension, " ".join(fault)) if state == "refused" else []
             verdicts.append(Verdict(name, " ".join(fault), tuple(told)))
@@ -159,7 +159,7 @@ class Book(NamedTuple):
         """Writes its own text into a file, whole or not at all."""
         write_whole(path, self.text.encode("latin-1"))
 
-    def _asked(self, command: str) -> str:
+    def _ask_program(self, command: str) -> str:
         with tempfile.TemporaryDirectory(prefix="gmr-book-") as folder:
             path = Path(folder, "made.gbook")
             path.write_bytes(self.text.encode("latin-1"))
@@ -206,7 +206,7 @@ class Reader(Cursor):
 
     kind = "book"
 
-    def letters(self) -> Letters:
+    def read_letters(self) -> Letters:
         """A word of labels and gaps in its signs."""
         self.take("<")
         found: list[int | None] = []
@@ -216,7 +216,7 @@ class Reader(Cursor):
         self.take(">")
         return tuple(found)
 
-    def expression(self) -> str:
+    def read_expression(self) -> str:
         """The longest expression that stands here, as a text on one line."""
         first, depth, is_whole = self.at, 0, False
         while self.peek():
@@ -226,14 +226,14 @@ class Reader(Cursor):
                 break
             self.at += 1
             if word in COLLECTORS:
-                self.letters()
+                self.read_letters()
             depth += (word == "(") - (word == ")")
             is_whole = word == ")" or starts and word not in COLLECTORS | {"if", "not", "same"}
         if not is_whole or depth:
             raise self.fail("an expression that is whole")
         return plain(self.text[self.tokens[first].begin : self.tokens[self.at - 1].end])
 
-    def embeds(self) -> list[Embed]:
+    def read_embeds(self) -> list[Embed]:
         """The embeddings of a schema."""
         found = []
         while self.peek() == "embed":
@@ -242,7 +242,7 @@ class Reader(Cursor):
             found.append(Embed(name, labels, self.take("int", "vec2", "vec3", "rgb")))
         return found
 
-    def params(self) -> list[tuple[str, str]]:
+    def read_params(self) -> list[tuple[str, str]]:
         """The parameters of a rule, each with its kind."""
         found, more = [], self.peek() == "("
         while more:
@@ -255,7 +255,7 @@ class Reader(Cursor):
             self.take(")")
         return found
 
-    def side(self) -> tuple[dict[str, Letters], list[Link], set[str], dict[str, dict[str, str]]]:
+    def read_side(self) -> tuple[dict[str, Letters], list[Link], set[str], dict[str, dict[str, str]]]:
         """The nodes of a side with their words, its links, its hooks, and its assignments by node."""
         words: dict[str, Letters] = {}
         links: list[Link] = []
@@ -269,7 +269,7 @@ class Reader(Cursor):
                 self.take("-")
                 links.append((name, label, self.name()))
                 continue
-            words[name] = self.letters()
+            words[name] = self.read_letters()
             if self.peek() == "hook":
                 self.at += 1
                 hooks.add(name)
@@ -277,21 +277,21 @@ class Reader(Cursor):
                 self.at += 1
                 embed = self.name()
                 self.take("=")
-                sets.setdefault(name, {})[embed] = self.expression()
+                sets.setdefault(name, {})[embed] = self.read_expression()
         return words, links, hooks, sets
 
-    def rule(self, text: str) -> Rule:
+    def read_rule(self, text: str) -> Rule:
         """A rule, which has this text."""
         self.take("rule")
-        name, params = self.name(), self.params()
+        name, params = self.name(), self.read_params()
         self.take("left")
-        left, left_links, hooks, _ = self.side()
+        left, left_links, hooks, _ = self.read_side()
         self.take("right")
-        right, right_links, _, sets = self.side()
+        right, right_links, _, sets = self.read_side()
         pre = None
         if self.peek() == "pre":
             self.at += 1
-            pre = self.expression()
+            pre = self.read_expression()
         names = left | right
         nodes = [Node(name, left.get(name), right.get(name), sets.get(name, {}), name in hooks) for name in names]
         return Rule(name, params, nodes, left_links, right_links, pre, text)
@@ -306,9 +306,9 @@ def read_book(text: str, reader: Reader | None = None) -> Book:
     if version not in (1, 2):
         raise ValueError(f"a book of version {version} is none that is known")
     reader.take("dim")
-    dimension, embeds = reader.number(), reader.embeds()
+    dimension, embeds = reader.number(), reader.read_embeds()
     head, texts = split_book(text)
-    rules = [reader.rule(own) for _, own in texts]
+    rules = [reader.read_rule(own) for _, own in texts]
     if reader.peek():
         raise reader.fail("a rule")
     return Book(version, dimension, embeds, rules, head)

@@ -88,7 +88,7 @@ def book_of(given: Book | Name) -> Book:
 
 
 @contextmanager
-def files_of(**texts: str) -> Iterator[dict[str, Path]]:
+def write_files(**texts: str) -> Iterator[dict[str, Path]]:
     """Files of texts, which are gone at the end."""
     with tempfile.TemporaryDirectory(prefix="gmr-") as folder:
         paths = {name: Path(folder, name) for name in texts}
@@ -99,7 +99,7 @@ def files_of(**texts: str) -> Iterator[dict[str, Path]]:
 
 def cells(given: Map | Model | Name) -> Counts:
     """The numbers of a map, as the program counts them; Refused where it takes no such map."""
-    with files_of(map=map_of(given).text()) as paths:
+    with write_files(map=map_of(given).text()) as paths:
         lines = [line.split() for line in program.put_or_refuse("cells", paths["map"]).splitlines()]
     told = {words[0]: words[1:] for words in lines}
     of_cells = tuple(int(words[2]) for words in lines if words[0] == "cells")
@@ -110,7 +110,7 @@ def cells(given: Map | Model | Name) -> Counts:
 
 def dual(given: Map | Model | Name, book: Book | Name) -> tuple[Map, Book]:
     """The duals of a map and of a book: each label i is n - i. Refused where the program takes one not."""
-    with files_of(map=map_of(given).text(), book=book_of(book).text) as paths:
+    with write_files(map=map_of(given).text(), book=book_of(book).text) as paths:
         text = program.put_or_refuse("dual", paths["map"], paths["book"])
     begin = text.index("\nbook ") + 1
     return read_map(text[:begin]), read_book(text[begin:])
@@ -159,7 +159,7 @@ def why(given: Map | Model | Name | Book, book: Book | Name | None = None, scrip
     from gmr.model import Model
     if isinstance(given, Book):
         raise ValueError("say a map, a book and a script, or a book alone")
-    with files_of(map=map_of(given).text()) as paths:
+    with write_files(map=map_of(given).text()) as paths:
         outcomes = Model.load(paths["map"], book).run_lines(script)
     return [Reason(str(outcome.begin + 1), outcome.cause, tuple(outcome.sentences))
             for outcome in outcomes if outcome.cause]
@@ -177,7 +177,7 @@ def draw(
     drawn so; Missing where matplotlib isn't installed, which draws faces."""
     drawn: list[tuple[str | None, Drawn]] = []
     for place, one in enumerate(given):
-        with told_with(one) if isinstance(one, (str, os.PathLike)) else files_of():
+        with told_with(one) if isinstance(one, (str, os.PathLike)) else write_files():
             drawn.append((titles[place] if titles else None, model_of(map_of(one), colours)))
     if not solid_faces:
         if form != "svg":

@@ -46,7 +46,7 @@ current: Line | None = None
 
 
 @contextmanager
-def shown(name: str, is_quiet: bool = False) -> Iterator[None]:
+def show_progress(name: str, is_quiet: bool = False) -> Iterator[None]:
     """Shows what takes long on standard error, where that is a terminal, under a command's name."""
     global current
     if is_quiet or current is not None or not sys.stderr.isatty():

@@ -91,7 +91,7 @@ def test_progress(monkeypatch: pytest.MonkeyPatch) -> None:
         said = io.StringIO()
         monkeypatch.setattr(said, "isatty", lambda is_it=is_terminal: is_it)
         monkeypatch.setattr(sys, "stderr", said)
-        with progress.shown("mesh", is_quiet):
+        with progress.show_progress("mesh", is_quiet):
             progress.tell("reading a file")
             time.sleep(0.3)
         if is_terminal and not is_quiet:

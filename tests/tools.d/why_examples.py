@@ -15,7 +15,7 @@ from gmr.scripts import read_script
 from gmr.unfolding import first_breach, first_value_breach, unfold
 from gmr.why.counterexample import Search, search
 from gmr.why.derived import derive, is_safe, with_steps
-from gmr.why.edits import faults_of
+from gmr.why.edits import ask_faults
 from gmr.why.example import script_text, tell_breach, text_after
 from gmr.why.verdict import tell_search
 
@@ -43,7 +43,7 @@ def test_every_case_is_found_and_broken() -> None:
     for name, case in CASES.items():
         book = book_of(case)
         rule = book.rules[0]
-        assert faults_of(book, [rule]) == [case["fault"]], name
+        assert ask_faults(book, [rule]) == [case["fault"]], name
         found = search(rule, 2, book.embeds, case["fault"]).found
         assert found is not None, name
         assert found.candidate.map.text() == case["map"], (name, found.candidate.map.text())
@@ -120,7 +120,7 @@ def verdict(book: Book, rule: Rule, fault: str, found: Search) -> str:
         assert not found.fitting and "lies in no map" in said and "a dart has one neighbour along" in said, said
         return "nowhere"
     assert found.fitting and is_safe(derived) and "in a map of whatever size" in said, said
-    if faults_of(book, [with_steps(rule, derived.steps())]) == [None]:
+    if ask_faults(book, [with_steps(rule, derived.steps())]) == [None]:
         return "implied"
     return "bound" if any(place != other for place, other in derived.place_for.items()) else "safe"
 
@@ -142,7 +142,7 @@ def test_two_values_behind_a_square() -> None:
     sides = ("left a <> hook b <> c <> hook a -0- b b -2- b a -1- a c -1- c "
              "right a <> b <> c <> a -0- a b -0- b b -2- b a -1- c")
     book = read_book(f"book 2 dim 2 embed n <1 2> int rule r {sides}")
-    assert faults_of(book, book.rules) == ["square a 0 2"]
+    assert ask_faults(book, book.rules) == ["square a 0 2"]
     derived, found = derive(book.rules[0], 2), search(book.rules[0], 2, book.embeds, "square a 0 2").found
     assert derived is not None and is_safe(derived)
     assert found is not None and "with two values of n" in tell_breach(found), found
@@ -157,7 +157,7 @@ def test_the_rules_that_the_model_works_through() -> None:
     assert len(rules) == len(faults) == 3
     for text, fault in zip(rules, faults):
         book = read_book(f"book 2 dim {2 if '0 2' in fault else 3} {text}")
-        assert faults_of(book, book.rules) == [fault], text
+        assert ask_faults(book, book.rules) == [fault], text
         found = search(book.rules[0], book.dimension, [], fault)
         assert not found.found and found.fitting and found.is_whole, text
 

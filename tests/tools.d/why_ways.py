@@ -13,7 +13,7 @@ from gmr.maps import read_map
 from gmr.program import answer
 from gmr.unfolding import unfold
 from gmr.matches import find_candidate
-from gmr.why.edits import faults_of, rule_lines
+from gmr.why.edits import ask_faults, rule_lines
 from gmr.why.lines import Line, tell_line
 from gmr.why.texts import tell_text
 from gmr.why.ways import find_ways, tell_way
@@ -63,15 +63,15 @@ def test_ways_are_followed_to_the_letter() -> None:
     for name, case in CASES.items():
         book = book_of(case, case["sides"])
         rule = book.rules[0]
-        assert faults_of(book, [rule]) == [case["fault"]], name
+        assert ask_faults(book, [rule]) == [case["fault"]], name
         ways = find_ways(book, rule, case["fault"])
         told = [tell_way(rule, way) for way in ways]
         assert [way.letters for way in ways] == sorted(way.letters for way in ways), (name, told)
-        assert faults_of(book, [way.rule for way in ways]) == [None] * len(ways), (name, told)
+        assert ask_faults(book, [way.rule for way in ways]) == [None] * len(ways), (name, told)
         assert len(ways) >= case["way"], (name, told)
         head = f"book 2 dim 2 {case.get('embeds', '')} "
         mended = read_book(head + follow(rule, told[case["way"] - 1]))
-        assert faults_of(mended, mended.rules) == [None], (name, told)
+        assert ask_faults(mended, mended.rules) == [None], (name, told)
         wanted = book_of(case, case["wanted"]).rules[0]
         assert key(mended.rules[0]) == key(wanted), (name, told)
 

@@ -10,7 +10,7 @@ from typing import NoReturn
 
 from gmr.errors import INTERRUPTED, REFUSED, WRONG_WORDS, Fault
 from gmr.program import CHECKOUT, choose_unproved, is_unproved
-from gmr.progress import shown
+from gmr.progress import show_progress
 
 # What stands anywhere on the command line of each tool.
 SHARED = ("--version", "--quiet", "--unproved")
@@ -75,7 +75,7 @@ def run_command(name: str, main: Callable[[Sequence[str]], int | None]) -> int:
             choose_unproved()
         if is_unproved():
             say(name, "what comes is UNPROVED: the program that is asked is a build without proofs")
-        with shown(name, "--quiet" in shared):
+        with show_progress(name, "--quiet" in shared):
             status = main(words) or 0
         sys.stdout.flush()
         return status

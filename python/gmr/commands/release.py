@@ -5,7 +5,7 @@ from pathlib import Path
 from gmr.commands.frame import new_parser, run_command
 from gmr.program import CHECKOUT
 from gmr.release.build import make_release
-from gmr.release.proof import proved_build, unproved_build
+from gmr.release.proof import ask_unproved_build, find_proved_build
 
 EXAMPLES = """examples:
   tools/release out/release          gmr-VERSION-x86_64-linux.tar.xz and gmr_VERSION_amd64.deb, in that folder
@@ -21,7 +21,7 @@ def main(words: Sequence[str]) -> None:
     parser.add_argument("out", type=Path, metavar="OUT", help="the folder of the two files")
     chosen = parser.parse_args(words)
     program: Path | None = chosen.from_unproved
-    build = unproved_build(CHECKOUT, program) if program else proved_build(CHECKOUT)
+    build = ask_unproved_build(CHECKOUT, program) if program else find_proved_build(CHECKOUT)
     for path in make_release(CHECKOUT, build, chosen.out):
         print(path)
 

@@ -87,9 +87,9 @@ class Run:
         """Why a statement is refused, and the map that it met; of an `each` this many applications at most."""
         statement, cause = self.prefixes.statements[at], self.outcomes[at].rest
         place = tell_place(self.files["SCRIPT"], self.text, statement.begin, statement.end)
-        amap = self.prefixes.before(at)
+        amap = self.prefixes.run_to(at)
         if statement.word == "each":
-            count, refused = self.prefixes.apart(at, most)
+            count, refused = self.prefixes.run_apart(at, most)
             lines = [f"line {at + 1} refused at {count} {plural(count, 'dart')}", *place]
             for dart, words, met in refused:
                 lines += [f"At dart {dart} refused: {' '.join(words)}", *self.tell_application(at, met, (dart,), words)]
@@ -106,7 +106,7 @@ class Run:
         """What the lines around an application have to do with its refusal."""
         statements, lines = self.prefixes.statements, []
         if cause[0] == "no-dart":
-            line = self.prefixes.removing_line(at, statements[at].hooks[int(cause[2])], self.outcomes)
+            line = self.prefixes.find_removing_line(at, statements[at].hooks[int(cause[2])], self.outcomes)
             lines += [f"Line {line + 1} removed it." if line is not None else ""]
         if is_in_group(statements, at):
             lines.append("It stands in a group: what is left of the group is skipped, and its `end` takes back what "

@@ -11,7 +11,7 @@ from gmr.maps import Embed, Map, read_map
 MOST_RULES = 256
 
 
-def faults_of(dimension: int, embeds: Sequence[Embed], drafts: Sequence[Draft]) -> list[str | None]:
+def ask_faults(dimension: int, embeds: Sequence[Embed], drafts: Sequence[Draft]) -> list[str | None]:
     """For each draft the first fault that the program finds in it, or None where it accepts the rule."""
     faults: list[str | None] = []
     for first in range(0, len(drafts), MOST_RULES):

@@ -3,7 +3,7 @@ from collections.abc import Callable, Container, Iterator, Sequence
 from dataclasses import dataclass, field
 from itertools import combinations
 
-from gmr.infer.check import faults_of, script_text
+from gmr.infer.check import ask_faults, script_text
 from gmr.infer.draft import Draft, Letter, Link
 from gmr.infer.example import Example, NoRule
 from gmr.infer.fold import MOST_NODES, Broken, Fold
@@ -89,7 +89,7 @@ class Hand:
         nodes, is_one = len(candidate.draft.nodes), len(candidate.lines) == 1
         if nodes < self.nodes or nodes == self.nodes and is_one and not self.is_one_line:
             text = candidate.draft.text("r")
-            fault = "known" if text in self.refused else faults_of(*example.schema, [candidate.draft])[0]
+            fault = "known" if text in self.refused else ask_faults(*example.schema, [candidate.draft])[0]
             if fault is None or fault.startswith(OF_VALUES):
                 self.nodes, self.is_one_line = nodes, is_one
             else:
@@ -230,7 +230,7 @@ def find(example: Example, words: Sequence[tuple[int, ...]], hook: int | None,
     found.sort(key=lambda candidate: candidate.cost(example))
     if not found:
         raise NoRule(why_none(example, words, hook))
-    faults = faults_of(*example.schema, [candidate.draft for candidate in found])
+    faults = ask_faults(*example.schema, [candidate.draft for candidate in found])
     accepted = [candidate for candidate, fault in zip(found, faults) if fault is None or fault.startswith(OF_VALUES)]
     if not accepted:
         raise NoRule(f"of {len(found)} rules that fold none is accepted; the first has the fault '{faults[0]}'")
@@ -260,7 +260,7 @@ def set_values(places: Sequence[Place]) -> list[Unfound]:
         unfound = assign(places, forced)
         if unfound:
             return unfound
-        fault = faults_of(*example.schema, [draft])[0]
+        fault = ask_faults(*example.schema, [draft])[0]
         if fault is None or not fault.startswith(OF_VALUES):
             return []
         _, embed, name = fault.split()[:3]
@@ -290,12 +290,12 @@ def drop_all(example: Example, candidate: Candidate,
     while True:
         drops = list_drops(candidate.draft)
         tried = [drop_from(candidate, [drop]) for drop in drops]
-        faults = faults_of(*example.schema, [shorter.draft for shorter in tried])
+        faults = ask_faults(*example.schema, [shorter.draft for shorter in tried])
         passed = [drop for drop, fault in zip(drops, faults) if fault is None]
         if not passed:
             return candidate, {drop: fault for drop, fault in zip(drops, faults) if fault is not None}
         at_once = drop_from(candidate, passed)
-        is_fine = faults_of(*example.schema, [at_once.draft]) == [None]
+        is_fine = ask_faults(*example.schema, [at_once.draft]) == [None]
         candidate = at_once if is_fine else drop_from(candidate, passed[:1])
 
 

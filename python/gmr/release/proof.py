@@ -24,7 +24,7 @@ class Build(NamedTuple):
         return self.kind == "proved"
 
 
-def proved_build(top: Path) -> Build:
+def find_proved_build(top: Path) -> Build:
     """The proved build of a checkout; Fault where there is none that fits its sources."""
     told = subprocess.run([top / "gmr", "--differences"], capture_output=True, text=True, check=False)
     if told.returncode:
@@ -36,7 +36,7 @@ def proved_build(top: Path) -> Build:
     return Build(program, words["built"], words["by"], words["toolchain"], words["commit"])
 
 
-def unproved_build(top: Path, program: Path) -> Build:
+def ask_unproved_build(top: Path, program: Path) -> Build:
     """A program of which nothing is known but that no proof stands behind it."""
     words = ["git", "-C", str(top), "describe", "--always", "--dirty"]
     commit = subprocess.run(words, capture_output=True, text=True, check=False).stdout.strip() or "unknown"

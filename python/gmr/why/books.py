@@ -26,10 +26,10 @@ class Spans(books.Reader):
         super().__init__(text)
         self.expressions: list[tuple[int, int]] = []
 
-    def expression(self) -> str:
+    def read_expression(self) -> str:
         """As a reader of books, and keeps the first token's place and where the expression ends."""
         first = self.at
-        text = super().expression()
+        text = super().read_expression()
         self.expressions.append((self.tokens[first].begin, self.tokens[self.at - 1].end))
         return text
 

@@ -56,7 +56,7 @@ class Partial:
         """Where the map stands now, to come back to."""
         return len(self.trail), len(self.near)
 
-    def back(self, mark: tuple[int, int]) -> None:
+    def take_back(self, mark: tuple[int, int]) -> None:
         """Takes back all that was joined and added since a mark."""
         while len(self.trail) > mark[0]:
             label, one, other = self.trail.pop()
@@ -92,7 +92,7 @@ class Partial:
                     yield (arc_of(far, end, opposite),
                            (arc, arc_of(far, start, near), arc_of(label, near, opposite)))
 
-    def tries(self, dart: int, label: int, budget: Budget) -> Iterator[None]:
+    def try_each(self, dart: int, label: int, budget: Budget) -> Iterator[None]:
         """Comes by once for each way in which an open label of a dart can be settled, with that in force: the dart is
         free, it leads to a new one, or to another one that is open there."""
         others = [other for other, ends in enumerate(self.near) if other != dart and ends[label] == OPEN]
@@ -108,7 +108,7 @@ class Partial:
                 yield
             except Clash:
                 pass
-            self.back(mark)
+            self.take_back(mark)
 
     def close(self, budget: Budget) -> Iterator[None]:
         """Comes by once for each whole map that holds this part, those with free darts first."""
@@ -118,7 +118,7 @@ class Partial:
             if gap is None:
                 yield
             else:
-                stack.append(self.tries(*gap, budget))
+                stack.append(self.try_each(*gap, budget))
             while stack and next(stack[-1], self) is self:
                 stack.pop()
             if not stack:

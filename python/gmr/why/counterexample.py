@@ -163,7 +163,7 @@ class Pattern:
             if check():
                 yield
         except Open as needed:
-            for _ in self.part.tries(needed.dart, needed.label, budget):
+            for _ in self.part.try_each(needed.dart, needed.label, budget):
                 yield from self.settle(check, budget)
 
     def map(self, embeds: list[Embed]) -> Map:
@@ -249,12 +249,12 @@ def search_by(ways: Ways, rule: Rule, dimension: int, embeds: list[Embed]) -> Se
             pattern.part.most = len(best.candidate.map.darts) - 1
         fits = next(pattern.part.close(Budget(MOST_CHOICES)), pattern) is None
         fitting += fits
-        found, is_short = smallest_over(laid_again(pattern) if fits else pattern, embeds, ways)
+        found, is_short = find_smallest(lay_again(pattern) if fits else pattern, embeds, ways)
         best, is_whole = found or best, is_whole and not is_short
     return Search(best, fitting, clashing, is_whole, clash)
 
 
-def smallest_over(pattern: Pattern, embeds: list[Embed], ways: Ways) -> tuple[Found | None, bool]:
+def find_smallest(pattern: Pattern, embeds: list[Embed], ways: Ways) -> tuple[Found | None, bool]:
     """The counterexample over an orbit with the fewest darts, and whether choices were left out: whenever there is one,
     a smaller one is looked for."""
     best = None
@@ -263,13 +263,13 @@ def smallest_over(pattern: Pattern, embeds: list[Embed], ways: Ways) -> tuple[Fo
         found = next(ways(pattern, embeds, budget), None)
         if found is None:
             return best, budget.is_short
-        best, pattern = found, laid_again(pattern)
+        best, pattern = found, lay_again(pattern)
         pattern.part.most = len(found.candidate.map.darts) - 1
         if len(pattern.part.near) > pattern.part.most:
             return best, False
 
 
-def laid_again(pattern: Pattern) -> Pattern:
+def lay_again(pattern: Pattern) -> Pattern:
     """The same pattern with nothing settled but its left side."""
     fresh = Pattern(pattern.rule, len(pattern.labels) - 1, pattern.turns)
     fresh.part.most = pattern.part.most

@@ -49,7 +49,7 @@ def book_text(book: Book, rules: Sequence[Rule]) -> str:
     return "\n".join(lines) + "\n"
 
 
-def faults_of(book: Book, rules: Sequence[Rule]) -> list[str | None]:
+def ask_faults(book: Book, rules: Sequence[Rule]) -> list[str | None]:
     """What the program says of each rule: its first fault, or None where it is accepted; where it doesn't even take
     the text of one, an empty fault for all that stand with it."""
     faults: list[str | None] = []

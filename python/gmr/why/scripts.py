@@ -76,7 +76,7 @@ class Prefixes:
         _, said = answer("run", self.start, self.book, script, out)
         return said.splitlines(), LazyMap(out.read_text(encoding="ascii"))
 
-    def before(self, at: int) -> LazyMap:
+    def run_to(self, at: int) -> LazyMap:
         """The map that a statement meets. The lines before it are run once, as long as no other but the first is asked
         for."""
         if at == 0:
@@ -86,27 +86,27 @@ class Prefixes:
             self.kept = at, self.run(text_before(self.text, self.statements, at))[1]
         return self.kept[1]
 
-    def apart(self, at: int, most: int) -> tuple[int, list[tuple[int, list[str], Map]]]:
+    def run_apart(self, at: int, most: int) -> tuple[int, list[tuple[int, list[str], Map]]]:
         """How many applications of an `each` are refused, and of the first of them the dart, the words of the cause,
         and the map that it met."""
         each, before = self.statements[at], text_before(self.text, self.statements, at)
         values = f" with {' '.join(map(show, each.values))}" if each.values else ""
-        leads = [orbit[0] for orbit in self.before(at).whole().orbits(each.labels)]
+        leads = [orbit[0] for orbit in self.run_to(at).whole().orbits(each.labels)]
         lines = [f"\napply {each.rule} {lead}{values}" for lead in leads]
         said = [line.split() for line in self.run(before + "".join(lines))[0][-1 - len(leads):-1]]
         refused = [place for place, words in enumerate(said) if words[2] == "refused" and words[3] != "no-dart"]
         return len(refused), [(leads[place], said[place][3:], self.run(before + "".join(lines[:place]))[1])
                               for place in refused[:most]]
 
-    def removing_line(self, at: int, dart: int, outcomes: list[Outcome]) -> int | None:
+    def find_removing_line(self, at: int, dart: int, outcomes: list[Outcome]) -> int | None:
         """The line, from 0, that removed a dart which was there at the start and isn't there at a statement."""
-        if dart not in self.before(0).alpha[0] or dart in self.before(at).alpha[0]:
+        if dart not in self.run_to(0).alpha[0] or dart in self.run_to(at).alpha[0]:
             return None
         lines = [line for line in range(at) if may_remove(self.statements[line], outcomes[line])]
         least, greatest = 0, len(lines) - 1
         while least < greatest:
             middle = (least + greatest) // 2
-            if dart in self.before(lines[middle] + 1).alpha[0]:
+            if dart in self.run_to(lines[middle] + 1).alpha[0]:
                 least = middle + 1
             else:
                 greatest = middle

@@ -37,7 +37,7 @@ NAMES = {"MAP": "a map", "BOOK": "a book", "SCRIPT": "a script"}
 MOST_BYTES = 1_000_000     # a longer text isn't asked what could stand at its place: each try reads it again
 
 
-def first_line(role: str, path: Path) -> str:
+def ask_first_line(role: str, path: Path) -> str:
     """What the program answers to the text of a file in that role. A script is read with an empty map and book."""
     if role != "SCRIPT":
         return answer("show" if role == "MAP" else "book", path)[1].partition("\n")[0]
@@ -54,7 +54,7 @@ def what_may_stand(role: str, text: str, place: int) -> list[str]:
         path = Path(folder, "text")
         for word in ["n", "1", *WORDS[role], *SIGNS]:
             path.write_bytes(f"{text[:place]} {word}".encode("latin-1"))
-            if first_line(role, path) != f"refused {role} text {place + 1}":
+            if ask_first_line(role, path) != f"refused {role} text {place + 1}":
                 allowed.append(word)
     if "n" in allowed:
         allowed = [word for word in allowed if not word[0].isalpha() or word in RESERVED or word == "n"]

@@ -10,7 +10,7 @@ from typing import NamedTuple
 
 from gmr.books import Book, Link, Node, Rule
 from gmr.why.changes import CHANGES
-from gmr.why.edits import faults_of, link_text, node_text
+from gmr.why.edits import ask_faults, link_text, node_text
 
 MOST_STEPS = 3           # changes one after another
 MOST_OPEN = 60           # rules that are gone on from, at each step
@@ -40,7 +40,7 @@ def find_ways(book: Book, rule: Rule, fault: str) -> list[Way]:
                     tried[text] = Way(changed, letters_between(rule, changed))
         near = [way for way in tried.values() if way.letters <= MOST_LETTERS and parts_of(way.rule, names) <= parts]
         near.sort(key=lambda way: way.letters)
-        faults = faults_of(book, [way.rule for way in near])
+        faults = ask_faults(book, [way.rule for way in near])
         found.update({text_of(way.rule): way for way, said in zip(near, faults)
                       if said is None and (may_do_nothing or does_something(way.rule))})
         waiting = [(way.rule, said) for way, said in zip(near, faults) if said][:MOST_OPEN]
