@@ -39,8 +39,9 @@ use Rattle.gm_match.specs.inner.Firsts.{AreMet, IsFirstStep}
 use Rattle.gm_match.specs.inner.Firsts.IsFirstStep.{NotMet}
 use Rattle.gm_match.specs.inner.Layout.{AreDarts, AreHookSlots, IsNoDart, IsCandidateAt}
 use Rattle.gm_match.specs.inner.Layout.IsNoDart.{Dead}
-use Rattle.gm_match.proofs.InArena.{answered}
-use Rattle.gm_match.specs.inner.Outcome.{application_of, name_of, place_of, IsAnswer, IsCause}
+use Rattle.gm_match.proofs.InArena.{answered, named_slot}
+use Rattle.gm_plan.specs.inner.InArena.{placement_in}
+use Rattle.gm_match.specs.inner.Outcome.{application_of, name_of, IsAnswer, IsCause}
 use Rattle.gm_match.specs.inner.Taken.{TakeEachOnce, TakeEachOnceBefore, TakesEachOnce, IsFirstTwice}
 use Rattle.gm_match.specs.inner.Taken.IsFirstTwice.{Twice}
 use Rattle.gm_match.proofs.Costs.{found_cost, met_cost}
@@ -148,7 +149,7 @@ module _ (m : ArenaMap) (rule : Rule) (sound : IsMatchable m rule) where
 
       pub created : (found : Placed) → found.slots ≡ [] → found.positions ≡ 1 → found.nodes ≡ 0 → found.places ≡ 0 → IsAnswer m rule hooks found
       created found slots one nodes places = answered m rule hooks found
-          (candidate_is_match (as_map m) rule (place_of m found) sound.in_range sound.incidence sound.generalised hooks candidate (λ d c. absurd (nothing d c)) (λ x p i at label. absurd (no_left x at.0)) (λ x p y q at other before same. no_left x at.0))
+          (candidate_is_match (as_map m) rule (placement_in m found) sound.in_range sound.incidence sound.generalised hooks candidate (λ d c. absurd (nothing d c)) (λ x p i at label. absurd (no_left x at.0)) (λ x p y q at other before same. no_left x at.0))
           (λ k d h. absurd (let e : length found.slots ≡ 0 = ap length slots in omega arith))
           (let e : length found.slots ≡ 0 = ap length slots in rw (nodes, one, e) refl)
           (λ x. ((λ left. absurd (no_left x left)), (λ h. absurd (omega arith))))
@@ -157,11 +158,11 @@ module _ (m : ArenaMap) (rule : Rule) (sound : IsMatchable m rule) where
           no_hook : {P : Type 0} → (t h : ℕ) → slice_get rule.hooks t ≡ Some h → P
           no_hook t h at = none_some h (subst (λ hs. slice_get hs t ≡ Some h) none at)
 
-          candidate : IsCandidate (as_map m) rule hooks (place_of m found)
+          candidate : IsCandidate (as_map m) rule hooks (placement_in m found)
           candidate = record {
             count = ap length no_dart ∙ sym (ap length none);
             walk = [];
-            positions = subst (λ hs. ArePositions (as_map m) rule (place_of m found) hs []) (sym no_dart) (Created none one);
+            positions = subst (λ hs. ArePositions (as_map m) rule (placement_in m found) hs []) (sym no_dart) (Created none one);
             hooked = λ h p first less. no_hook 0 h first;
             at_darts = λ t h d at named. no_hook t h at;
             in_step = λ t h p q l later at some less turn. no_hook t h at;
@@ -248,7 +249,7 @@ module _ (m : ArenaMap) (rule : Rule) (hooks : List ℕ) (begun : IsBegun m rule
     pub positions_found : (params : List Value) (k : ℕ) → HasPositions (application_of m rule hooks params) k → k ≡ found.positions
     positions_found params k has =
         let ours = positions_are params k has in
-        let theirs = positions_are params found.positions (Candidate (place_of m found) (live_hooks params) at.candidate) in
+        let theirs = positions_are params found.positions (Candidate (placement_in m found) (live_hooks params) at.candidate) in
         sym ours.2 ∙ ap length (walk_unique (along_hook (as_map m) rule) (width rule) (slice_index hooks 0) ours.0 theirs.0 ours.1 theirs.1) ∙ theirs.2
 
     tested_cost : (start looked found_at met : ℕ) → looked ≤ start + length hooks → ((walk : List ℕ) → IsWalk (along_hook (as_map m) rule) (width rule) (slice_index hooks 0) walk → found_at ≤ looked + 5 * (m.schema.dim + 1) * (length rule.nodes * length walk)) →
@@ -261,36 +262,36 @@ module _ (m : ArenaMap) (rule : Rule) (hooks : List ℕ) (begun : IsBegun m rule
         met ≤ found_at + 2 * (m.schema.dim + 1) * (length rule.nodes * found.positions) → (params : List Value) (k : ℕ) → HasPositions (application_of m rule hooks params) k → met ≤ start + 8 * (m.schema.dim + 1) * (length rule.nodes * k + 1)
     named_tested_cost names same start looked found_at met look make = tested_cost start looked found_at met look (subst (λ hs. IsMadeWithin hs looked found_at) same make)
 
-    like : (place : Placement) → IsMatch (as_map m) rule hooks place → IsLike rule (place_of m found) place
-    like place matched = candidates_agree (as_map m) rule hooks begun.sound.in_range begun.sound.incidence (place_of m found) place at.candidate (match_is_candidate (as_map m) rule place begun.sound.in_range begun.sound.incidence hooks matched)
+    like : (place : Placement) → IsMatch (as_map m) rule hooks place → IsLike rule (placement_in m found) place
+    like place matched = candidates_agree (as_map m) rule hooks begun.sound.in_range begun.sound.incidence (placement_in m found) place at.candidate (match_is_candidate (as_map m) rule place begun.sound.in_range begun.sound.incidence hooks matched)
 
     -- ---- a step that isn't met
 
     pub step_cause : (fault : MatchFault) → IsFirstStep m rule found fault → (params : List Value) → IsCause (application_of m rule hooks params) fault
-    step_cause _ (NotMet x p i node step) params = BrokenStep (place_of m found) x p i (live_hooks params) at.candidate (first_broken m rule found at.laid hooks params x p i node step)
+    step_cause _ (NotMet x p i node step) params = BrokenStep (placement_in m found) x p i (live_hooks params) at.candidate (first_broken m rule found at.laid hooks params x p i node step)
 
     pub step_missed : (fault : MatchFault) → IsFirstStep m rule found fault → (place : Placement) → IsMatch (as_map m) rule hooks place → ⊥
     step_missed _ (NotMet x p i node step) place matched =
         let b = first_broken m rule found at.laid hooks [] x p i node step in
         let l = like place matched in
-        b.broken (met_alike (as_map m) rule hooks begun.sound.in_range begun.sound.incidence (place_of m found) place l x p i b.instance b.label
+        b.broken (met_alike (as_map m) rule hooks begun.sound.in_range begun.sound.incidence (placement_in m found) place l x p i b.instance b.label
         (matched.embedded.steps x p i (b.instance.0, subst (λ k. p < k) l.positions b.instance.1) b.label))
 
     -- ---- a dart that is taken twice
 
     -- two instances of one dart have one slot
-    same_slots : (x p y q : ℕ) → IsInstance rule (place_of m found) x p → IsInstance rule (place_of m found) y q → name_of m (slot_at found x p) ≡ name_of m (slot_at found y q) → slot_at found x p ≡ slot_at found y q
+    same_slots : (x p y q : ℕ) → IsInstance rule (placement_in m found) x p → IsInstance rule (placement_in m found) y q → (placement_in m found).dart_of x p ≡ (placement_in m found).dart_of y q → slot_at found x p ≡ slot_at found y q
     same_slots x p y q one other same = go (slot_some m found at.laid.long x p ((at.laid.nodes x).0 one.0) one.1) (slot_some m found at.laid.long y q ((at.laid.nodes y).0 other.0) other.1)
       where
         go : (s : Slot) × (slot_at found x p ≡ Some s) → (t : Slot) × (slot_at found y q ≡ Some t) → slot_at found x p ≡ slot_at found y q
         go (s, e) (t, f) =
-            let names : name_at m s.at ≡ name_at m t.at = ap (name_of m) (sym e) ∙ same ∙ ap (name_of m) f in
+            let names : name_at m s.at ≡ name_at m t.at = ap (name_of m) (sym e) ∙ named_slot m found x p ∙ same ∙ sym (named_slot m found y q) ∙ ap (name_of m) f in
             e ∙ ap Some (one_slot m begun.lawful s t (slot_live m found at.laid.slots x p s e) (slot_live m found at.laid.slots y q t f) names) ∙ sym f
 
     first_repeat : (params : List Value) (x p y q : ℕ) → y < found.nodes → p < found.positions → q < found.positions → IsPairBefore x p y q → slot_at found x p ≡ slot_at found y q → TakeEachOnceBefore found y q →
-        IsFirstRepeat (application_of m rule hooks params) (place_of m found) x p y q
+        IsFirstRepeat (application_of m rule hooks params) (placement_in m found) x p y q
     first_repeat params x p y q y_in p_in q_in before same distinct = record {
-      here = record { first = ((at.laid.nodes x).1 (x_in before), p_in); second = ((at.laid.nodes y).1 y_in, q_in); later = before; same = ap (name_of m) same };
+      here = record { first = ((at.laid.nodes x).1 (x_in before), p_in); second = ((at.laid.nodes y).1 y_in, q_in); later = before; same = sym (named_slot m found x p) ∙ ap (name_of m) same ∙ named_slot m found y q };
       before = λ x' p' y' q' earlier again. distinct x' p' y' q' again.later earlier again.first.1 again.second.1 (same_slots x' p' y' q' again.first again.second again.same);
     }
       where
@@ -300,18 +301,18 @@ module _ (m : ArenaMap) (rule : Rule) (hooks : List ℕ) (begun : IsBegun m rule
 
     pub twice_cause : AreMet m rule found → (fault : MatchFault) → IsFirstTwice found fault → (params : List Value) → IsCause (application_of m rule hooks params) fault
     twice_cause met _ (Twice x p y q y_in p_in q_in before same distinct) params =
-        Repeated (place_of m found) x p y q (live_hooks params) at.candidate (meets_all m rule found at.laid met) (first_repeat params x p y q y_in p_in q_in before same distinct)
+        Repeated (placement_in m found) x p y q (live_hooks params) at.candidate (meets_all m rule found at.laid met) (first_repeat params x p y q y_in p_in q_in before same distinct)
 
     pub twice_missed : (fault : MatchFault) → IsFirstTwice found fault → (place : Placement) → IsMatch (as_map m) rule hooks place → ⊥
     twice_missed _ (Twice x p y q y_in p_in q_in before same distinct) place matched = go before (matched.embedded.injective x p y q (there x p r.first) (there y q r.second) (sym (l.darts x p r.first) ∙ r.same ∙ l.darts y q r.second))
       where
-        r : IsRepeat (application_of m rule hooks []) (place_of m found) x p y q
+        r : IsRepeat (application_of m rule hooks []) (placement_in m found) x p y q
         r = (first_repeat [] x p y q y_in p_in q_in before same distinct).here
 
-        l : IsLike rule (place_of m found) place
+        l : IsLike rule (placement_in m found) place
         l = like place matched
 
-        there : (z w : ℕ) → IsInstance rule (place_of m found) z w → IsInstance rule place z w
+        there : (z w : ℕ) → IsInstance rule (placement_in m found) z w → IsInstance rule place z w
         there z w one = (one.0, subst (λ k. w < k) l.positions one.1)
 
         go : IsPairBefore x p y q → (x ≡ y) × (p ≡ q) → ⊥
@@ -322,20 +323,20 @@ module _ (m : ArenaMap) (rule : Rule) (hooks : List ℕ) (begun : IsBegun m rule
 
     -- no two of its instances have one slot, since no dart comes twice in a walk
     pub hook_once : TakesEachOnce found hook
-    hook_once q r less r_in same = walked.is_walk.distinct q r less (subst (λ k. r < k) walked.size r_in) (sym (lies q (omega (arith, less, r_in))) ∙ ap (name_of m) same ∙ lies r r_in)
+    hook_once q r less r_in same = walked.is_walk.distinct q r less (subst (λ k. r < k) walked.size r_in) (sym (lies q (omega (arith, less, r_in))) ∙ sym (named_slot m found hook q) ∙ ap (name_of m) same ∙ named_slot m found hook r ∙ lies r r_in)
       where
-        walked : IsWalkedBy (as_map m) rule hooks (place_of m found) at.candidate.walk
-        walked = walked_from (as_map m) rule hooks (place_of m found) at.candidate.walk (slice_index hooks 0) first_dart at.candidate.positions
+        walked : IsWalkedBy (as_map m) rule hooks (placement_in m found) at.candidate.walk
+        walked = walked_from (as_map m) rule hooks (placement_in m found) at.candidate.walk (slice_index hooks 0) first_dart at.candidate.positions
 
-        lies : (p : ℕ) → p < found.positions → name_of m (slot_at found hook p) ≡ slice_index at.candidate.walk p
+        lies : (p : ℕ) → p < found.positions → (placement_in m found).dart_of hook p ≡ slice_index at.candidate.walk p
         lies p within = at.candidate.hooked hook p first within
 
     -- ---- a match
 
     pub answer : AreMet m rule found → TakeEachOnce found → IsAnswer m rule hooks found
     answer met distinct = answered m rule hooks found
-        (candidate_is_match (as_map m) rule (place_of m found) begun.sound.in_range begun.sound.incidence begun.sound.generalised hooks at.candidate (live_hooks []) (meets_all m rule found at.laid met) apart)
+        (candidate_is_match (as_map m) rule (placement_in m found) begun.sound.in_range begun.sound.incidence begun.sound.generalised hooks at.candidate (live_hooks []) (meets_all m rule found at.laid met) apart)
         at.laid.slots at.laid.long at.laid.nodes at.laid.places
       where
-        apart : (x p y q : ℕ) → IsInstance rule (place_of m found) x p → IsInstance rule (place_of m found) y q → IsPairBefore x p y q → name_of m (slot_at found x p) ≡ name_of m (slot_at found y q) → ⊥
+        apart : (x p y q : ℕ) → IsInstance rule (placement_in m found) x p → IsInstance rule (placement_in m found) y q → IsPairBefore x p y q → (placement_in m found).dart_of x p ≡ (placement_in m found).dart_of y q → ⊥
         apart x p y q one other before same = distinct x p y q before (inl ((at.laid.nodes y).0 other.0)) one.1 other.1 (same_slots x p y q one other same)

@@ -9,11 +9,11 @@ use Rattle.gm_arena.specs.inner.ArenaAsMap.{as_map}
 use Rattle.gm_arena.specs.inner.ArenaMap.{ArenaMap}
 use Rattle.gm_plan.specs.inner.Placed.{Placed}
 use Rattle.gm_match.specs.inner.Firsts.{AreMetBy, IsFirstAt}
-use Rattle.gm_match.specs.inner.Outcome.{place_of}
+use Rattle.gm_plan.specs.inner.InArena.{placement_in}
 
 module _ (m : ArenaMap) (rule : Rule) (found : Placed) (x : ℕ) where
   abbrev IsMet : ℕ → ℕ → Type 0
-  IsMet p i = IsMetAt (as_map m) rule (place_of m found) x p i
+  IsMet p i = IsMetAt (as_map m) rule (placement_in m found) x p i
 
   -- position p and label i are the first that is broken, of the labels below the count
   pub record IsBrokenAmong (count end p i : ℕ) : Type 0 where

@@ -15,7 +15,7 @@ use Rattle.gm_arena.specs.inner.ArenaAsMap.{as_map}
 use Rattle.gm_arena.specs.inner.ArenaMap.{ArenaMap, IsLiveName, alpha}
 use Rattle.gm_arena.proofs.MapLemmas.{IsLiveName-name_at}
 use Rattle.gm_plan.specs.inner.Paths.{IsLastLink}
-use Rattle.gm_plan.specs.inner.Placed.{Placed, slot_at, turn_at}
+use Rattle.gm_plan.specs.inner.Placed.{Placed, turn_at}
 use Rattle.gm_plan.specs.inner.Plans.{PlanOf}
 use Rattle.gm_plan.specs.inner.Tested.{IsForcedStep}
 use Rattle.gm_plan.specs.inner.Tested.IsForcedStep.{Free, Turns, EndsOwn, EndsOther}
@@ -25,7 +25,9 @@ use Rattle.gm_theory.proofs.RuleLinks.{linked_in_range, linked_step}
 use Rattle.gm_theory.proofs.ValuesReadOff.{read_off}
 use Rattle.gm_match.specs.inner.Firsts.{AreMetBy}
 use Rattle.gm_match.specs.inner.Layout.{AreMatchable, IsCandidateAt}
-use Rattle.gm_match.specs.inner.Outcome.{name_of, place_of}
+use Rattle.gm_plan.specs.inner.InArena.{placement_in}
+use Rattle.gm_match.specs.inner.Outcome.{name_of}
+use Rattle.gm_match.proofs.InArena.{named_slot}
 use Rattle.gm_match.proofs.Paths.{follow_more, last_linked}
 use Rattle.gm_match.proofs.Stepping.{slot_live, slot_some}
 
@@ -46,12 +48,12 @@ module _ (m : ArenaMap) (plan : PlanOf) (able : AreMatchable m plan) (found : Pl
 
   -- the dart of a left node at a position
   abbrev lies : ℕ → ℕ → ℕ
-  lies x p = name_of m (slot_at found x p)
+  lies x p = (placement_in m found).dart_of x p
 
   -- ---- the turns of the first hook
 
   module _ (x : ℕ) (first : slice_get rule.hooks 0 ≡ Some x) (p i k : ℕ) (within : p < found.positions) (here : slice_get (letters rule Left x) k ≡ Some (At i)) where
-    turned : IsCreatedBy (as_map m) rule at.0 (place_of m found) at.1.candidate.walk ⊎ IsWalkedBy (as_map m) rule at.0 (place_of m found) at.1.candidate.walk → alpha m i (lies x p) ≡ lies x (turn_at found p k)
+    turned : IsCreatedBy (as_map m) rule at.0 (placement_in m found) at.1.candidate.walk ⊎ IsWalkedBy (as_map m) rule at.0 (placement_in m found) at.1.candidate.walk → alpha m i (lies x p) ≡ lies x (turn_at found p k)
     turned (inl created) = none_some x (subst (λ hs. slice_get hs 0 ≡ Some x) created.none first)
     turned (inr walked) =
         let turn = walked.turns p k (subst (λ n. p < n) walked.size within) (place_within rule x first i k here) in
@@ -63,7 +65,7 @@ module _ (m : ArenaMap) (plan : PlanOf) (able : AreMatchable m plan) (found : Pl
   turn_met : (x p i k : ℕ) → p < found.positions → slice_get rule.hooks 0 ≡ Some x → step rule Left x i ≡ Imp k → alpha m i (lies x p) ≡ lies x (turn_at found p k)
   turn_met x p i k within first e =
       let here = (read_off plan.schema rule able.planned.accepted.in_range able.planned.accepted.incidence).lettered Left x i k e in
-      turned x first p i k within here (positions_parts (as_map m) rule (place_of m found) at.0 at.1.candidate.walk at.1.candidate.positions)
+      turned x first p i k within here (positions_parts (as_map m) rule (placement_in m found) at.0 at.1.candidate.walk at.1.candidate.positions)
 
   -- ---- the last links of the paths
 
@@ -83,14 +85,14 @@ module _ (m : ArenaMap) (plan : PlanOf) (able : AreMatchable m plan) (found : Pl
     live : IsLiveName m (lies link.from p)
     live =
         let there = slot_some m found at.1.laid.long link.from p ((at.1.laid.nodes link.from).0 range.0) within in
-        subst (λ s. IsLiveName m (name_of m s)) (sym there.1) (IsLiveName-name_at m there.0.at able.lawful (slot_live m found at.1.laid.slots link.from p there.0 there.1))
+        subst (IsLiveName m) (sym (ap (name_of m) there.1) ∙ named_slot m found link.from p) (IsLiveName-name_at m there.0.at able.lawful (slot_live m found at.1.laid.slots link.from p there.0 there.1))
 
     leads_back : alpha m link.label (lies link.to p) ≡ lies link.from p
     leads_back = ap (alpha m link.label) (sym leads_on) ∙ able.generalised.back (lies link.from p) link.label live (subst (λ (s : Schema). link.label ≤ s.dim) (sym able.schema) range.2)
 
   -- ---- each forced step
 
-  pub forced_met : (x p i : ℕ) → p < found.positions → IsForcedStep rule x i → IsMetAt (as_map m) rule (place_of m found) x p i
+  pub forced_met : (x p i : ℕ) → p < found.positions → IsForcedStep rule x i → IsMetAt (as_map m) rule (placement_in m found) x p i
   forced_met x p i within (Free e) = rw e tt
   forced_met x p i within (Turns k first e) = rw e (turn_met x p i k within first e)
   forced_met x p i within (EndsOwn y last) =

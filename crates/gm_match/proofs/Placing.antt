@@ -21,7 +21,7 @@ use Rattle.gm_arena.specs.declared.slot.Slot.{Slot}
 use Rattle.gm_arena.specs.inner.ArenaAsMap.{as_map}
 use Rattle.gm_arena.specs.inner.ArenaMap.{ArenaMap, IsLiveName, name_at, alpha}
 use Rattle.gm_arena.specs.inner.Lawful.{IsLawful}
-use Rattle.gm_plan.specs.inner.Placed.{Placed, slot_at, turn_at}
+use Rattle.gm_plan.specs.inner.Placed.{Placed, turn_at}
 use Rattle.gm_plan.specs.inner.Plans.{PlanOf, IsLeftCount, IsPlanned}
 use Rattle.gm_plan.proofs.Distinct.{few_below}
 use Rattle.gm_theory.proofs.Candidates.{hook_left}
@@ -33,7 +33,9 @@ use Rattle.gm_walk.proofs.WordLemmas.{plain_is_word}
 use Rattle.gm_walk.specs.inner.Cells.{AreCells}
 use Rattle.gm_walk.proofs.NameLemmas.{name_there}
 use Rattle.gm_match.specs.inner.Layout.{AreMatchable, AreRows, HaveFirstTurns, IsFirstTo, IsCandidateAt, dart_at, stepped}
-use Rattle.gm_match.specs.inner.Outcome.{name_of, place_of}
+use Rattle.gm_plan.specs.inner.InArena.{placement_in}
+use Rattle.gm_match.specs.inner.Outcome.{name_of}
+use Rattle.gm_match.proofs.InArena.{named_slot}
 use Rattle.gm_match.specs.inner.Taken.{AreSlotsOf}
 use Rattle.gm_match.proofs.Costs.{candidate_cost}
 use Rattle.gm_match.proofs.FirstTurns.{have_first, is_first}
@@ -134,8 +136,8 @@ module _ (m : ArenaMap) (rule : Rule) (d : ℕ) (slots : List Slot) where
       nodes_are = same_factor (length slots) found.nodes nodes some (ap (λ k. k * found.nodes) (sym positions) ∙ long ∙ sym rows.along.long)
 
       -- the slots are read by the number of the left nodes
-      lies : (x p : ℕ) → name_of m (slot_at found x p) ≡ dart_at m nodes found.slots x p
-      lies x p = ap (λ n. name_of m (slice_get found.slots (p * n + x))) nodes_are
+      lies : (x p : ℕ) → (placement_in m found).dart_of x p ≡ dart_at m nodes found.slots x p
+      lies x p = sym (named_slot m found x p) ∙ ap (λ n. name_of m (slice_get found.slots (p * n + x))) nodes_are
 
       turn_lies : (p l : ℕ) → p < length (names_of m slots) → l < width rule →
           (turn_at found p l < length (names_of m slots)) × (slice_index (names_of m slots) (turn_at found p l) ≡ along_hook (as_map m) rule (slice_index (names_of m slots) p) l)
@@ -147,7 +149,7 @@ module _ (m : ArenaMap) (rule : Rule) (d : ℕ) (slots : List Slot) where
               let at : turn_at found p l ≡ q = ap (λ n. slice_index found.turns (p * n + l)) turned.places ∙ get_or_from_slice_get found.turns (p * width rule + l) q 0 e in
               (subst (λ r. r < length (names_of m slots)) (sym at) t.within, ap (slice_index (names_of m slots)) at ∙ t.leads)
 
-      in_step : GoInStep (as_map m) rule (place_of m found)
+      in_step : GoInStep (as_map m) rule (placement_in m found)
       in_step t h p q l later at after less turn = go (firsts_of (hook_word rule) found.turns refl turned.walk turned.turns p after (subst (λ k. p < k) positions less))
         where
           here : slice_index found.turns (q * width rule + l) ≡ p
@@ -159,7 +161,7 @@ module _ (m : ArenaMap) (rule : Rule) (d : ℕ) (slots : List Slot) where
           stepped_at : (q l h : ℕ) → l < width rule → stepped m rule nodes found.slots (q * width rule + l) h ≡ alpha m (label_at (letters rule Left h) l) (dart_at m nodes found.slots h q)
           stepped_at q l h low = rw (mod-mul-add q (width rule) l low, div-mul-add q (width rule) l low) refl
 
-          go : (k : ℕ) × (k < p * width rule) × IsFirstTo found.turns p k → name_of m (slot_at found h p) ≡ alpha m (label_at (letters rule Left h) l) (name_of m (slot_at found h q))
+          go : (k : ℕ) × (k < p * width rule) × IsFirstTo found.turns p k → (placement_in m found).dart_of h p ≡ alpha m (label_at (letters rule Left h) l) ((placement_in m found).dart_of h q)
           go (k, low, first) =
               lies h p
               ∙ rows.in_step t h p k later at (subst (λ n. p < n) positions less) low first
@@ -167,11 +169,11 @@ module _ (m : ArenaMap) (rule : Rule) (d : ℕ) (slots : List Slot) where
               ∙ stepped_at q l h turn.within
               ∙ ap (alpha m (label_at (letters rule Left h) l)) (sym (lies h q))
 
-      candidate : IsCandidate (as_map m) rule hooks (place_of m found)
+      candidate : IsCandidate (as_map m) rule hooks (placement_in m found)
       candidate = record {
         count = count;
         walk = names_of m slots;
-        positions = subst (λ hs. ArePositions (as_map m) rule (place_of m found) hs (names_of m slots)) (sym is_hooks) (Walked d others (names_of m slots) live turned.walk (positions ∙ sym names_long) turn_lies);
+        positions = subst (λ hs. ArePositions (as_map m) rule (placement_in m found) hs (names_of m slots)) (sym is_hooks) (Walked d others (names_of m slots) live turned.walk (positions ∙ sym names_long) turn_lies);
         hooked = λ h p first less. lies h p ∙ rows.along.hooked h p first (subst (λ n. p < n) positions less);
         at_darts = λ t h e at named. lies h 0 ∙ rows.at_darts t h e some at named;
         in_step = in_step;
@@ -189,7 +191,7 @@ module _ (m : ArenaMap) (rule : Rule) (d : ℕ) (slots : List Slot) where
       walk_slots lawful walked h at left p less =
           let within : p < length slots = subst (λ n. p < n) positions less in
           let there = slot_some m found long h p (subst (λ n. h < n) (sym nodes_are) left) less in
-          let names = ap (name_of m) (sym there.1) ∙ lies h p ∙ rows.along.hooked h p at within ∙ name_there m slots p (record { at = 0 }) within in
+          let names = ap (name_of m) (sym there.1) ∙ named_slot m found h p ∙ lies h p ∙ rows.along.hooked h p at within ∙ name_there m slots p (record { at = 0 }) within in
           let same = one_slot m lawful there.0 (get_or slots p (record { at = 0 })) (slot_live m found rows.along.live h p there.0 there.1) (walked p (record { at = 0 }) within) names in
           there.1 ∙ ap Some same ∙ sym (slice_get-get_or slots p (record { at = 0 }) within)
 

@@ -24,7 +24,8 @@ use Rattle.gm_walk.specs.inner.Walks.{AreLive}
 use Rattle.gm_walk.proofs.MarkLemmas.{same_slot}
 use Rattle.gm_match.specs.inner.Firsts.{AreMetBy, AreMet, IsFirstAt}
 use Rattle.gm_match.specs.inner.Layout.{AreMatchable, IsLaid}
-use Rattle.gm_match.specs.inner.Outcome.{application_of, place_of}
+use Rattle.gm_plan.specs.inner.InArena.{placement_in}
+use Rattle.gm_match.specs.inner.Outcome.{application_of}
 
 module _ (m : ArenaMap) (found : Placed) where
   -- ---- slots
@@ -42,10 +43,10 @@ module _ (m : ArenaMap) (rule : Rule) (found : Placed) where
   -- ---- the steps together
 
   module _ (laid : IsLaid m rule found) where
-    pub meets_all : AreMet m rule found → (x p i : ℕ) → IsInstance rule (place_of m found) x p → i ≤ dimension (as_map m) → IsMetAt (as_map m) rule (place_of m found) x p i
+    pub meets_all : AreMet m rule found → (x p i : ℕ) → IsInstance rule (placement_in m found) x p → i ≤ dimension (as_map m) → IsMetAt (as_map m) rule (placement_in m found) x p i
     meets_all met x p i at label = met x ((laid.nodes x).0 at.0) p at.1 i (omega arith)
 
-    pub first_broken : (hooks : List ℕ) (params : List Value) (x p i : ℕ) → IsFirstBad (AreMetBy m rule found) found.nodes x → IsFirstAt m rule found x p i → IsFirstBroken (application_of m rule hooks params) (place_of m found) x p i
+    pub first_broken : (hooks : List ℕ) (params : List Value) (x p i : ℕ) → IsFirstBad (AreMetBy m rule found) found.nodes x → IsFirstAt m rule found x p i → IsFirstBroken (application_of m rule hooks params) (placement_in m found) x p i
     first_broken hooks params x p i node first = record {
       instance = ((laid.nodes x).1 node.within, first.position.within);
       label = omega (arith, first.label.within);
@@ -53,11 +54,11 @@ module _ (m : ArenaMap) (rule : Rule) (found : Placed) where
       before = before;
     }
       where
-        before : (y q j : ℕ) → IsStepBefore (application_of m rule hooks params) (place_of m found) y q j x p i → IsInstance rule (place_of m found) y q → j ≤ dimension (as_map m) → IsMetAt (as_map m) rule (place_of m found) y q j
+        before : (y q j : ℕ) → IsStepBefore (application_of m rule hooks params) (placement_in m found) y q j x p i → IsInstance rule (placement_in m found) y q → j ≤ dimension (as_map m) → IsMetAt (as_map m) rule (placement_in m found) y q j
         before y q j (inl (inl less)) at label = node.before y less q at.1 j (omega arith)
-        before y q j (inl (inr (same, less))) at label = subst (λ z. IsMetAt (as_map m) rule (place_of m found) z q j) (sym same) (first.position.before q less j (omega arith))
+        before y q j (inl (inr (same, less))) at label = subst (λ z. IsMetAt (as_map m) rule (placement_in m found) z q j) (sym same) (first.position.before q less j (omega arith))
         before y q j (inr (same, equal, less)) at label =
-            subst (λ z. IsMetAt (as_map m) rule (place_of m found) z q j) (sym same) (subst (λ r. IsMetAt (as_map m) rule (place_of m found) x r j) (sym equal) (first.label.before j less))
+            subst (λ z. IsMetAt (as_map m) rule (placement_in m found) z q j) (sym same) (subst (λ r. IsMetAt (as_map m) rule (placement_in m found) x r j) (sym equal) (first.label.before j less))
 
 -- ---- where the steps of a left node lead
 

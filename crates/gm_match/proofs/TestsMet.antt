@@ -21,7 +21,7 @@ use Rattle.gm_plan.specs.inner.Plans.{PlanOf}
 use Rattle.gm_plan.specs.inner.Tested.{AreTests, test_of}
 use Rattle.gm_match.specs.inner.Firsts.{AreMet}
 use Rattle.gm_match.specs.inner.Layout.{AreMatchable, IsCandidateAt}
-use Rattle.gm_match.specs.inner.Outcome.{place_of}
+use Rattle.gm_plan.specs.inner.InArena.{placement_in}
 use Rattle.gm_match.proofs.ForcedMet.{forced_met}
 use Rattle.gm_match.proofs.Stepping.{node_below}
 
@@ -61,7 +61,7 @@ module _ (m : ArenaMap) (plan : PlanOf) (able : AreMatchable m plan) (found : Pl
   pub label_found : (t : ℕ) (test : Test) → slice_get tests t ≡ Some test → test.label ≤ m.schema.dim
   label_found t test here = subst (λ (s : Schema). test.label ≤ s.dim) (sym able.schema) (are.each t test here).label
 
-  pub each_met : ((t : ℕ) (test : Test) → slice_get tests t ≡ Some test → AreGood (λ p. IsMetAt (as_map m) (rule_of plan.table) (place_of m found) test.node p test.label) found.positions) → AreMet m (rule_of plan.table) found
+  pub each_met : ((t : ℕ) (test : Test) → slice_get tests t ≡ Some test → AreGood (λ p. IsMetAt (as_map m) (rule_of plan.table) (placement_in m found) test.node p test.label) found.positions) → AreMet m (rule_of plan.table) found
   each_met met x h p within i less =
       let low : i ≤ plan.schema.dim = subst (λ (s : Schema). i ≤ s.dim) able.schema (omega (arith, less)) in
       elim (are.all x i (node_below m plan able found at.1.laid x h) low) [

@@ -12,7 +12,7 @@ ghost use Rattle.gm_model.specs.Rules.{rule_of, step};
 ghost use Rattle.gm_model.specs.Structure.{AreGood, IsFirstBad};
 ghost use Rattle.gm_plan.specs.inner.Tested.{IsForcedStep};
 ghost use Rattle.gm_walk.specs.inner.Walks.{AreLive};
-ghost use Rattle.gm_match.specs.inner.Outcome.{place_of};
+ghost use Rattle.gm_plan.specs.inner.InArena.{placement_in};
 ghost use Rattle.gm_match.specs.inner.Layout.{AreMatchable, IsCandidateAt};
 ghost use Rattle.gm_match.specs.inner.Firsts.{AreMetBy, AreMet, IsFirstAt, IsFirstStep};
 
@@ -147,8 +147,8 @@ fn first_broken<L: Ledger>(
     requires kept { test.step ≢ Absent → test.step ≡ step (rule_of plan.now.table) Left test.node test.label }
     requires end { end ≤ found.now.positions }
     ensures first { MatchOption result
-        (AreGood (λ p. IsMetAt (as_map arena.now) (rule_of plan.now.table) (place_of arena.now found.now) test.node p test.label) end)
-        (IsFirstBad (λ p. IsMetAt (as_map arena.now) (rule_of plan.now.table) (place_of arena.now found.now) test.node p test.label) end) }
+        (AreGood (λ p. IsMetAt (as_map arena.now) (rule_of plan.now.table) (placement_in arena.now found.now) test.node p test.label) end)
+        (IsFirstBad (λ p. IsMetAt (as_map arena.now) (rule_of plan.now.table) (placement_in arena.now found.now) test.node p test.label) end) }
     ensures cost { steps.new ≤ steps.old + end }
     ensures least { steps.old ≤ steps.new }
 {
@@ -178,8 +178,8 @@ fn first_unlinked<L: Ledger>(
     requires other { other < found.now.nodes }
     requires end { end ≤ found.now.positions }
     ensures first { MatchOption result
-        (AreGood (λ p. IsStepMet (alpha arena.now) (place_of arena.now found.now) node p label (Exp other)) end)
-        (IsFirstBad (λ p. IsStepMet (alpha arena.now) (place_of arena.now found.now) node p label (Exp other)) end) }
+        (AreGood (λ p. IsStepMet (alpha arena.now) (placement_in arena.now found.now) node p label (Exp other)) end)
+        (IsFirstBad (λ p. IsStepMet (alpha arena.now) (placement_in arena.now found.now) node p label (Exp other)) end) }
     ensures cost { steps.new ≤ steps.old + end }
     ensures least { steps.old ≤ steps.new }
 {
@@ -211,8 +211,8 @@ fn first_unturned<L: Ledger>(
     requires place { place < found.now.places }
     requires end { end ≤ found.now.positions }
     ensures first { MatchOption result
-        (AreGood (λ p. IsStepMet (alpha arena.now) (place_of arena.now found.now) node p label (Imp place)) end)
-        (IsFirstBad (λ p. IsStepMet (alpha arena.now) (place_of arena.now found.now) node p label (Imp place)) end) }
+        (AreGood (λ p. IsStepMet (alpha arena.now) (placement_in arena.now found.now) node p label (Imp place)) end)
+        (IsFirstBad (λ p. IsStepMet (alpha arena.now) (placement_in arena.now found.now) node p label (Imp place)) end) }
     ensures cost { steps.new ≤ steps.old + end }
     ensures least { steps.old ≤ steps.new }
 {

@@ -15,7 +15,8 @@ use Rattle.gm_plan.specs.inner.Plans.{PlanOf, IsLeftCount, IsPlanned}
 use Rattle.gm_walk.specs.inner.Walks.{AreLive, names_of}
 use Rattle.gm_match.specs.declared.fault.MatchFault.{MatchFault}
 use Rattle.gm_match.specs.declared.fault.MatchFault.TheVariants as faults
-use Rattle.gm_match.specs.inner.Outcome.{name_of, place_of}
+use Rattle.gm_plan.specs.inner.InArena.{placement_in}
+use Rattle.gm_match.specs.inner.Outcome.{name_of}
 
 -- a generalised map of the plan's schema, and a rule that has a plan
 pub record AreMatchable (m : ArenaMap) (plan : PlanOf) : Type 0 where
@@ -134,4 +135,4 @@ pub record IsLaid (m : ArenaMap) (rule : Rule) (found : Placed) : Type 0 where
 -- the instances are those of the candidate at the hook darts
 pub record IsCandidateAt (m : ArenaMap) (rule : Rule) (hooks : List ℕ) (found : Placed) : Type 0 where
   pub laid : IsLaid m rule found
-  pub candidate : IsCandidate (as_map m) rule hooks (place_of m found)
+  pub candidate : IsCandidate (as_map m) rule hooks (placement_in m found)

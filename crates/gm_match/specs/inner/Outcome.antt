@@ -4,13 +4,12 @@ use Rattle.std.specs.Option.{option_map_or}
 use Rattle.gm_model.specs.declared.value.Value.{Value}
 use Rattle.gm_model.specs.Applications.{Application, IsRefused}
 use Rattle.gm_model.specs.Applications.Cause.{NoDart, Arc, Same}
-use Rattle.gm_model.specs.Matches.{Placement}
 use Rattle.gm_model.specs.Rules.{Rule}
 use Rattle.gm_arena.specs.declared.slot.Slot.{Slot}
 use Rattle.gm_arena.specs.inner.ArenaMap.{ArenaMap, name_at}
 use Rattle.gm_arena.specs.inner.ArenaAsMap.{as_map}
 use Rattle.gm_plan.specs.inner.InArena.{AreMatched}
-use Rattle.gm_plan.specs.inner.Placed.{Placed, slot_at, turn_at}
+use Rattle.gm_plan.specs.inner.Placed.{Placed}
 use Rattle.gm_walk.specs.inner.Walks.{AreLive}
 use Rattle.gm_match.specs.declared.fault.MatchFault.{MatchFault}
 use Rattle.gm_match.specs.declared.fault.MatchFault.TheVariants as faults
@@ -22,10 +21,6 @@ application_of m rule hooks params = record { map = as_map m; rule = rule; hooks
 -- the name of the dart at a slot; without a slot, at the first
 abbrev pub name_of : ArenaMap → Option Slot → ℕ
 name_of m slot = name_at m (option_map_or (λ (s : Slot). s.at) slot 0)
-
--- where instances lie, by the names of the darts at their slots
-abbrev pub place_of : ArenaMap → Placed → Placement
-place_of m found = record { positions = found.positions; turn = turn_at found; dart_of = λ x p. name_of m (slot_at found x p) }
 
 -- the instances are a match, and each of their slots is live
 pub record IsAnswer (m : ArenaMap) (rule : Rule) (hooks : List ℕ) (found : Placed) : Type 0 where

@@ -4,7 +4,7 @@ use Rattle.gm_model.specs.declared.step.Step.{Step}
 use Rattle.gm_model.specs.Matches.{IsStepMet}
 use Rattle.gm_model.specs.Structure.{AreGood, IsFirstBad}
 use Rattle.std.specs.Option.{MatchOption}
-use Rattle.gm_match.specs.inner.Outcome.{place_of}
+use Rattle.gm_plan.specs.inner.InArena.{placement_in}
 use Rattle.gm_match.proofs.ForcedMet.{forced_met}
 use Rattle.gm_match.proofs.Stepping.{other_below, place_below}
 use Rattle.gm_match.proofs.TestsMet.{exp_some, imp_some}
@@ -23,14 +23,14 @@ pub returns-in-Exp-clause-first : goal.returns-in-Exp-clause-first
 returns-in-Exp-clause-first g c =
     let m = c.args.arena.now in
     let found = c.args.found.now in
-    let is_met : Step → ℕ → Type 0 = λ s p. IsStepMet (alpha m) (place_of m found) c.args.test.node p c.args.test.label s in
+    let is_met : Step → ℕ → Type 0 = λ s p. IsStepMet (alpha m) (placement_in m found) c.args.test.node p c.args.test.label s in
     subst (λ s. MatchOption c.first_unlinked.result (AreGood (is_met s) c.args.end) (IsFirstBad (is_met s) c.args.end)) (sym c.in-Exp.is ∙ c.requires.kept (exp_some c.args.test.step _ c.in-Exp.is)) c.first_unlinked.ensures.first
 
 pub returns-in-Imp-clause-first : goal.returns-in-Imp-clause-first
 returns-in-Imp-clause-first g c =
     let m = c.args.arena.now in
     let found = c.args.found.now in
-    let is_met : Step → ℕ → Type 0 = λ s p. IsStepMet (alpha m) (place_of m found) c.args.test.node p c.args.test.label s in
+    let is_met : Step → ℕ → Type 0 = λ s p. IsStepMet (alpha m) (placement_in m found) c.args.test.node p c.args.test.label s in
     subst (λ s. MatchOption c.first_unturned.result (AreGood (is_met s) c.args.end) (IsFirstBad (is_met s) c.args.end)) (sym c.in-Imp.is ∙ c.requires.kept (imp_some c.args.test.step _ c.in-Imp.is)) c.first_unturned.ensures.first
 
 pub first_unlinked-requires-clause-lawful : goal.first_unlinked-requires-clause-lawful

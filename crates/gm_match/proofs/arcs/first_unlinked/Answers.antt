@@ -4,13 +4,13 @@ use Rattle.std.proofs.Math.Nat.{le_refl, lt_of_lt_of_le}
 use Rattle.gm_arena.specs.inner.ArenaMap.{alpha}
 use Rattle.gm_model.specs.declared.step.Step.TheVariants.{Exp}
 use Rattle.gm_model.specs.Matches.{IsStepMet}
-use Rattle.gm_match.specs.inner.Outcome.{place_of}
+use Rattle.gm_plan.specs.inner.InArena.{placement_in}
 use Rattle.gm_match.proofs.Leading.{linked, unlinked}
 use Rattle.gm_match.proofs.Stepping.{slot_live}
 use Rattle.gm_match.proofs.arcs.first_unlinked.Goals as goal
 
 pub loop-position-init : goal.loop-position-init
-loop-position-init g c = record { met = below_none (λ p. IsStepMet (alpha c.args.arena.now) (place_of c.args.arena.now c.args.found.now) c.args.node p c.args.label (Exp c.args.other)); cost = omega arith; least = le_refl _ }
+loop-position-init g c = record { met = below_none (λ p. IsStepMet (alpha c.args.arena.now) (placement_in c.args.arena.now c.args.found.now) c.args.node p c.args.label (Exp c.args.other)); cost = omega arith; least = le_refl _ }
 
 pub slot-from-requires-clause-node : goal.slot-from-requires-clause-node
 slot-from-requires-clause-node g c = c.requires.node
@@ -59,7 +59,7 @@ loop-position-preserved g c =
     let p = c.loop-position.position in
     let i = c.loop-position.invariant in
     record {
-      met = below_more (λ q. IsStepMet (alpha m) (place_of m found) node q label (Exp c.args.other)) p i.met (linked m found node p label c.slot-from.result c.slot-to.result c.slot-from.ensures c.requires.map c.requires.lawful (slot_live m found c.requires.live _ _ _ c.slot-from.ensures) c.requires.label c.args.other c.slot-to.ensures (c.leads.ensures.leads.0 c.if-not-leads.false));
+      met = below_more (λ q. IsStepMet (alpha m) (placement_in m found) node q label (Exp c.args.other)) p i.met (linked m found node p label c.slot-from.result c.slot-to.result c.slot-from.ensures c.requires.map c.requires.lawful (slot_live m found c.requires.live _ _ _ c.slot-from.ensures) c.requires.label c.args.other c.slot-to.ensures (c.leads.ensures.leads.0 c.if-not-leads.false));
       cost = omega (arith, i.cost, c.leads.ensures.cost);
       least = omega (arith, i.least, c.leads.ensures.cost);
     }

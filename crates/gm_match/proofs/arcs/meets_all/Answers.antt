@@ -10,7 +10,7 @@ use Rattle.gm_model.specs.Rules.{rule_of}
 use Rattle.gm_model.specs.Structure.{AreGood}
 use Rattle.gm_plan.specs.declared.tested.Test.{Test}
 use Rattle.gm_plan.specs.inner.Tested.{test_of}
-use Rattle.gm_match.specs.inner.Outcome.{place_of}
+use Rattle.gm_plan.specs.inner.InArena.{placement_in}
 use Rattle.gm_match.proofs.TestsMet.{each_met, label_found, node_found, none_broken, tests_cost}
 use Rattle.gm_match.proofs.arcs.meets_all.Goals as goal
 
@@ -49,7 +49,7 @@ loop-test-preserved g c =
     let i = c.loop-test.invariant in
     let at = slice_get-get_or tests c.loop-test.test-index (test_of 0 0 Absent) (omega arith) in
     let item = get_or tests c.loop-test.test-index (test_of 0 0 Absent) in
-    let met : Test → ℕ → Type 0 = λ test n. AreGood (λ p. IsMetAt (as_map c.args.arena.now) (rule_of c.args.plan.now.table) (place_of c.args.arena.now c.args.found.now) test.node p test.label) n in
+    let met : Test → ℕ → Type 0 = λ test n. AreGood (λ p. IsMetAt (as_map c.args.arena.now) (rule_of c.args.plan.now.table) (placement_in c.args.arena.now c.args.found.now) test.node p test.label) n in
     let good = none_broken c.first_broken.result _ _ (sym c.is_some.ensures ∙ c.if-is_some.false) c.first_broken.ensures.first in
     let all = subst (met item) c.positions-positions.ensures.value good in
     record {
