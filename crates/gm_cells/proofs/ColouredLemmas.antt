@@ -12,7 +12,7 @@ use Rattle.gm_arena.specs.inner.Lawful.{IsLawful}
 use Rattle.gm_arena.proofs.MapLemmas.{name_at-is, slot_of_name, name_below}
 use Rattle.gm_cells.specs.inner.Ascending.{IsAscendingOf}
 use Rattle.gm_cells.specs.Cells.{labels_to}
-use Rattle.gm_cells.specs.Colours.{IsFirstDart, HasColoursAt, AreOfFirstColour, LeadsTo}
+use Rattle.gm_cells.specs.Colours.{IsComponentLead, HasColoursAt, AreOfFirstColour, LeadsTo}
 use Rattle.gm_cells.specs.inner.Search.{IsFresh, IsSearched}
 use Rattle.gm_cells.specs.inner.OddStart.{IsOddStart}
 use Rattle.gm_cells.specs.inner.Painted.{colour_in, IsPaintedFrom, HasPaintedLead, IsBeforeOdd, IsOddLead, ArePainted}
@@ -63,7 +63,7 @@ module _ (m : ArenaMap) (lawful : IsLawful m) (gmap : IsGeneralised (as_map m)) 
     lead_of slot d at = (s.led slot (s.done slot d at (name_below m d lawful (lawful.live slot d at)))).1
 
     -- neighbours of a component before the first odd one differ
-    differ : (d slot x i : ℕ) → IsAt m slot x → IsFirstDart (as_map m) d → IsBeforeOdd m found.odd d → IsPaintedFrom m d colours slot → i ≤ m.schema.dim → alpha m i x ≢ x → is_first (alpha m i x) ≢ is_first x
+    differ : (d slot x i : ℕ) → IsAt m slot x → IsComponentLead (as_map m) d → IsBeforeOdd m found.odd d → IsPaintedFrom m d colours slot → i ≤ m.schema.dim → alpha m i x ≢ x → is_first (alpha m i x) ≢ is_first x
     differ d slot x i at first before by low moves =
         let f = s.proper d slot i first before (live_at slot x at) by low in
         let there : IsAt m f.to (alpha m i x) = subst (λ y. IsAt m f.to (alpha m i y)) (name_at-is m slot x at) f.there in
@@ -76,7 +76,7 @@ module _ (m : ArenaMap) (lawful : IsLawful m) (gmap : IsGeneralised (as_map m)) 
         some_same a b e = cc
 
     -- each component before the first odd one has two colours
-    pub colours_before : (d : ℕ) → IsFirstDart (as_map m) d → IsBeforeOdd m found.odd d → HasColoursAt (as_map m) d
+    pub colours_before : (d : ℕ) → IsComponentLead (as_map m) d → IsBeforeOdd m found.odd d → HasColoursAt (as_map m) d
     colours_before d first before = (
       is_first,
       λ x i joined low moves.
@@ -90,7 +90,7 @@ module _ (m : ArenaMap) (lawful : IsLawful m) (gmap : IsGeneralised (as_map m)) 
 
     -- so many components
     pub components_are : HasOrbits (IsDart (as_map m)) (alpha m) (labels_to m.schema.dim) found.count
-    components_are = (s.counted.0, all_of (IsFirstDart (as_map m)) m.next s.counted.0 (λ d first. name_below m d lawful first.live) s.counted.1, s.counted.2)
+    components_are = (s.counted.0, all_of (IsComponentLead (as_map m)) m.next s.counted.0 (λ d first. name_below m d lawful first.live) s.counted.1, s.counted.2)
 
     -- without an odd one, these are the darts of the first colour
     pub first_colour_is : found.odd ≡ None → (first : List ℕ) → IsAscendingOf IsOfFirst m.next first → AreOfFirstColour (as_map m) first
@@ -112,7 +112,7 @@ pub fresh_marks : (m : ArenaMap) (d n : ℕ) → IsFresh m d (replicate n 0)
 fresh_marks m d n slot k labels live leads = zero_at n (2 * slot + k % 2)
 
 -- the search from its least dart finds the odd walk
-pub odd_started : (m : ArenaMap) (from slot n : ℕ) (marks : List ℕ) → IsOddLead m from slot → ((d : ℕ) → IsFirstDart (as_map m) d → d < name_at m slot → HasColoursAt (as_map m) d) → IsSearched m (name_at m slot) (replicate n 0) marks → IsOddStart m slot marks
+pub odd_started : (m : ArenaMap) (from slot n : ℕ) (marks : List ℕ) → IsOddLead m from slot → ((d : ℕ) → IsComponentLead (as_map m) d → d < name_at m slot → HasColoursAt (as_map m) d) → IsSearched m (name_at m slot) (replicate n 0) marks → IsOddStart m slot marks
 odd_started m from slot n marks odd earlier found = record {
   live = odd.live;
   lead = odd.first;

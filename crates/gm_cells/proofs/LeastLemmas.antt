@@ -7,9 +7,10 @@ use Rattle.gm_arena.specs.inner.ArenaAsMap.{as_map}
 use Rattle.gm_arena.specs.inner.ArenaMap.{ArenaMap, IsAt, IsLiveSlot, IsLiveName, name_at, alpha}
 use Rattle.gm_arena.specs.inner.Lawful.{IsLawful}
 use Rattle.gm_arena.proofs.MapLemmas.{name_at-is, IsLiveName-name_at, slot_of_name}
-use Rattle.gm_cells.specs.Colours.{IsLower, IsOddWalk, IsLeastOddWalk, IsFirstOdd}
+use Rattle.gm_cells.specs.Colours.{IsOddWalk, IsLeastOddWalk, IsFirstOdd}
 use Rattle.gm_cells.specs.inner.Search.{mark_of, Leads, IsMarkedBy}
 use Rattle.gm_cells.specs.inner.OddStart.{IsOddStart, IsNearer, IsFirstNearer}
+use Rattle.gm_cells.proofs.LabelOrder.{IsLower, shorter_or_lower}
 use Rattle.gm_cells.proofs.SearchLemmas.{mark_parity}
 use Rattle.gm_cells.proofs.WalkLemmas.{step_back, no_colours}
 
@@ -135,7 +136,7 @@ module _ (m : ArenaMap) (lawful : IsLawful m) (gmap : IsGeneralised (as_map m)) 
     pub ends : mark ≤ 1 → IsLeastOddWalk m.schema.dim (alpha m) (name_at m start) labels
     ends few = record {
       walk = record { odd = (let o = own in let is = o.mark in let par = o.parity in let long = s.long in let some = s.some in omega arith); leads = subst (λ xs. Leads m (name_at m start) xs (name_at m start)) (append-nil labels) (s.on [] home) };
-      least = λ others walk before. elim before [
+      least = λ others walk before. elim (shorter_or_lower others labels before) [
         | inl less ↦ (let most = no_shorter others walk in let long = s.long in let some = s.some in omega arith)
         | inr same ↦ elim (s.least others walk.leads (let e = same.0 in let long = s.long in let some = s.some in omega arith)) [
           | inl ahead ↦ not_both labels others (subst (λ xs. IsLower xs others) (append-nil labels) (ahead [])) same.1

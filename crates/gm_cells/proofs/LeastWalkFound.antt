@@ -1,7 +1,9 @@
 -- Where an odd walk leads back to its start there is a least one: of the walks of each length the least can be found.
 use Rattle.std.proofs.Common.{◌≡◌, ◌≢◌, ℕ, zero, suc, ◌%◌, ◌<◌, ◌≤◌, ◌⊎◌, List, [], ◌∷◌, length, refl, ap, ◌∙◌, subst, inl, inr, arith}
 use Rattle.std.proofs.lemmas.Bool.{cases_eq, cases_lt}
-use Rattle.gm_cells.specs.Colours.{LeadsTo, IsLower, IsBefore, IsOddWalk, IsLeastOddWalk}
+use Rattle.gm_cells.specs.Colours.{LeadsTo, IsOddWalk, IsLeastOddWalk}
+use Rattle.gm_model.specs.Matches.{IsSmallerPath}
+use Rattle.gm_cells.proofs.LabelOrder.{IsLower, shorter_or_lower}
 use Rattle.gm_theory.proofs.ValuesFound.{IsLeast, least_below}
 use Rattle.gm_theory.proofs.ValuesReach.{IsDecided}
 
@@ -104,6 +106,9 @@ module _ (n : ℕ) (alpha : ℕ → ℕ → ℕ) (d : ℕ) where
       go (inr none) = absurd (has_odd labels walk (none (length labels) (omega arith)))
       go (inl (k, b, ((odd, (w, is)), earlier))) = (w, record { walk = record { odd = ap (λ l. l % 2) is.long ∙ odd; leads = is.leads }; least = least })
         where
-          least : (others : List ℕ) → IsOddWalk n alpha d others → IsBefore others w → ⊥
-          least others other (inl shorter) = has_odd others other (earlier (length others) (omega (arith, is.long, shorter)))
-          least others other (inr (same, lower)) = is.least others (same ∙ is.long) other.leads lower
+          by : (others : List ℕ) → IsOddWalk n alpha d others → (length others < length w) ⊎ ((length others ≡ length w) × IsLower others w) → ⊥
+          by others other (inl shorter) = has_odd others other (earlier (length others) (omega (arith, is.long, shorter)))
+          by others other (inr (same, lower)) = is.least others (same ∙ is.long) other.leads lower
+
+          least : (others : List ℕ) → IsOddWalk n alpha d others → IsSmallerPath others w → ⊥
+          least others other smaller = by others other (shorter_or_lower others w smaller)

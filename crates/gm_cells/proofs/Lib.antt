@@ -4,6 +4,7 @@ pub mod CountsFound
 pub mod FreeLemmas
 pub mod InOrder
 pub mod LabelLemmas
+pub mod LabelOrder
 pub mod LeastLemmas
 pub mod LeastWalkFound
 pub mod MaskLemmas

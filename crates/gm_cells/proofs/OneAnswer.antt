@@ -5,9 +5,10 @@ use Rattle.std.proofs.lemmas.Bool.{cases_lt, cases_order, false≢true}
 use Rattle.std.proofs.lemmas.List.{get_or_default}
 use Rattle.gm_model.specs.Maps.{Map, IsDart, IsGeneralised, dimension}
 use Rattle.gm_cells.specs.Cells.{labels_to}
-use Rattle.gm_cells.specs.Colours.{IsFirstDart, IsJoined, AreOfFirstColour, IsFirstOdd, IsOrientation, IsLower}
+use Rattle.gm_cells.specs.Colours.{IsComponentLead, IsJoined, AreOfFirstColour, IsFirstOdd, IsOrientation}
 use Rattle.gm_cells.specs.declared.orientation.Orientation.{Orientation}
 use Rattle.gm_cells.specs.declared.orientation.Orientation.TheVariants.{Two, Odd}
+use Rattle.gm_theory.proofs.LeastPaths.{smaller_or_same}
 use Rattle.gm_walk.proofs.OrbitLemmas.{orbit_join}
 use Rattle.gm_cells.proofs.WalkLemmas.{orbit_walk, orbit_turned, orbit_live, even_odd}
 
@@ -59,7 +60,7 @@ module _ (map : Map) (gmap : IsGeneralised map) where
   turn_round = orbit_turned (dimension map) (IsDart map) map.alpha gmap
 
   -- what no least dart of a component has, no dart has
-  by_lead : (d : ℕ) → IsDart map d → ((e : ℕ) → IsJoined map d e → IsFirstDart map e → ⊥) → ⊥
+  by_lead : (d : ℕ) → IsDart map d → ((e : ℕ) → IsJoined map d e → IsComponentLead map e → ⊥) → ⊥
   by_lead d live none = go (d + 1) d (omega arith) ([], tt, refl)
     where
       go : (bound e : ℕ) → e < bound → IsJoined map d e → ⊥
@@ -110,21 +111,11 @@ module _ (map : Map) (gmap : IsGeneralised map) where
 
   -- ---- odd walks
 
-  same_labels : (a b : List ℕ) → length a ≡ length b → (IsLower a b → ⊥) → (IsLower b a → ⊥) → a ≡ b
-  same_labels [] [] e h k = refl
-  same_labels [] (j ∷ b) e h k = absurd (omega arith)
-  same_labels (i ∷ a) [] e h k = absurd (omega arith)
-  same_labels (i ∷ a) (j ∷ b) e h k = elim (cases_order i j) [
-    | inl same ↦ (let rest : a ≡ b = same_labels a b (omega arith) (λ l. h (inr (same, l))) (λ l. k (inr (sym same, l))) in cc)
-    | inr (inl less) ↦ absurd (h (inl less))
-    | inr (inr more) ↦ absurd (k (inl more))
-  ]
-
   one_walk : (start : ℕ) (a b : List ℕ) → IsFirstOdd map start a → IsFirstOdd map start b → a ≡ b
-  one_walk start a b x y = elim (cases_order (length a) (length b)) [
-    | inl e ↦ same_labels a b e (λ l. (let w = y.walk in let v = x.walk in w.least a v.walk (inr (e, l)))) (λ l. (let w = x.walk in let v = y.walk in w.least b v.walk (inr (sym e, l))))
-    | inr (inl less) ↦ absurd (let w = y.walk in let v = x.walk in w.least a v.walk (inl less))
-    | inr (inr more) ↦ absurd (let w = x.walk in let v = y.walk in w.least b v.walk (inl more))
+  one_walk start a b x y = elim (smaller_or_same a b) [
+    | inl e ↦ e
+    | inr (inl less) ↦ absurd (let w = y.walk in let v = x.walk in w.least a v.walk less)
+    | inr (inr more) ↦ absurd (let w = x.walk in let v = y.walk in w.least b v.walk more)
   ]
 
   one_start : (start other : ℕ) (a b : List ℕ) → IsFirstOdd map start a → IsFirstOdd map other b → start ≡ other

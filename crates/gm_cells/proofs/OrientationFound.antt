@@ -6,7 +6,7 @@ use Rattle.gm_model.specs.Maps.{Map, IsDart, IsGeneralised, dimension}
 use Rattle.gm_cells.specs.declared.orientation.Orientation.{Orientation}
 use Rattle.gm_cells.specs.declared.orientation.Orientation.TheVariants.{Two, Odd}
 use Rattle.gm_cells.specs.Cells.{labels_to}
-use Rattle.gm_cells.specs.Colours.{IsTwoColouring, IsFirstDart, IsJoined, HasColoursAt, IsOddWalk, IsLeastOddWalk, IsOrientation}
+use Rattle.gm_cells.specs.Colours.{IsTwoColouring, IsComponentLead, IsJoined, HasColoursAt, IsOddWalk, IsLeastOddWalk, IsOrientation}
 use Rattle.gm_theory.proofs.ValuesFound.{IsLeast, least_below}
 use Rattle.gm_theory.proofs.ValuesReach.{IsDecided}
 use Rattle.gm_walk.proofs.OrbitLemmas.{orbit_join}
@@ -114,16 +114,16 @@ module _ (map : Map) (below : (d : ℕ) → IsDart map d → d < map.next) (gmap
   -- ---- the first component with an odd walk
 
   abbrev IsOddLead : ℕ → Type 0
-  IsOddLead d = IsFirstDart map d × HasOddWalkAt d
+  IsOddLead d = IsComponentLead map d × HasOddWalkAt d
 
   decide_odd_lead : (d : ℕ) → IsDecided (IsOddLead d)
   decide_odd_lead d = go (decide_lead map below gmap (labels_to (dimension map)) low_labels d)
     where
-      by : IsFirstDart map d → HasColoursAt map d ⊎ HasOddWalkAt d → IsDecided (IsOddLead d)
+      by : IsComponentLead map d → HasColoursAt map d ⊎ HasOddWalkAt d → IsDecided (IsOddLead d)
       by lead (inl colours) = inr (λ h. no_colours (dimension map) (IsDart map) map.alpha gmap d h.1.0 colours.0 h.1.1 colours.1)
       by lead (inr odd) = inl (lead, odd)
 
-      go : IsDecided (IsFirstDart map d) → IsDecided (IsOddLead d)
+      go : IsDecided (IsComponentLead map d) → IsDecided (IsOddLead d)
       go (inl lead) = by lead (colours_or_odd d lead.live)
       go (inr none) = inr (λ h. none h.0)
 
@@ -141,16 +141,16 @@ module _ (map : Map) (below : (d : ℕ) → IsDart map d → d < map.next) (gmap
       least : (shortest : List ℕ) × IsLeastOddWalk (dimension map) map.alpha d shortest
       least = least_odd_walk (dimension map) map.alpha d labels walk
 
-      by : (e : ℕ) → IsFirstDart map e → e < d → HasColoursAt map e ⊎ HasOddWalkAt e → HasColoursAt map e
+      by : (e : ℕ) → IsComponentLead map e → e < d → HasColoursAt map e ⊎ HasOddWalkAt e → HasColoursAt map e
       by e other less (inl colours) = colours
       by e other less (inr odd) = absurd (before e less (other, odd))
 
   -- ---- the least dart of a component
 
-  lead_of : (d : ℕ) → IsDart map d → (e : ℕ) × IsJoined map d e × IsFirstDart map e
+  lead_of : (d : ℕ) → IsDart map d → (e : ℕ) × IsJoined map d e × IsComponentLead map e
   lead_of d live = go (least_below (IsJoined map d) (λ e. decide_in d e live) (suc d))
     where
-      go : ((e : ℕ) × (e < suc d) × IsLeast (IsJoined map d) e) ⊎ ((e : ℕ) → e < suc d → IsJoined map d e → ⊥) → (e : ℕ) × IsJoined map d e × IsFirstDart map e
+      go : ((e : ℕ) × (e < suc d) × IsLeast (IsJoined map d) e) ⊎ ((e : ℕ) → e < suc d → IsJoined map d e → ⊥) → (e : ℕ) × IsJoined map d e × IsComponentLead map e
       go (inr none) = absurd (none d (omega arith) ([], tt, refl))
       go (inl (e, b, (joined, before))) = (e, joined, record { live = lives d e live joined; least = λ f on other. by f on (cases_lt f e) })
         where
@@ -158,7 +158,7 @@ module _ (map : Map) (below : (d : ℕ) → IsDart map d → d < map.next) (gmap
           by f on (inl less) = absurd (before f less (joins d e f joined on))
           by f on (inr more) = more
 
-  one_lead : (d e f : ℕ) → IsDart map d → IsJoined map d e → IsFirstDart map e → IsJoined map d f → IsFirstDart map f → e ≡ f
+  one_lead : (d e f : ℕ) → IsDart map d → IsJoined map d e → IsComponentLead map e → IsJoined map d f → IsComponentLead map f → e ≡ f
   one_lead d e f live to_e first to_f other =
       let up : e ≤ f = first.least f (joins e d f (turns d e live to_e) to_f) other.live in
       let down : f ≤ e = other.least e (joins f d e (turns d f live to_f) to_e) first.live in
@@ -175,7 +175,7 @@ module _ (map : Map) (below : (d : ℕ) → IsDart map d → d < map.next) (gmap
     first_of : ℕ → Bool
     first_of d = colour_by d (decide_dart map below gmap d)
 
-    told : (d e : ℕ) → IsDart map d → IsJoined map d e → IsFirstDart map e → first_of d ≡ is_same (colour d) (colour e)
+    told : (d e : ℕ) → IsDart map d → IsJoined map d e → IsComponentLead map e → first_of d ≡ is_same (colour d) (colour e)
     unfolding first_of colour_by
     told d e live joined lead = go (decide_dart map below gmap d)
       where
@@ -191,7 +191,7 @@ module _ (map : Map) (below : (d : ℕ) → IsDart map d → d < map.next) (gmap
         let there_is = told (map.alpha i d) own.0 there (joins (map.alpha i d) d own.0 (turns d (map.alpha i d) live (steps_to d i low)) own.1) own.2 in
         same_apart (colour (map.alpha i d)) (colour d) (colour own.0) (two d i live low moves) (sym there_is ∙ same ∙ here_is)
 
-    of_leads : (d : ℕ) → IsFirstDart map d → first_of d ≡ true
+    of_leads : (d : ℕ) → IsComponentLead map d → first_of d ≡ true
     of_leads d lead = told d d lead.live ([], tt, refl) lead ∙ same_self (colour d)
 
     abbrev IsOne : ℕ → Type 0

@@ -12,7 +12,7 @@ use Rattle.gm_arena.specs.declared.slot.Slot.{Slot}
 use Rattle.gm_arena.proofs.MapLemmas.{IsAt-name_at, name_at-is, IsLiveName-name_at, slot_of_name}
 use Rattle.gm_walk.proofs.OrbitLemmas.{orbit_join}
 use Rattle.gm_cells.specs.Cells.{labels_to}
-use Rattle.gm_cells.specs.Colours.{IsFirstDart}
+use Rattle.gm_cells.specs.Colours.{IsComponentLead}
 use Rattle.gm_cells.specs.inner.Search.{Leads}
 use Rattle.gm_cells.specs.inner.Painted.{colour_in, IsPaintedFrom, IsFollowed, HasOddWalk, IsUnpainted, IsPainted, IsBeforeOdd, IsOddOrNone, ArePainted}
 use Rattle.gm_cells.specs.declared.components.Components.{Components}
@@ -40,14 +40,14 @@ module _ (m : ArenaMap) (lawful : IsLawful m) (gmap : IsGeneralised (as_map m)) 
     own = λ slot d at first less. absurd (omega (arith, less));
     followed = λ slot i some. absurd (some (zero_at n slot));
     proper = λ d slot i first before live by. absurd (painted_some m d (replicate n 0) slot by (zero_at n slot));
-    counted = ([], none_below (IsFirstDart (as_map m)), refl);
+    counted = ([], none_below (IsComponentLead (as_map m)), refl);
     odd = tt;
   }
 
   -- ---- darts of one component
 
   -- the first dart of a component is one
-  pub one_lead : (d e x : ℕ) (w v : List ℕ) → IsLiveName m x → IsFirstDart (as_map m) d → IsFirstDart (as_map m) e → Leads m d w x → Leads m e v x → d ≡ e
+  pub one_lead : (d e x : ℕ) (w v : List ℕ) → IsLiveName m x → IsComponentLead (as_map m) d → IsComponentLead (as_map m) e → Leads m d w x → Leads m e v x → d ≡ e
   one_lead d e x w v live first other leads on =
       let to_d = walk_orbit m.schema.dim (IsLiveName m) (alpha m) gmap d w x leads in
       let to_e = walk_orbit m.schema.dim (IsLiveName m) (alpha m) gmap e v x on in
@@ -80,7 +80,7 @@ module _ (m : ArenaMap) (lawful : IsLawful m) (gmap : IsGeneralised (as_map m)) 
 
       -- it has a colour, and so is no first dart
       module _ (some : colour_in colours slot ≢ 0) where
-        no_first : IsFirstDart (as_map m) name → ⊥
+        no_first : IsComponentLead (as_map m) name → ⊥
         no_first lead =
             let old = (s.led slot some).1 in
             let by = old.by in
@@ -96,11 +96,11 @@ module _ (m : ArenaMap) (lawful : IsLawful m) (gmap : IsGeneralised (as_map m)) 
           led = λ other h. (let old = s.led other h in (old.0, record { lead = old.1.lead; first = old.1.first; below = omega (arith, old.1.below, up); by = old.1.by }));
           own = λ other d there lead less. elim (earlier_or_this m from slot name at first d (lawful.live other d there) less) [
             | inl l ↦ s.own other d there lead l
-            | inr e ↦ absurd (no_first (subst (IsFirstDart (as_map m)) e lead))
+            | inr e ↦ absurd (no_first (subst (IsComponentLead (as_map m)) e lead))
           ];
           followed = s.followed;
           proper = s.proper;
-          counted = (s.counted.0, next_not (IsFirstDart (as_map m)) from name s.counted.0 up (λ d low high lead. none_between m from slot name at first d low high lead.live) no_first s.counted.1, s.counted.2);
+          counted = (s.counted.0, next_not (IsComponentLead (as_map m)) from name s.counted.0 up (λ d low high lead. none_between m from slot name at first d low high lead.live) no_first s.counted.1, s.counted.2);
           odd = odd_later found.odd s.odd;
         }
 
@@ -112,7 +112,7 @@ module _ (m : ArenaMap) (lawful : IsLawful m) (gmap : IsGeneralised (as_map m)) 
           | inr some ↦ absurd (spread w other name slot live some leads at none)
         ]
 
-        lead_here : IsFirstDart (as_map m) name
+        lead_here : IsComponentLead (as_map m) name
         lead_here = record {
           live = lawful.live slot name at;
           least = λ e joined live. elim (cases_lt e name) [
@@ -145,7 +145,7 @@ module _ (m : ArenaMap) (lawful : IsLawful m) (gmap : IsGeneralised (as_map m)) 
           odd_now false (Some t) e e' old = subst (IsOddOrNone m (name + 1)) (sym (kept (rw e' refl) ∙ e')) (odd_later (Some t) old)
           odd_now false None e e' old = subst (IsOddOrNone m (name + 1)) (sym (new_odd e' e)) (record {
             live = rw here_is (live_at slot name at);
-            first = subst (IsFirstDart (as_map m)) (sym here_name) lead_here;
+            first = subst (IsComponentLead (as_map m)) (sym here_name) lead_here;
             below = omega (arith, here_name);
             walk = subst (HasOddWalk m) (sym here_name) (p.clash e);
           })
@@ -180,7 +180,7 @@ module _ (m : ArenaMap) (lawful : IsLawful m) (gmap : IsGeneralised (as_map m)) 
                   subst (λ f. IsFollowed m new f other i) fit (p.followed other i fresh some low)
               | inr old ↦ followed_kept m colours new p.kept true other i old (s.proper d other i first (before_then d found.odd odd refl refl before) live (was_painted d other old by) low)
             ];
-            counted = (s.counted.0 ++ name ∷ [], next_has (IsFirstDart (as_map m)) from name s.counted.0 up (λ d low high lead. none_between m from slot name at first d low high lead.live) lead_here s.counted.1, length_push s.counted.0 name ∙ ap (λ n. n + 1) s.counted.2);
+            counted = (s.counted.0 ++ name ∷ [], next_has (IsComponentLead (as_map m)) from name s.counted.0 up (λ d low high lead. none_between m from slot name at first d low high lead.live) lead_here s.counted.1, length_push s.counted.0 name ∙ ap (λ n. n + 1) s.counted.2);
             odd = odd_now fits found.odd refl refl s.odd;
           }
 
@@ -193,7 +193,7 @@ module _ (m : ArenaMap) (lawful : IsLawful m) (gmap : IsGeneralised (as_map m)) 
       own = λ slot d at lead less. s.own slot d at lead (below_all m from none d lead.live);
       followed = s.followed;
       proper = s.proper;
-      counted = (s.counted.0, gap (IsFirstDart (as_map m)) from next s.counted.0 more (λ d low high lead. false≢true (sym (ap is_some (none d low)) ∙ lead.live)) s.counted.1, s.counted.2);
+      counted = (s.counted.0, gap (IsComponentLead (as_map m)) from next s.counted.0 more (λ d low high lead. false≢true (sym (ap is_some (none d low)) ∙ lead.live)) s.counted.1, s.counted.2);
       odd = odd_further found.odd s.odd;
     }
       where

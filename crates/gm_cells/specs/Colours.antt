@@ -1,6 +1,7 @@
 -- When a map can be oriented: two colours for its darts, and the odd walks that forbid them.
-use Rattle.std.specs.Prelude.{◌≡◌, ◌≢◌, ℕ, ◌%◌, ◌<◌, ◌≤◌, ◌⊎◌, ◌↔◌, Bool, true, List, [], ◌∷◌, length, slice_index}
+use Rattle.std.specs.Prelude.{◌≡◌, ◌≢◌, ℕ, ◌%◌, ◌<◌, ◌≤◌, ◌↔◌, Bool, true, List, [], ◌∷◌, length, slice_index}
 use Rattle.std.specs.List.{Contains}
+use Rattle.gm_model.specs.Matches.{IsSmallerPath}
 use Rattle.gm_model.specs.Maps.{Map, IsDart, dimension}
 use Rattle.gm_model.specs.Orbits.{IsInOrbit, IsLead}
 use Rattle.gm_cells.specs.declared.orientation.Orientation.{Orientation}
@@ -13,9 +14,9 @@ use Rattle.gm_cells.specs.Cells.{labels_to}
 abbrev pub IsTwoColouring : ℕ → (ℕ → ℕ → ℕ) → (ℕ → Type 0) → (ℕ → Bool) → Type 0
 IsTwoColouring n alpha IsOne colour = (d i : ℕ) → IsOne d → i ≤ n → alpha i d ≢ d → colour (alpha i d) ≢ colour d
 
--- d is the least dart of its component
-abbrev pub IsFirstDart : Map → ℕ → Type 0
-IsFirstDart map d = IsLead (IsDart map) map.alpha (labels_to (dimension map)) d
+-- d is the lead of its component
+abbrev pub IsComponentLead : Map → ℕ → Type 0
+IsComponentLead map d = IsLead (IsDart map) map.alpha (labels_to (dimension map)) d
 
 -- a dart of d's component
 abbrev pub IsJoined : Map → ℕ → ℕ → Type 0
@@ -29,7 +30,7 @@ HasColoursAt map d = (colour : ℕ → Bool) × IsTwoColouring (dimension map) m
 pub record AreOfFirstColour (map : Map) (first : List ℕ) : Type 0 where
   pub colour : ℕ → Bool
   pub two : IsTwoColouring (dimension map) map.alpha (IsDart map) colour
-  pub leads : (d : ℕ) → IsFirstDart map d → colour d ≡ true
+  pub leads : (d : ℕ) → IsComponentLead map d → colour d ≡ true
   pub listed : (d : ℕ) → Contains first d ↔ (IsDart map d × (colour d ≡ true))
   pub ascending : (p q : ℕ) → p < q → q < length first → slice_index first p < slice_index first q
 
@@ -45,27 +46,17 @@ pub record IsOddWalk (n : ℕ) (alpha : ℕ → ℕ → ℕ) (d : ℕ) (labels :
   pub odd : length labels % 2 ≡ 1
   pub leads : LeadsTo n alpha d labels d
 
--- the first label that differs is less
-abbrev pub IsLower : List ℕ → List ℕ → Type 0
-IsLower [] others = ⊥
-IsLower (i ∷ labels) [] = ⊥
-IsLower (i ∷ labels) (j ∷ others) = (i < j) ⊎ ((i ≡ j) × IsLower labels others)
-
--- shorter ones first, then by the labels in order
-abbrev pub IsBefore : List ℕ → List ℕ → Type 0
-IsBefore labels others = (length labels < length others) ⊎ ((length labels ≡ length others) × IsLower labels others)
-
 pub record IsLeastOddWalk (n : ℕ) (alpha : ℕ → ℕ → ℕ) (d : ℕ) (labels : List ℕ) : Type 0 where
   pub walk : IsOddWalk n alpha d labels
-  pub least : (others : List ℕ) → IsOddWalk n alpha d others → IsBefore others labels → ⊥
+  pub least : (others : List ℕ) → IsOddWalk n alpha d others → IsSmallerPath others labels → ⊥
 
 -- ---- the answer
 
 -- the first component, by least darts, that has no two colours, and what shows it
 pub record IsFirstOdd (map : Map) (start : ℕ) (labels : List ℕ) : Type 0 where
-  pub lead : IsFirstDart map start
+  pub lead : IsComponentLead map start
   pub none : HasColoursAt map start → ⊥
-  pub earlier : (d : ℕ) → IsFirstDart map d → d < start → HasColoursAt map d
+  pub earlier : (d : ℕ) → IsComponentLead map d → d < start → HasColoursAt map d
   pub walk : IsLeastOddWalk (dimension map) map.alpha start labels
 
 abbrev pub IsOrientation : Map → Orientation → Type 0

@@ -3,7 +3,7 @@
 ghost use Rattle.std.specs.Prelude.{◌≡◌, ℕ, ◌*◌, ◌<◌, ◌≤◌, length, replicate, None, IfOk};
 ghost use Rattle.gm_arena.specs.inner.ArenaAsMap.{as_map};
 ghost use Rattle.gm_arena.specs.inner.ArenaMap.{name_at};
-ghost use Rattle.gm_cells.specs.Colours.{AreOfFirstColour, HasColoursAt, IsFirstDart, IsOrientation};
+ghost use Rattle.gm_cells.specs.Colours.{AreOfFirstColour, HasColoursAt, IsComponentLead, IsOrientation};
 ghost use Rattle.gm_cells.specs.inner.Painted.{ArePainted, IsOddLead};
 ghost use Rattle.gm_model.specs.Maps.{IsGeneralised};
 
@@ -97,7 +97,7 @@ fn odd_by<L: Ledger>(
 ) -> Result<Orientation, OutOfMemory>
     requires generalised { IsGeneralised (as_map arena.now) }
     requires odd { IsOddLead arena.now arena.now.next slot.at }
-    requires earlier { (d : ℕ) → IsFirstDart (as_map arena.now) d → d < name_at arena.now slot.at → HasColoursAt (as_map arena.now) d }
+    requires earlier { (d : ℕ) → IsComponentLead (as_map arena.now) d → d < name_at arena.now slot.at → HasColoursAt (as_map arena.now) d }
     requires marks { marks.old ≡ replicate (2 * arena.now.bound) 0 }
     requires few { arena.now.bound ≤ 1073741824 }
     ensures orientation { IfOk result (IsOrientation (as_map arena.now)) }

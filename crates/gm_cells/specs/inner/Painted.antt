@@ -5,7 +5,7 @@ use Rattle.gm_arena.specs.inner.ArenaAsMap.{as_map}
 use Rattle.gm_arena.specs.inner.ArenaMap.{ArenaMap, IsAt, IsLiveSlot, name_at, alpha}
 use Rattle.gm_arena.specs.declared.slot.Slot.{Slot}
 use Rattle.gm_model.specs.Orbits.{IsPairBefore}
-use Rattle.gm_cells.specs.Colours.{IsFirstDart, IsOddWalk}
+use Rattle.gm_cells.specs.Colours.{IsComponentLead, IsOddWalk}
 use Rattle.gm_cells.specs.inner.Ascending.{IsAscendingOf}
 use Rattle.gm_cells.specs.inner.Search.{Leads}
 use Rattle.gm_cells.specs.declared.components.Components.{Components}
@@ -80,7 +80,7 @@ pub record IsPainting (m : ArenaMap) (d : ℕ) (old : List ℕ) (at label : ℕ)
 -- a walk from the slot to the least dart of its component, which lies below the number
 pub record HasPaintedLead (m : ArenaMap) (from : ℕ) (colours : List ℕ) (slot : ℕ) : Type 0 where
   pub lead : ℕ
-  pub first : IsFirstDart (as_map m) lead
+  pub first : IsComponentLead (as_map m) lead
   pub below : lead < from
   pub by : IsPaintedFrom m lead colours slot
 
@@ -92,7 +92,7 @@ IsBeforeOdd m (Some slot) d = d < name_at m slot.at
 -- the dart at the slot, if there is one, is the least of its component, lies below the number and has an odd walk
 pub record IsOddLead (m : ArenaMap) (from slot : ℕ) : Type 0 where
   pub live : IsLiveSlot m slot
-  pub first : IsFirstDart (as_map m) (name_at m slot)
+  pub first : IsComponentLead (as_map m) (name_at m slot)
   pub below : name_at m slot < from
   pub walk : HasOddWalk m (name_at m slot)
 
@@ -104,8 +104,8 @@ IsOddOrNone m from (Some slot) = IsOddLead m from slot.at
 pub record ArePainted (m : ArenaMap) (from : ℕ) (colours : List ℕ) (found : Components) : Type 0 where
   pub done : (slot d : ℕ) → IsAt m slot d → d < from → colour_in colours slot ≢ 0
   pub led : (slot : ℕ) → colour_in colours slot ≢ 0 → IsLiveSlot m slot × HasPaintedLead m from colours slot
-  pub own : (slot d : ℕ) → IsAt m slot d → IsFirstDart (as_map m) d → d < from → colour_in colours slot ≡ 1
+  pub own : (slot d : ℕ) → IsAt m slot d → IsComponentLead (as_map m) d → d < from → colour_in colours slot ≡ 1
   pub followed : (slot i : ℕ) → colour_in colours slot ≢ 0 → i ≤ m.schema.dim → IsFollowed m colours false slot i
-  pub proper : (d slot i : ℕ) → IsFirstDart (as_map m) d → IsBeforeOdd m found.odd d → IsLiveSlot m slot → IsPaintedFrom m d colours slot → i ≤ m.schema.dim → IsFollowed m colours true slot i
-  pub counted : (leads : List ℕ) × IsAscendingOf (IsFirstDart (as_map m)) from leads × (length leads ≡ found.count)
+  pub proper : (d slot i : ℕ) → IsComponentLead (as_map m) d → IsBeforeOdd m found.odd d → IsLiveSlot m slot → IsPaintedFrom m d colours slot → i ≤ m.schema.dim → IsFollowed m colours true slot i
+  pub counted : (leads : List ℕ) × IsAscendingOf (IsComponentLead (as_map m)) from leads × (length leads ≡ found.count)
   pub odd : IsOddOrNone m from found.odd
