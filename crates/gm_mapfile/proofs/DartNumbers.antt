@@ -10,7 +10,8 @@ use Rattle.gm_model.specs.declared.value.Value.TheVariants as values
 use Rattle.gm_model.specs.Expressions.{IsMade, components}
 use Rattle.gm_model.specs.Values.{kind_of}
 use Rattle.gm_text.specs.ValueText.{Signed, integer}
-use Rattle.gm_mapfile.specs.MapText.{DartForm, DartRow, width, AreWide, IsShaped, AreMade, IsRow, AreRows}
+use Rattle.gm_mapfile.specs.MapText.{DartForm, DartRow, width, IsShaped, AreMade, IsRow}
+use Rattle.gm_mapfile.proofs.Zipped.{AreWide, AreRows}
 use Rattle.gm_mapfile.proofs.MapLed.{form_numbers, all_form_numbers}
 
 -- two lists that begin alike far

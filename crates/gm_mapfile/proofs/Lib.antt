@@ -55,3 +55,4 @@ pub mod Sorting
 pub mod LawsFound
 pub mod RowsFound
 pub mod MapAtLeast
+pub mod Zipped

@@ -20,7 +20,8 @@ use Rattle.gm_text.specs.ValueText.{Signed}
 use Rattle.gm_text.proofs.Lexemes.{IsSound, words_are_lexemes}
 use Rattle.gm_text.proofs.SchemaSound.{nothing_passed, form_sound, form_parts, dim_read}
 use Rattle.gm_arena.specs.inner.Lawful.{AreGoodValues}
-use Rattle.gm_mapfile.specs.MapText.{Version, DartForm, DartRow, Role, InSchema, spell_next, spell_listing, embeds_of, spelling, IsShaped, AreMade, AreRows, IsListed}
+use Rattle.gm_mapfile.specs.MapText.{Version, DartForm, DartRow, Role, InSchema, spell_next, spell_listing, embeds_of, spelling, IsShaped, AreMade, IsListed}
+use Rattle.gm_mapfile.proofs.Zipped.{AreRows}
 use Rattle.gm_mapfile.specs.MapReading.{AreOfKinds, IsWhole}
 use Rattle.gm_mapfile.proofs.GoodListing.{IsSmall, IsStatedSmall, IsGoodListing}
 use Rattle.gm_mapfile.proofs.FormWithin.{form_good}

@@ -10,7 +10,8 @@ use Rattle.gm_model.specs.Reading.{Part, sign}
 use Rattle.gm_text.specs.inner.Machine.{Leads}
 use Rattle.gm_text.specs.inner.Nested as nested
 use Rattle.gm_text.specs.ValueText.{Signed, integer, spell_signed, signed}
-use Rattle.gm_mapfile.specs.MapText.{DartForm, Role, Fixed, DartName, passed_of, width, size_role, spell_names, spell_components, spell_value, spell_values, spell_dart, spell_darts, AreWide, IsShaped}
+use Rattle.gm_mapfile.specs.MapText.{DartForm, Role, Fixed, DartName, passed_of, width, size_role, spell_components, spell_value, spell_values, spell_dart, spell_darts, IsShaped}
+use Rattle.gm_mapfile.proofs.Zipped.{spell_names, AreWide}
 use Rattle.gm_mapfile.specs.MapReading.{Want, TheNumber, Component, TheSign, value_wants, values_wants, dart_wants, darts_wants, Head, Whole, number_in, nesting, never, among}
 use Rattle.gm_mapfile.proofs.MapMoves.{sign_moves}
 

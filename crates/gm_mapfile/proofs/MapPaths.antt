@@ -9,7 +9,8 @@ use Rattle.gm_model.specs.Symbols.{Symbol, Word, Numeral, Sign, End}
 use Rattle.gm_model.specs.Reading.{Part, word, number, sign, the_end}
 use Rattle.gm_text.specs.inner.Nested.{Outside}
 use Rattle.gm_text.specs.ValueText.{Signed, spell_signed}
-use Rattle.gm_mapfile.specs.MapText.{DartForm, Role, Fixed, DartName, Count, width, size_role, spell_names, spell_components, spell_value, spell_values, spell_dart, spell_darts, spell_listing, AreWide, IsShaped}
+use Rattle.gm_mapfile.specs.MapText.{DartForm, Role, Fixed, DartName, Count, width, size_role, spell_components, spell_value, spell_values, spell_dart, spell_darts, spell_listing, IsShaped}
+use Rattle.gm_mapfile.proofs.Zipped.{spell_names, AreWide}
 use Rattle.gm_mapfile.specs.MapReading.{Want, TheNumber, Component, TheSign, value_wants, values_wants, dart_wants, darts_wants, Head, AtDarts, AtCount, Done, Whole, number_in, among}
 use Rattle.gm_mapfile.proofs.MapMoves.{end_moved, number_moved, component_moved, AtNumber, AtMinus, sign_moved, darts_moved, count_moved}
 use Rattle.gm_mapfile.proofs.MapLed.{Led}

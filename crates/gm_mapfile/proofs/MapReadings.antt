@@ -15,7 +15,8 @@ use Rattle.gm_text.specs.declared.schema_fault.SchemaFault.{SchemaFault}
 use Rattle.gm_text.specs.declared.schema_fault.SchemaFault.TheVariants as faults
 use Rattle.gm_text.proofs.Machine.{run_reads, run_ends, run_passes, along_leads, along_spelled, ended_is, passing_is}
 use Rattle.gm_mapfile.specs.inner.Draft.{version_in, IsDraft, IsFaultIn}
-use Rattle.gm_mapfile.specs.MapText.{Role, Fixed, passed_of, spelling, IsSentence, IsListed, AreRows}
+use Rattle.gm_mapfile.specs.MapText.{Role, Fixed, passed_of, spelling, IsSentence, IsListed}
+use Rattle.gm_mapfile.proofs.Zipped.{AreRows}
 use Rattle.gm_mapfile.specs.MapReading.{Head, Done, Whole, nesting, never, start, run_from, Stops, among, all_numbers, IsWhole, ReadsMap}
 use Rattle.gm_mapfile.proofs.MapLed.{Led, all_form_numbers}
 use Rattle.gm_mapfile.proofs.MapGrammar.{head_of, map_grammar}

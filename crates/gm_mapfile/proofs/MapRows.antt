@@ -11,7 +11,8 @@ use Rattle.gm_model.specs.Expressions.{IsMade, components}
 use Rattle.gm_model.specs.Values.{kind_of}
 use Rattle.gm_text.specs.SchemaText.{EmbedForm, embed_of, IsEmbed}
 use Rattle.gm_text.specs.ValueText.{Signed, integer}
-use Rattle.gm_mapfile.specs.MapText.{DartForm, DartRow, width, is_colour, AreWide, IsShaped, AreMade, IsRow, AreRows}
+use Rattle.gm_mapfile.specs.MapText.{DartForm, DartRow, width, is_colour, IsShaped, AreMade, IsRow}
+use Rattle.gm_mapfile.proofs.Zipped.{AreWide, AreRows}
 use Rattle.gm_mapfile.specs.MapReading.{numbers_in, all_numbers, IsWhole}
 use Rattle.gm_mapfile.proofs.MapLed.{form_numbers, all_form_numbers}
 use Rattle.gm_mapfile.proofs.DartNumbers.{cut, same_names, wide_components}

@@ -9,7 +9,8 @@ use Rattle.gm_model.specs.Reading.{Part, symbols_in, word, number, sign, the_end
 use Rattle.gm_text.specs.inner.Nested as nested
 use Rattle.gm_text.specs.SchemaText as text
 use Rattle.gm_text.specs.ValueText.{Signed, spell_signed}
-use Rattle.gm_mapfile.specs.MapText.{DartForm, Version, First, Second, MapForm, Role, Fixed, InSchema, Count, DartName, size_role, spell_names, spell_components, spell_value, spell_values, spell_dart, spell_darts, spell_next, number_of, embeds_of, spelling, IsForm}
+use Rattle.gm_mapfile.specs.MapText.{DartForm, Version, First, Second, MapForm, Role, Fixed, InSchema, Count, DartName, size_role, spell_components, spell_value, spell_values, spell_dart, spell_darts, spell_next, number_of, embeds_of, spelling, IsForm}
+use Rattle.gm_mapfile.proofs.Zipped.{spell_names}
 use Rattle.gm_mapfile.specs.MapReading.{Head, Whole, nesting, start, among}
 use Rattle.gm_mapfile.proofs.MapLed.{Led, all_form_numbers}
 use Rattle.gm_mapfile.proofs.MapGrammar.{head_of, spell_listing_to, spell_to, led_map}

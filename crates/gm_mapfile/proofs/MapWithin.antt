@@ -18,7 +18,8 @@ use Rattle.gm_model.specs.Symbols.{Numeral}
 use Rattle.gm_model.specs.Values.{kind_of, IsInValueRange}
 use Rattle.gm_text.specs.SchemaText.{LimitOf}
 use Rattle.gm_text.specs.ValueText.{Signed, integer, greatest, is_channel, spell_signed, signed}
-use Rattle.gm_mapfile.specs.MapText.{DartForm, Role, Fixed, DartName, passed_of, is_colour, size_role, spell_names, spell_components, spell_value, spell_values, spell_darts, IsSentence}
+use Rattle.gm_mapfile.specs.MapText.{DartForm, Role, Fixed, DartName, passed_of, is_colour, size_role, spell_components, spell_value, spell_values, spell_darts, IsSentence}
+use Rattle.gm_mapfile.proofs.Zipped.{spell_names}
 
 abbrev pub AreWithin : List (Part Role) → Type 0
 AreWithin parts = IsWithin IsSentence passed_of parts

@@ -2,7 +2,8 @@
 use Rattle.std.proofs.Common.{◌≡◌, ℕ, List, sym, ap, subst, ◌∙◌}
 use Rattle.std.specs.List.{AllByRecursion}
 use Rattle.gm_model.specs.declared.schema.Schema.{Schema}
-use Rattle.gm_mapfile.specs.MapText.{Version, DartRow, IsShaped, AreRows, IsListed}
+use Rattle.gm_mapfile.specs.MapText.{Version, DartRow, IsShaped, IsListed}
+use Rattle.gm_mapfile.proofs.Zipped.{AreRows}
 use Rattle.gm_mapfile.specs.MapReading.{Head}
 use Rattle.gm_mapfile.proofs.DartNumbers.{same_darts}
 use Rattle.gm_mapfile.proofs.MapStates.{same_forms}

@@ -18,7 +18,8 @@ use Rattle.gm_model.specs.Symbols.{Numeral}
 use Rattle.gm_model.specs.Values.{kind_of, IsInValueRange}
 use Rattle.gm_text.specs.ValueText.{integer, greatest, spell_signed}
 use Rattle.gm_arena.specs.inner.Lawful.{AreGoodValues}
-use Rattle.gm_mapfile.specs.MapText.{Role, Fixed, NextName, Count, DartName, Size, Channel, size_role, passed_of, width, spell_names, spell_value, spell_values, spell_darts, spell_listing, spell_next, AreWide, IsShaped, IsSentence, DartRow, AreMade, AreRows}
+use Rattle.gm_mapfile.specs.MapText.{Role, Fixed, NextName, Count, DartName, Size, Channel, size_role, passed_of, width, spell_value, spell_values, spell_darts, spell_listing, spell_next, IsShaped, IsSentence, DartRow, AreMade}
+use Rattle.gm_mapfile.proofs.Zipped.{spell_names, AreWide, AreRows}
 use Rattle.gm_mapfile.specs.declared.version.MapVersion.{MapVersion}
 use Rattle.gm_mapfile.specs.declared.version.MapVersion.TheVariants as versions
 use Rattle.gm_mapfile.proofs.Spelled.{signed_of, parts_of, dart_form, written_in, AreFitting, IsFitting}

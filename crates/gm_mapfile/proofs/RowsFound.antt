@@ -11,7 +11,8 @@ use Rattle.gm_model.specs.declared.value.Value.TheVariants as values
 use Rattle.gm_model.specs.Expressions.{IsMade, components}
 use Rattle.gm_model.specs.Values.{kind_of}
 use Rattle.gm_text.specs.ValueText.{Signed, integer, is_channel}
-use Rattle.gm_mapfile.specs.MapText.{DartForm, DartRow, width, is_colour, AreWide, IsShaped, AreMade, AreRows}
+use Rattle.gm_mapfile.specs.MapText.{DartForm, DartRow, width, is_colour, IsShaped, AreMade}
+use Rattle.gm_mapfile.proofs.Zipped.{AreWide, AreRows}
 use Rattle.gm_mapfile.proofs.MapRows.{HaveNumbers}
 use Rattle.gm_mapfile.proofs.MapWithin.{IsGoodNumber, AreInRange, IsGoodForm, value_in_range}
 

@@ -18,7 +18,8 @@ use Rattle.gm_model.specs.Values.{kind_of, IsInValueRange, IsValueOf}
 use Rattle.gm_text.specs.ValueText.{Signed, spell_signed}
 use Rattle.gm_text.proofs.Printed.{Stops, symbols_from, symbols_from-end, symbols_from-blank, symbols_from-word_blank, symbols_from-digits, symbols_from-decimal, symbols_from-decimal_blank, symbols_from-sign, signed_symbols, symbols_from-signed}
 use Rattle.gm_text.proofs.SchemaAgain.{schema_form}
-use Rattle.gm_mapfile.specs.MapText.{DartForm, Version, First, Second, MapForm, Role, Fixed, size_role, spell_names, spell_value, spell_values, spell_dart, spell_darts, spell_listing, spell_next, number_of, DartRow, ListedMap, value_text, line_of, head_line, next_line}
+use Rattle.gm_mapfile.specs.MapText.{DartForm, Version, First, Second, MapForm, Role, Fixed, size_role, spell_value, spell_values, spell_dart, spell_darts, spell_listing, spell_next, number_of, DartRow, ListedMap, value_text, line_of, head_line, next_line}
+use Rattle.gm_mapfile.proofs.Zipped.{spell_names}
 use Rattle.gm_mapfile.specs.declared.version.MapVersion.{MapVersion}
 use Rattle.gm_mapfile.specs.declared.version.MapVersion.TheVariants as versions
 use Rattle.gm_mapfile.proofs.GoodListing.{IsSmall}

@@ -2,7 +2,7 @@
 use Rattle.std.specs.Prelude.{◌≡◌, ℕ, ◌+◌, ◌<◌, ◌≤◌, Bool, true, false, ℤ, pos, nat_lt, nat_le, if◌then◌else◌, List, [], ◌∷◌, ◌++◌, length, map, All, Option, Some, None, is_some, slice_index_or, find, ◌==◌, codes, decimal, IsPermutation}
 use Rattle.std.specs.Fmt.{signed_decimal}
 use Rattle.std.specs.List.Sorted.{IsStrictlyIncreasing}
-use Rattle.std.specs.List.{flat_map, AllByRecursion}
+use Rattle.std.specs.List.{flat_map, AllByRecursion, AllZip}
 use Rattle.std.specs.Option.{option_map, option_map_or}
 use Rattle.gm_model.specs.declared.limit.LimitKind.{LimitKind}
 use Rattle.gm_model.specs.declared.limit.LimitKind.TheVariants as limits
@@ -96,10 +96,6 @@ size_role colour minus = if colour then Channel minus else Size minus
 
 -- Each spelling takes what stands after it.
 
-abbrev pub spell_names : List ℕ → List (Part Role) → List (Part Role)
-spell_names [] rest = rest
-spell_names (name ∷ names) rest = number DartName name ∷ spell_names names rest
-
 abbrev pub spell_components : Bool → List Signed → List (Part Role) → List (Part Role)
 spell_components colour [] rest = rest
 spell_components colour (x ∷ xs) rest = spell_signed Fixed (size_role colour) x (spell_components colour xs rest)
@@ -114,7 +110,7 @@ spell_values (embed ∷ embeds) (value ∷ values) rest = spell_value embed.kind
 spell_values _ _ rest = rest
 
 abbrev pub spell_dart : List Embed → DartForm → List (Part Role) → List (Part Role)
-spell_dart embeds dart rest = number DartName dart.name ∷ spell_names dart.alphas (spell_values embeds dart.values rest)
+spell_dart embeds dart rest = map (number DartName) (dart.name ∷ dart.alphas) ++ spell_values embeds dart.values rest
 
 abbrev pub spell_darts : List Embed → List DartForm → List (Part Role) → List (Part Role)
 spell_darts embeds [] rest = rest
@@ -141,15 +137,9 @@ spelling form =
     word Fixed (codes "gmap") ∷ number Fixed (number_of form.version)
     ∷ (map (in_role InSchema) (schema.spell form.schema []) ++ spell_next form.version (spell_listing (embeds_of form) form.darts))
 
--- for each embedding as many numbers as its kind has
-abbrev pub AreWide : List Embed → List (List Signed) → Type 0
-AreWide [] [] = Unit {0}
-AreWide (embed ∷ embeds) (value ∷ values) = (length value ≡ width embed.kind) × AreWide embeds values
-AreWide _ _ = ⊥
-
--- a dart has one neighbour for each label from 0 to n
+-- a dart has one neighbour for each label from 0 to n, and a value of each embedding with as many numbers as its kind has
 abbrev pub IsShaped : ℕ → List Embed → DartForm → Type 0
-IsShaped n embeds dart = (length dart.alphas ≡ n + 1) × AreWide embeds dart.values
+IsShaped n embeds dart = (length dart.alphas ≡ n + 1) × AllZip (λ (embed : Embed) (value : List Signed). length value ≡ width embed.kind) embeds dart.values
 
 abbrev pub IsForm : MapForm → Type 0
 IsForm form = schema.IsForm form.schema × AllByRecursion (IsShaped form.schema.dim (embeds_of form)) form.darts
@@ -225,18 +215,13 @@ pub record IsRow (embeds : List Embed) (form : DartForm) (dart : DartRow) : Type
   pub alphas_are : dart.alphas ≡ form.alphas
   pub made : AreMade embeds form.values dart.values
 
-abbrev pub AreRows : List Embed → List DartForm → List DartRow → Type 0
-AreRows embeds [] [] = Unit {0}
-AreRows embeds (form ∷ forms) (dart ∷ darts) = IsRow embeds form dart × AreRows embeds forms darts
-AreRows embeds _ _ = ⊥
-
 -- the text lists these darts, in its order, and passes nothing
 pub record IsListed (text : List ℕ) (version : Version) (schema : Schema) (darts : List DartRow) : Type 0 where
   pub form : MapForm
   pub written : IsWritten text form
   pub version_is : form.version ≡ version
   pub schema_is : schema ≡ schema_of form.schema
-  pub rows : AreRows schema.embeds form.darts darts
+  pub rows : AllZip (IsRow schema.embeds) form.darts darts
 
 -- the least number above all names
 pub record IsLeastAbove (names : List ℕ) (next : ℕ) : Type 0 where

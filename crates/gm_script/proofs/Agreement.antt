@@ -25,7 +25,8 @@ use Rattle.gm_text.specs.SchemaText.{no_labels, with_label, passed_by}
 use Rattle.gm_text.specs.ValueText.{Signed, integer, greatest, is_channel}
 use Rattle.gm_text.proofs.SchemaSound.{IsLow, low_none, low_more, nothing_passed}
 use Rattle.gm_script.specs.inner.Agreement.{Agrees}
-use Rattle.gm_script.specs.ScriptText.{ValueForm, Plain, Truth, Pair, Triple, StatForm, Applies, GoesOver, Says, Undo, Redo, Group, Close, Role, Fixed, RuleAt, Hook, LabelBehind, Size, limit_of, passed_of, spell_signed, spell_value, spell_values, spell_params, spell_labels, spell_stats, value_as, colour, mask_of, AreParams, IsStat, AreStats, AreNested, ScriptText}
+use Rattle.gm_script.specs.ScriptText.{ValueForm, Plain, Truth, Pair, Triple, StatForm, Applies, GoesOver, Says, Undo, Redo, Group, Close, Role, Fixed, RuleAt, Hook, LabelBehind, Size, limit_of, passed_of, spell_signed, spell_value, spell_values, spell_params, spell_labels, spell_stats, value_as, colour, mask_of, AreParams, IsStat, AreNested, ScriptText}
+use Rattle.gm_script.proofs.Zipped.{AreStats}
 
 abbrev AreWithin : List (Part Role) → Type 0
 AreWithin parts = AllByRecursion (λ (part : Part Role). passed_of part.role part.symbol ≡ None) parts

@@ -8,7 +8,8 @@ use Rattle.gm_model.specs.declared.value.Kind.{Kind}
 use Rattle.gm_model.specs.declared.value.Kind.TheVariants as kinds
 use Rattle.gm_model.specs.declared.value.Value.{Value}
 use Rattle.gm_model.specs.Rules.{Rule}
-use Rattle.gm_script.specs.ScriptText.{ValueForm, Plain, Truth, Pair, Triple, StatForm, value_as, index_of, AreParams, IsOfRule, IsStat, AreStats, Disagreement, HookCountAt, DisagreesAt, Disagrees, UnknownRule, HookCount, Params}
+use Rattle.gm_script.specs.ScriptText.{ValueForm, Plain, Truth, Pair, Triple, StatForm, value_as, index_of, AreParams, IsOfRule, IsStat, Disagreement, HookCountAt, DisagreesAt, Disagrees, UnknownRule, HookCount, Params}
+use Rattle.gm_script.proofs.Zipped.{AreStats}
 use Rattle.gm_script.specs.inner.Comparing.{value_for, params_for, hooks_by, hooks_in, stat_of, stat_with, stat_of_rule, stat_at, named_stat, stat_by, stat_for, stats_for, ◌>>=◌}
 use Rattle.gm_script.specs.inner.Reading.{HeldStat}
 use Rattle.gm_script.specs.declared.sight.Head.{Head}

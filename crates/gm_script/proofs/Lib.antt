@@ -24,3 +24,4 @@ mod Spelling
 mod Stats
 mod Steps
 mod Tokens
+pub mod Zipped

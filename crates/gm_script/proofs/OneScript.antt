@@ -7,7 +7,8 @@ use Rattle.gm_model.specs.Statements as statements
 use Rattle.gm_model.specs.declared.value.Value.{Value}
 use Rattle.gm_model.specs.Names.{Mention}
 use Rattle.gm_model.specs.Rules.{Rule}
-use Rattle.gm_script.specs.ScriptText.{ValueForm, StatForm, Applies, GoesOver, Says, Undo, Redo, Group, Close, index_of, AreParams, IsOfRule, IsStat, AreStats, Disagreement, DisagreesAt, Disagrees, UnknownRule, HookCount, Params, ScriptText, StandsForNoScript, IsFirstDisagreement}
+use Rattle.gm_script.specs.ScriptText.{ValueForm, StatForm, Applies, GoesOver, Says, Undo, Redo, Group, Close, index_of, AreParams, IsOfRule, IsStat, Disagreement, DisagreesAt, Disagrees, UnknownRule, HookCount, Params, ScriptText, StandsForNoScript, IsFirstDisagreement}
+use Rattle.gm_script.proofs.Zipped.{AreStats}
 use Rattle.gm_script.proofs.OneForm.{one_form}
 
 -- ---- one statement

@@ -1,6 +1,6 @@
 -- How a script is written: the grammar of its texts with their limits, and the statements that a text stands for under a book of rules, or the first fault in which it disagrees with the book.
 use Rattle.std.specs.Prelude.{◌≡◌, ◌≢◌, ℕ, ◌+◌, Bool, true, false, ◌&&◌, nat_lt, nat_le, if◌then◌else◌, ℤ, nat_abs, List, [], ◌∷◌, ◌++◌, length, map, Option, Some, None, codes, slice_get}
-use Rattle.std.specs.List.{position, AllByRecursion}
+use Rattle.std.specs.List.{position, AllByRecursion, AllZip}
 use Rattle.std.specs.Str.{bytes_eq}
 use Rattle.gm_model.specs.declared.limit.TheConstants.{MOST_LINES, MOST_NAME_BYTES}
 use Rattle.gm_model.specs.declared.limit.LimitKind.{LimitKind}
@@ -258,16 +258,11 @@ IsStat rules (Says Group place) statements.Group = Unit {0}
 IsStat rules (Says Close place) statements.End = Unit {0}
 IsStat rules _ _ = ⊥
 
-abbrev pub AreStats : List Rule → List StatForm → List Stat → Type 0
-AreStats rules [] [] = Unit {0}
-AreStats rules (form ∷ forms) (stat ∷ stats) = IsStat rules form stat × AreStats rules forms stats
-AreStats rules _ _ = ⊥
-
 -- the text stands for a script of these statements under a book of the rules, whose labels go up to the number
 pub record ScriptText (text : List ℕ) (n : ℕ) (rules : List Rule) (stats : List Stat) : Type 0 where
   pub forms : List StatForm
   pub written : IsWritten n text forms
-  pub same : AreStats rules forms stats
+  pub same : AllZip (IsStat rules) forms stats
 
 abbrev pub StandsForNoScript : List ℕ → ℕ → List Rule → Type 0
 StandsForNoScript text n rules = (stats : List Stat) → ScriptText text n rules stats → ⊥
@@ -300,5 +295,5 @@ pub record IsFirstDisagreement (text : List ℕ) (n : ℕ) (rules : List Rule) (
   pub form : StatForm
   pub after : List StatForm
   pub written : IsWritten n text (before ++ form ∷ after)
-  pub agree : (stats : List Stat) × AreStats rules before stats
+  pub agree : (stats : List Stat) × AllZip (IsStat rules) before stats
   pub found : Disagrees rules form fault
