@@ -1,5 +1,5 @@
 """Tests of the documents: each command of README and the guide that stands after a `$` prints what stands under it,
-and what the documents name is there."""
+what the documents name is there, and each source opens with what it is for."""
 import os
 import re
 import subprocess

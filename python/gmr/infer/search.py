@@ -85,7 +85,7 @@ class Hand:
             self.breaks(f"the orbit <{' '.join(map(str, word))}> of dart {hook} doesn't fold: {broken}")
 
     def take(self, example: Example, candidate: Candidate) -> None:
-        """Takes a candidate into the hand where it is smaller and the program finds no fault but wanting values."""
+        """Takes a candidate into the hand where it is smaller and the program finds no fault but missing values."""
         nodes, is_one = len(candidate.draft.nodes), len(candidate.lines) == 1
         if nodes < self.nodes or nodes == self.nodes and is_one and not self.is_one_line:
             text = candidate.draft.text("r")
@@ -220,7 +220,7 @@ def cover(example: Example, parts: Sequence[tuple[Draft, frozenset[int]]]) -> li
 
 def find(example: Example, words: Sequence[tuple[int, ...]], hook: int | None,
          hand: Hand | None = None, goes_on: bool = False) -> list[Candidate]:
-    """The candidates in which the program finds no fault but wanting values, the best first; NoRule where there is
+    """The candidates in which the program finds no fault but missing values, the best first; NoRule where there is
     none. Where it goes on, those are among them that can't be smaller than others."""
     hand, found = hand or Hand(), []
     for candidate in candidates(example, words, hook, hand):
@@ -253,7 +253,7 @@ def why_none(example: Example, words: Sequence[tuple[int, ...]], hook: int | Non
 
 
 def set_values(places: Sequence[Place]) -> list[Unfound]:
-    """Gives a rule its assignments, more of them while the program finds values wanting; answers what isn't found."""
+    """Gives a rule its assignments, more of them while the program finds values missing; answers what isn't found."""
     example, draft = places[0]
     forced: set[tuple[str, int]] = set()
     while True:
