@@ -5,16 +5,13 @@ from pathlib import Path
 from gmr.draw.layout import Sheet
 from gmr.draw.measures import FAR, Measures, measure
 from gmr.draw.model import load_model
+from gmr.draw.page import HIGH, WIDE
 from gmr.draw.together import lay_together
 
 ROOT = Path(__file__).resolve().parents[2]
 LIBRARY = ROOT / "examples" / "operations"
 PICTURES = ROOT / "docs" / "pictures" / "operations"
-SLANTED = {  # pictures with longer links, and how long: strokes lie deep in faces that are seen at a slant
-    "grow_layer_from": 4.6, "hexahedra_at_middles": 4, "move_volume": 3.4, "paint_by_darts": 3.4, "scale_complex": 3.2,
-    "triangulate_at_middle_3d": 4.3}
-LARGE = {"barycentric_3d": 3314, "hexahedra_at_middles": 2329}  # wider pictures, of 576 and of 192 darts in one map
-MOST_CROSSINGS, MOST_WIDE, NEAR = 240, 1600, 0.85
+MOST_CROSSINGS, NEAR = 235, 1.0
 
 
 @cache
@@ -29,15 +26,15 @@ def test_each_operation_has_a_picture() -> None:
 
 
 def test_names_stand_apart() -> None:
-    """No two names touch, nor are nearer than a letter is high (a round one of 8 pixels)."""
+    """No two names touch, nor are nearer than a letter is high."""
     found = {name: one.touching for name, one in measured().items() if one.touching or one.nearest < NEAR}
     assert not found, found
 
 
 def test_links_are_short() -> None:
-    """No link is longer than three times the median of its label, but in the pictures that are named."""
+    """No link is longer than three times the median of its label."""
     found = {name: one.longest for name, one in measured().items() if one.longest > FAR}
-    assert all(found[name] <= SLANTED.get(name, FAR) for name in found), found
+    assert not found, found
 
 
 def test_few_links_cross() -> None:
@@ -47,8 +44,8 @@ def test_few_links_cross() -> None:
 
 
 def test_pictures_fit_a_page() -> None:
-    """No picture is wider than a page, but those that are named."""
-    found = {name: one.wide for name, one in measured().items() if one.wide > LARGE.get(name, MOST_WIDE)}
+    """No picture is wider or higher than a page."""
+    found = {name: one[:2] for name, one in measured().items() if one.wide > WIDE or one.high > HIGH}
     assert not found, found
 
 
@@ -62,7 +59,8 @@ def laid(name: str) -> list[dict[int, tuple[complex, complex]]]:
 def test_what_stays_lies_where_it_lay() -> None:
     """Vertices that stay don't move by more than a twentieth of an edge, whatever is put between them."""
     for name in ("triangulate_face_2d", "split_edge_2d", "insert_edge_2d", "flip_edge", "catmull_clark", "cut_face",
-                 "truncate_vertex_2d", "unsew_along_0_2d", "remove_face_2d"):
+                 "truncate_vertex_2d", "unsew_along_0_2d", "unsew_along_1_2d", "remove_face_2d", "cut_edge",
+                 "unsew_along_1_1d", "extend_path", "truncate_vertex_3d", "sew_volumes_that_touch"):
         before, after = laid(name)
         ways = sorted(abs(after[dart][0] - before[dart][0]) for dart in before.keys() & after.keys())
         assert ways[len(ways) // 2] < 0.05, (name, ways[len(ways) // 2])

@@ -1,31 +1,36 @@
 """Sheets set apart, so that none lies over another, and those that are neighbours near each other."""
+import math
 from collections.abc import Sequence
+from typing import Any
 
 import numpy as np
 from numpy.typing import NDArray
 
+from gmr import program
 from gmr.draw.layout import Sheet
 
 Pair = tuple[tuple[int, int], tuple[int, int]]  # two darts that are neighbours along 3, each after its sheet's number
+Link = tuple[int, int, NDArray[np.float64]]  # two sheets, and by how far the second would lie from the first
+Near = tuple[int, NDArray[np.float64], float]  # another sheet, how far one would lie from it, and how strongly
 GAP, ROW = 0.35, 8.0  # between sheets, and how wide a row of them is, in edges
+SWEEPS, MOST_SWEPT, MANY = 3, 40, 8  # how often each of few sheets is placed again, and from how many on in a grid
 Floats = NDArray[np.float64]
 
 
-def set_apart(sheets: Sequence[Sheet], pairs: Sequence[Pair], stays: Sequence[bool]) -> list[Sheet]:
-    """The sheets, apart from each other: in rows where none of them stays, else near where they are."""
+def set_apart(sheets: Sequence[Sheet], pairs: Sequence[Pair], stays: Sequence[bool], pull: float = 1.0) -> list[Sheet]:
+    """The sheets, apart from each other and as near as they can: in rows where none is linked to another; what stays
+    lies where it lay, and what is new round it, as neighbours pull it."""
     if len(sheets) < 2:
         return [*sheets]
     boxes = [sheet.box() for sheet in sheets]
     sizes = rows_of([high - low for low, high in boxes]) + GAP
     middles = rows_of([(low + high) / 2 for low, high in boxes])
-    if not any(stays) and not pairs:
-        places = in_rows(sizes)
-    elif not pairs:
-        places = to_the_right(middles, sizes, stays)
-        any(not push(places, sizes) for _ in range(2000))
+    still = np.array(stays)
+    if not pairs:
+        places = to_the_right(middles, sizes, stays) if any(stays) else in_rows(sizes)
+        part(places, sizes, still)
     else:
-        places = spread(middles, sizes)
-        places = pulled(places, sizes, offsets_of(sheets, middles, pairs), np.array(stays))
+        places = gathered(middles, sizes, offsets_of(sheets, middles, pairs), still, pull)
     moves = places - middles
     return [sheet.moved(complex(*move)) for sheet, move in zip(sheets, moves)]
 
@@ -57,16 +62,7 @@ def in_rows(sizes: Floats) -> Floats:
     return places
 
 
-def spread(middles: Floats, sizes: Floats) -> Floats:
-    """Middles moved from that of all, so that the boxes have about the room that they need."""
-    middle = middles.mean(axis=0)
-    reach = np.sqrt(((middles - middle) ** 2).sum(axis=1).mean())
-    needed = 0.42 * np.sqrt(sizes.prod(axis=1).sum())
-    found: Floats = middle + (middles - middle) * max(1.0, min(4.0, needed / reach if reach > 1e-6 else 1.0))
-    return found
-
-
-def offsets_of(sheets: Sequence[Sheet], middles: Floats, pairs: Sequence[Pair]) -> list[tuple[int, int, Floats]]:
+def offsets_of(sheets: Sequence[Sheet], middles: Floats, pairs: Sequence[Pair]) -> list[Link]:
     """For each two sheets with neighbours along 3: their numbers, and by how far the second would lie from the first
     for these to meet."""
     found: dict[tuple[int, int], list[Floats]] = {}
@@ -78,46 +74,95 @@ def offsets_of(sheets: Sequence[Sheet], middles: Floats, pairs: Sequence[Pair]) 
     return [(one, two, np.mean(ways, axis=0)) for (one, two), ways in sorted(found.items())]
 
 
-def pulled(places: Floats, sizes: Floats, links: Sequence[tuple[int, int, Floats]], stays: NDArray[np.bool_]) -> Floats:
-    """Places moved until no box lies over another, those that are linked pulled to each other."""
-    homes, places = places, places.copy()
-    places += 1e-3 * np.array([(np.cos(2.4 * at), np.sin(2.4 * at)) for at in range(len(places))])
-    reaches = sizes.max(axis=1) * 0.52
-    for _ in range(400):
-        for one, two, way in links:
-            off = 0.05 * (places[one] + way - places[two])
-            places[one] -= off / 2
-            places[two] += off / 2
-        places[stays] += 0.03 * (homes - places)[stays]
-        places += 0.01 * (places.mean(axis=0) - places)
-        for _ in range(3):
-            push_round(places, reaches)
-    for _ in range(300):
-        push_round(places, reaches)
-    any(not push(places, sizes) for _ in range(2000))
-    return places
+def gathered(
+    middles: Floats, sizes: Floats, links: Sequence[Link], still: NDArray[np.bool_], pull: float
+) -> Floats:
+    """Places at which no box lies over another: those that stay where they are, and then one after another where its
+    neighbours are near and all take little room."""
+    places, near = middles.copy(), neighbours_of(links, len(middles), pull)
+    part_of(places, sizes, still)
+    laid = [int(at) for at in np.nonzero(still)[0]] or [max(range(len(near)), key=lambda at: len(near[at]))]
+    kept, order = len(laid) if still.any() else 0, laid
+    waiting = [at for at in range(len(near)) if at not in laid]
+    while waiting:
+        here = max(waiting, key=lambda at: (sum(one[0] in order for one in near[at]) / max(1, len(near[at])), -at))
+        waiting.remove(here)
+        places[here] = best_place(here, places, sizes, order, near[here])
+        order = [*order, here]
+    for here in (order[kept:] * SWEEPS if len(order) <= MOST_SWEPT else []):
+        places[here] = best_place(here, places, sizes, [at for at in order if at != here], near[here])
+    return places if kept or len(places) < MANY else on_grid(places, sizes)
 
 
-def push_round(places: Floats, reaches: Floats) -> None:
-    """Pushes discs that lie over each other apart."""
-    ways = places[:, None] - places[None]
-    far = np.sqrt((ways**2).sum(axis=2)) + np.eye(len(places))
-    over = np.maximum(0.0, reaches[:, None] + reaches[None] - far) * (1 - np.eye(len(places)))
-    places += (ways / far[:, :, None] * (over / 2)[:, :, None]).sum(axis=1) * 0.8
-
-
-def push(places: Floats, sizes: Floats) -> bool:
-    """Pushes boxes that lie over each other apart by half of that, and says whether there were some."""
-    found = False
-    for one in range(len(places)):
-        for other in range(one + 1, len(places)):
-            way = places[other] - places[one]
-            over = (sizes[other] + sizes[one]) / 2 - np.abs(way)
-            if (over > 1e-4).all():
-                axis = int(over[1] < over[0])
-                step = np.zeros(2)
-                step[axis] = (over[axis] / 2 + 1e-4) * (1 if way[axis] >= 0 else -1)
-                places[one] -= step
-                places[other] += step
-                found = True
+def on_grid(places: Floats, sizes: Floats) -> Floats:
+    """Places in rows and columns, each near where it was among all."""
+    optimize: Any = program.needs("scipy.optimize", "python3-scipy")
+    count, cell = len(places), sizes.max(axis=0) - GAP / 3
+    columns = round(math.sqrt(1.5 * count * cell[1] / cell[0]))
+    cells = np.array([(at % columns, at // columns) for at in range(count)], float)
+    ways = places - places.min(axis=0)
+    ways *= cells.max(axis=0) / np.maximum(ways.max(axis=0), 1e-6)
+    ones, twos = optimize.linear_sum_assignment(((ways[:, None] - cells[None]) ** 2).sum(axis=2))
+    found = np.zeros_like(places)
+    found[ones] = cells[twos] * cell
     return found
+
+
+def neighbours_of(links: Sequence[Link], count: int, pull: float) -> list[list[Near]]:
+    """For each sheet those that it is linked to, by how far it would lie from them, and how strongly it is pulled."""
+    found: list[list[Near]] = [[] for _ in range(count)]
+    for one, two, way in links:
+        found[one].append((two, -way, pull))
+        found[two].append((one, way, pull))
+    return found
+
+
+def best_place(
+    here: int, places: Floats, sizes: Floats, laid: Sequence[int], near: Sequence[Near]
+) -> Floats:
+    """Where a box lies best beside those that are laid: in line with two of them, or beside them."""
+    own, others = sizes[here], sizes[laid]
+    steps = (others[:, None] + own) / 2 * np.array([-1, 0, 1])[None, :, None] + places[laid][:, None]
+    sides = [np.unique(steps[:, :, axis].round(6)) for axis in (0, 1)]
+    tries = np.array([(x, y) for x in sides[0] for y in sides[1]])
+    over = (others[None] + own) / 2 - np.abs(tries[:, None] - places[laid][None])
+    tries = tries[~(over > 1e-4).all(axis=2).any(axis=1)]
+    low, high = ((places[laid] - others / 2).min(axis=0), (places[laid] + others / 2).max(axis=0))
+    reach = np.maximum(high, tries + own / 2) - np.minimum(low, tries - own / 2)
+    costs = 0.6 * reach.sum(axis=1) + 0.6 * reach.max(axis=1)
+    costs += 0.2 * np.linalg.norm(tries - places[laid].mean(axis=0), axis=1)
+    known = [one for one in near if one[0] in laid]
+    for other, way, pull in known:
+        costs += pull * np.linalg.norm(places[other] + way - tries, axis=1) / len(known)
+    found: Floats = tries[np.argmin(costs.round(6))]
+    return found
+
+
+def part(places: Floats, sizes: Floats, still: NDArray[np.bool_]) -> None:
+    """Pushes boxes until none lies over another."""
+    any(not push(places, sizes, still) for _ in range(4000))
+
+
+def part_of(places: Floats, sizes: Floats, chosen: NDArray[np.bool_]) -> None:
+    """Pushes boxes that are chosen until none lies over another of them."""
+    moved = places[chosen]
+    part(moved, sizes[chosen], np.ones(len(moved), bool))
+    places[chosen] = moved
+
+
+def push(places: Floats, sizes: Floats, still: NDArray[np.bool_]) -> bool:
+    """Pushes boxes that lie over each other apart along the axis along which that is nearer, what stays only where
+    both do, and says whether there were some."""
+    ways = places[:, None] - places[None]
+    over = (sizes[:, None] + sizes[None]) / 2 - np.abs(ways)
+    ones, twos = np.nonzero(np.triu((over > 1e-4).all(axis=2), 1))
+    if not len(ones):
+        return False
+    rows = np.arange(len(ones))
+    axes = np.argmin(over[ones, twos], axis=1)
+    steps = np.zeros((len(ones), 2))
+    steps[rows, axes] = (over[ones, twos][rows, axes] + 2e-4) * np.where(ways[ones, twos][rows, axes] >= 0, 1, -1)
+    shares = np.where(still[ones] == still[twos], 0.5, np.where(still[ones], 0.0, 1.0))[:, None]
+    np.add.at(places, ones, 0.7 * steps * shares)
+    np.add.at(places, twos, -0.7 * steps * (1 - shares))
+    return True

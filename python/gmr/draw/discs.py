@@ -217,10 +217,14 @@ def ideal_of(corners: Sequence[Node], face: Node, nodes: Mapping[int, Spot]) -> 
 
 
 def ideal_of_open(corners: Sequence[Node], face: Node) -> Layout:
-    """The places of the corners of a face that lacks the middle of one edge: they are those of the face that would be
-    closed, so that vertices stay where an edge is opened; nothing for other faces."""
+    """The places of the corners of a face that lacks the middle of one edge, or is open at one vertex: they are those
+    of the face that would be closed, so that vertices stay where it is opened; nothing for other faces."""
     begin = corners.index(face) if face in corners else 0
     middle, *passed = [*corners[begin:], *corners[:begin]]
+    if middle == face and len(passed) > 3 and all(kind == 0 for kind, _ in passed):
+        polygon = regular(len(passed) - 1)
+        opened = [0.8 * polygon[0] + 0.2 * polygon[1], *polygon[1:], 0.8 * polygon[0] + 0.2 * polygon[-1]]
+        return dict(zip(passed, opened)) | {face: 0j}
     vertices = passed[1:-1]
     if middle != face or len(vertices) < 3 or [kind for kind, _ in passed] != [1, *[0] * len(vertices), 1]:
         return {}

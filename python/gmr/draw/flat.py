@@ -5,17 +5,22 @@ from collections import defaultdict
 from collections.abc import Callable, Iterable, Sequence
 from typing import NamedTuple
 
+import numpy as np
+from numpy.typing import NDArray
+
 from gmr.draw.layout import Sheet, area, height
 from gmr.draw.model import Model, orbits
+from gmr.draw.page import Page, page_of
 from gmr.draw.surface import Spot
 from gmr.draw.together import lay_together
 
 DART, FILL, INK, COLOURS = "#1f4e79", "#eef4fb", "#1f2933", ("#c0504d", "#4f8f3a", "#6b46a1", "#b7791f")
 MOST_NAMES, GAP, NAME, TAG = 600, 9.0, 11, 9
-WIDE = 1600  # pixels from which on maps stand one below another, and are drawn smaller
+BEHIND, MOST_MOVED = 2.3, 24.0  # how many times as far strokes lie from edges in faces seen from within, and at most
+GOOD_SHARE, LEAST_SHARE = 0.8, 0.58  # how much smaller a picture is shown to fit a page, and at most
 MOST_SCALE = 420  # pixels that an edge of length 1 has at most so that names have room
 LEAST_SCALE = 60  # pixels that an edge of length 1 has at least where that makes a picture narrower
-LARGE = 200  # darts from which on a map may be wider than that
+OVER = 25.0  # pixels by which a link along 3 may be longer to cross one stroke less
 MOST_LONG = 2.5  # how many times their median links along 3 are long at most
 
 Layers = dict[int | str, list[str]]  # the parts of each layer: by the label of links, or by its name
@@ -39,17 +44,31 @@ class Stroke(NamedTuple):
         return Stroke(self.start + by, self.middle + by, self.end + by, self.corner + by, self.inward, self.bent)
 
 
+class Drawn(NamedTuple):
+    """A map with all its strokes in pixels: its outlines with their faces, the darts whose edges are cut, and from
+    where to where it reaches."""
+
+    strokes: dict[int, Stroke]
+    outlines: list[tuple[int, list[complex]]]
+    cut: set[int]
+    low: complex
+    high: complex
+
+
 def strokes_of(sheet: Sheet, scale: float, shrinks: bool) -> tuple[dict[int, Stroke], dict[int, float]]:
     """The stroke of each dart in pixels, y downwards, drawn away from its edge into its face; and by which share each
     dart's face is smaller than its outline."""
     spots = {dart: Spot(*(complex(place).conjugate() * scale for place in spot)) for dart, spot in sheet.spots.items()}
     depths: dict[complex, list[float]] = defaultdict(list)
+    reaches: dict[complex, float] = defaultdict(float)
     strokes, shares = {}, {}
     for spot in spots.values():
         depths[spot.face].append(abs(height(*spot)) or 1)
+        reaches[spot.face] = max(reaches[spot.face], abs(spot.heart - spot.side2))
     for dart, spot in spots.items():
-        of = depths[spot.face]
-        share = shares[dart] = min(0.6, 2 * GAP * len(of) / sum(of)) if shrinks else 0
+        of, gap = depths[spot.face], GAP * (BEHIND if dart in sheet.back else 1)
+        share = min(0.6, 2 * gap * len(of) / sum(of), MOST_MOVED / (reaches[spot.face] or 1)) if shrinks else 0
+        shares[dart] = share
         ways = ((spot.vertex, spot.side1), (spot.side2, spot.heart), (spot.edge, spot.side0))
         corner, middle, end = (one + share * (two - one) for one, two in ways)
         length = abs(end - corner) or 1
@@ -88,11 +107,11 @@ def name_places(strokes: dict[int, Stroke], tags: Sequence[Tag] = ()) -> list[co
     taken: list[tuple[complex, float, float]]
     taken = [(place, 0.6 * TAG * len(str(name)), NAME * 0.9) for place, name, _ in tags]
     taken += [(it.start + (it.end - it.start) * share, 4, 6) for it in strokes.values() for share in (0.1, 0.5, 0.9)]
-    steps = [(far, step) for far in (0, 5, 10) for step in (0, 0.15, -0.15, 0.3, -0.3)]
+    steps = [(far, step) for far in (0, 4, 8, 12) for step in (0, 0.12, -0.12, 0.22, -0.22, 0.32, -0.32)]
     crowd = {cell: near for cell, near in gathered(taken)}
     marks = len(taken)
     for dart, (start, middle, end, _, inward, bent) in strokes.items():
-        middle, wide = middle if bent else (start + end) / 2, 0.6 * NAME * len(str(dart))
+        middle, wide = middle if bent else (start + end) / 2, width_of(dart)
         tries: list[tuple[float, int, complex]] = []
         for far, step in steps:
             spot = beside(middle + (end - start) * step, inward, dart, NAME) + inward * far
@@ -106,14 +125,22 @@ def name_places(strokes: dict[int, Stroke], tags: Sequence[Tag] = ()) -> list[co
     return [place for place, *_ in taken[marks:]]
 
 
-def is_crowded(strokes: dict[int, Stroke]) -> bool:
-    """Whether the names of two darts would touch."""
-    laid = sorted(zip(name_places(strokes), strokes), key=lambda it: it[0].real)
-    for at, (place, dart) in enumerate(laid):
-        for other, name in laid[at + 1:]:
+def width_of(name: int, size: float = NAME) -> float:
+    """How wide a name is, with a little room beside it, so that two of one letter each stand apart."""
+    return 0.6 * size * len(str(name)) + 1.5
+
+
+def is_crowded(it: Model, drawn: Drawn) -> bool:
+    """Whether two names would touch."""
+    strokes = drawn.strokes
+    tags = tags_of(defaultdict(list), strokes, it.alpha, drawn.cut)
+    laid = [(place, width_of(dart)) for place, dart in zip(name_places(strokes, tags), strokes)]
+    laid = sorted([*laid, *((place, width_of(name, TAG)) for place, name, _ in tags)], key=lambda one: one[0].real)
+    for at, (place, wide) in enumerate(laid):
+        for other, width in laid[at + 1:]:
             if other.real > place.real + 4 * NAME:
                 break
-            if is_over((place, 0.6 * NAME * len(str(dart)), NAME * 0.75), other, 0.6 * NAME * len(str(name))):
+            if is_over((place, wide, NAME * 0.75), other, width):
                 return True
     return False
 
@@ -148,8 +175,7 @@ def draw_darts(
     layers: Layers, strokes: dict[int, Stroke], alpha: Sequence[dict[int, int]], cut: set[int], with_names: bool
 ) -> None:
     """Draws strokes, names, and links; those along 3 once for each two faces, as curves through them."""
-    tags: list[Tag] = []
-    for dart, (start, middle, end, corner, inward, bent) in strokes.items():
+    for dart, (start, middle, end, corner, _, bent) in strokes.items():
         form, places = ("q", (2 * middle - (start + end) / 2, end)) if bent else ("l", (end,))
         layers["darts"].append(line_at(start, form, *places))
         for label, links in enumerate(alpha[:3]):
@@ -158,34 +184,45 @@ def draw_darts(
             by = ((), ((corner + other.corner) / 2,), ())[label]
             if links[dart] > dart and not (label == 2 and dart in cut):
                 layers[label].append(line_at(one, "lql"[label], *by, two))
-        if dart in cut:
-            layers["ends2"].append(line_at(middle, "l", middle - inward * 13))
-            tags.append((beside(middle - inward * 10, -inward, alpha[2][dart], TAG), alpha[2][dart], "tags"))
-    for links in alpha[3:]:
-        tags += draw_glue(layers, strokes, alpha, links)
+    tags = tags_of(layers, strokes, alpha, cut)
     if with_names:
         layers["names"] += [text_at(place, dart, NAME) for dart, place in zip(strokes, name_places(strokes, tags))]
         for place, name, layer in tags:
             layers[layer].append(text_at(place, name, TAG))
 
 
+def tags_of(layers: Layers, strokes: dict[int, Stroke], alpha: Sequence[dict[int, int]], cut: set[int]) -> list[Tag]:
+    """Draws the ends of what is cut, and the links along 3; the names of the darts across that stand at ends."""
+    tags: list[Tag] = []
+    for dart in (dart for dart in strokes if dart in cut):
+        middle, inward = strokes[dart].middle, strokes[dart].inward
+        layers["ends2"].append(line_at(middle, "l", middle - inward * 13))
+        tags.append((beside(middle - inward * 10, -inward, alpha[2][dart], TAG), alpha[2][dart], "tags"))
+    for links in alpha[3:]:
+        tags += draw_glue(layers, strokes, alpha, links)
+    return tags
+
+
 def draw_glue(
     layers: Layers, strokes: dict[int, Stroke], alpha: Sequence[dict[int, int]], links: dict[int, int]
 ) -> list[Tag]:
-    """Draws one link along 3 for each two faces that meet, between those of their darts that are nearest. Where it
-    would cross another one or be far longer than the others, two ends of it are drawn, and the names of the darts
-    across are returned."""
+    """Draws one link along 3 for each two faces that meet, between those of their darts that are nearest, with as few
+    strokes between them as can be. Where it would cross another one or be far longer than the others, two ends of it
+    are drawn, and the names of the darts across are returned."""
     tags: list[Tag] = []
     faces = orbits(sorted(strokes), lambda dart, label: alpha[label][dart], (0, 1))
     least = {dart: face[0] for face in faces for dart in face}
-    ends: dict[tuple[int, int], tuple[float, int, int]] = {}
-    for dart, other in ((dart, links[dart]) for face in faces for dart in face if links[dart] != dart):
+    ends: dict[tuple[int, int], tuple[float, float, int, int]] = {}
+    lines = np.array([(one.start, one.end) for one in strokes.values()]).reshape(-1, 2)
+    for dart, other in ((dart, links[dart]) for face in faces for dart in face if links[dart] > dart):
         key = (min(least[dart], least[other]), max(least[dart], least[other]))
-        here = (round(abs(strokes[dart].middle - strokes[other].middle), 3), min(dart, other), max(dart, other))
+        begin, end = strokes[dart].middle, strokes[other].middle
+        cost = abs(end - begin) + OVER * count_crossed(begin, end, lines)
+        here = (round(cost, 3), round(abs(end - begin), 3), dart, other)
         ends[key] = min(ends.get(key, here), here)
-    most = MOST_LONG * sorted(length for length, *_ in ends.values())[len(ends) // 2] if ends else 0
+    most = MOST_LONG * sorted(length for _, length, *_ in ends.values())[len(ends) // 2] if ends else 0
     drawn: list[tuple[complex, complex]] = []
-    for length, one, two in sorted(ends.values()):
+    for _, length, one, two in sorted(ends.values()):
         first, second = strokes[one], strokes[two]
         line = (first.middle, second.middle)
         if length <= most and not any(is_crossed(*line, *other) for other in drawn):
@@ -198,6 +235,15 @@ def draw_glue(
                 layers["ends3"].append(line_at(stroke.middle, "l", stroke.middle + stroke.inward * 13))
                 tags.append((beside(stroke.middle + stroke.inward * 10, stroke.inward, across, TAG), across, "glue"))
     return tags
+
+
+def count_crossed(one: complex, two: complex, lines: NDArray[np.complex128]) -> int:
+    """How many lines are crossed between two places, but for those on which these lie."""
+    way, others = two - one, lines[:, 1] - lines[:, 0]
+    one, two = one + 0.02 * way, two - 0.02 * way
+    sides = (np.conj(way) * (lines - one)).imag
+    ends = (np.conj(others) * (one - lines[:, 0])).imag * (np.conj(others) * (two - lines[:, 0])).imag
+    return int(((sides[:, 0] * sides[:, 1] < 0) & (ends < 0)).sum())
 
 
 def is_crossed(one: complex, two: complex, three: complex, four: complex) -> bool:
@@ -219,17 +265,6 @@ def draw_numbers(layers: Layers, strokes: dict[int, Stroke], it: Model) -> None:
 def extreme(which: Callable[[Iterable[float]], float], places: Sequence[complex]) -> complex:
     """The least or the greatest of both coordinates."""
     return complex(which(place.real for place in places), which(place.imag for place in places))
-
-
-class Drawn(NamedTuple):
-    """A map with all its strokes in pixels: its outlines with their faces, the darts whose edges are cut, and from
-    where to where it reaches."""
-
-    strokes: dict[int, Stroke]
-    outlines: list[tuple[int, list[complex]]]
-    cut: set[int]
-    low: complex
-    high: complex
 
 
 def drawn_at(it: Model, sheets: Sequence[Sheet], scale: float) -> Drawn:
@@ -279,66 +314,33 @@ def draw(maps: Sequence[tuple[str | None, Model]], with_names: bool | None = Non
     scale = scale_of(spots) if is_small or with_names else 50
     layers: Layers = defaultdict(list)
     drawn = [drawn_at(it, sheets, scale) for it, sheets in zip(models, laid)]
-    while with_names and scale < MOST_SCALE and any(is_crowded(one.strokes) for one in drawn):
+    while with_names and scale < MOST_SCALE and any(map(is_crowded, models, drawn)):
         scale *= 1.15
         drawn = [drawn_at(it, sheets, scale) for it, sheets in zip(models, laid)]
-    drawn = narrowed(models, laid, scale, drawn) if with_names else drawn
-    corners, tops, size, end = places_of(drawn, any(title for title, _ in maps))
-    for (title, it), one, corner, top in zip(maps, drawn, corners, tops):
+    drawn = narrowed(maps, laid, scale, drawn) if with_names else drawn
+    page = page_for(maps, drawn)
+    for (title, it), one, corner, top in zip(maps, drawn, page.corners, page.tops):
         draw_map(layers, it, one, corner, with_names)
         middle = (one.low.real + one.high.real) / 2 + corner.real
-        layers["titles"] += [text_at(complex(middle, top - 18 * size - 4), title, 14 * size)] if title else []
-    return text_of(layers, math.ceil(end.real), math.ceil(end.imag), max(it.dimension for it in models), size)
+        place = complex(middle, top - 18 * page.size - 4)
+        layers["titles"] += [text_at(place, title, 14 * page.size)] if title else []
+    return text_of(layers, page, max(it.dimension for it in models))
 
 
-def frame_of(drawn: Sequence[Drawn]) -> tuple[complex, complex]:
-    """The least and the greatest coordinates of maps that lie over each other."""
-    low = complex(min(it.low.real for it in drawn), min(it.low.imag for it in drawn))
-    return low, complex(max(it.high.real for it in drawn), max(it.high.imag for it in drawn))
+def page_for(maps: Sequence[tuple[str | None, Model]], drawn: Sequence[Drawn]) -> Page:
+    """The page on which maps are arranged."""
+    return page_of([(one.low, one.high) for one in drawn], any(title for title, _ in maps))
 
 
 def narrowed(
-    models: Sequence[Model], laid: Sequence[Sequence[Sheet]], scale: float, drawn: list[Drawn]
+    maps: Sequence[tuple[str | None, Model]], laid: Sequence[Sequence[Sheet]], scale: float, drawn: list[Drawn]
 ) -> list[Drawn]:
-    """Maps drawn smaller where one by itself is too wide for a page, as far as names still stand apart. Large maps need
-    the room."""
-    low, high = frame_of(drawn)
-    if any(len(it.strokes) > LARGE for it in drawn):
-        return drawn
-    while (high - low).real + 32 > WIDE and scale > LEAST_SCALE:
+    """Maps drawn smaller where they are too large for a page, as far as names still stand apart."""
+    while page_for(maps, drawn).share < GOOD_SHARE and scale > LEAST_SCALE:
         scale *= 0.95
-        smaller = [drawn_at(it, sheets, scale) for it, sheets in zip(models, laid)]
-        if any(is_crowded(one.strokes) for one in smaller):
-            break
-        drawn = smaller
-        low, high = frame_of(drawn)
+        smaller = [drawn_at(it, sheets, scale) for (_, it), sheets in zip(maps, laid)]
+        drawn = drawn if any(map(is_crowded, (it for _, it in maps), smaller)) else smaller
     return drawn
-
-
-def places_of(drawn: Sequence[Drawn], has_titles: bool) -> tuple[list[complex], list[float], float, complex]:
-    """By which way each map is moved in the picture, where it begins below its title, how large letters of titles and
-    legend are, and how far the picture reaches: maps stand side by side in one frame from above to below, or one below
-    another where they are too wide for a page, in one frame from left to right if that isn't too wide as well."""
-    low, high = frame_of(drawn)
-    wide = sum((it.high - it.low).real for it in drawn) + 44 * (len(drawn) - 1) + 32
-    is_stacked = wide > WIDE and len(drawn) > 1
-    wide = (high - low).real + 32 if is_stacked else wide
-    size = max(1.0, wide / 640)
-    head = size * 26 if has_titles else 0
-    step, foot = (high - low).imag + head + 14, 16 + 22 * size
-    if is_stacked:
-        tops = [16 + head]
-        for one in drawn:
-            tops.append(tops[-1] + (one.high - one.low).imag + 14 + head)
-        lefts = [low.real if wide <= WIDE else one.low.real for one in drawn]
-        wide = min(wide, max((one.high - one.low).real for one in drawn) + 32) if wide > WIDE else wide
-        corners = [complex(16 - left, top - one.low.imag) for left, top, one in zip(lefts, tops, drawn)]
-        return corners, tops, size, complex(wide, tops[-1] - head - 16 + foot)
-    ends = [16.0]
-    for one in drawn:
-        ends.append(ends[-1] + (one.high - one.low).real + 44)
-    corners = [complex(at - one.low.real, 16 + head - low.imag) for at, one in zip(ends, drawn)]
-    return corners, [16 + head] * len(drawn), size, complex(wide, step + foot)
 
 
 def scale_of(spots: Sequence[Spot]) -> float:
@@ -347,8 +349,13 @@ def scale_of(spots: Sequence[Spot]) -> float:
     return max(100, min(260, 1 / (rooms[len(rooms) // 20] or 1)))
 
 
-def text_of(layers: Layers, wide: int, high: int, dimension: int, size: float) -> str:
-    """The text of a picture in SVG, with a line that tells the colours of the labels in letters of a size."""
+def text_of(layers: Layers, page: Page, dimension: int) -> str:
+    """The text of a picture in SVG, with a line that tells the colours of the labels. What is too large for a page is
+    shown smaller, as far as letters allow."""
+    wide, high, size = math.ceil(page.end.real), math.ceil(page.end.imag), page.size
+    share = max(page.share, LEAST_SHARE)
+    sides = f'width="{math.floor(share * wide)}" height="{math.floor(share * high)}"'
+    sides += f' viewBox="0 0 {wide} {high}"' if share < 1 else ""
     line, text = 'fill="none" stroke-linecap="round" stroke=', 'text-anchor="middle" font-size='
     styles: dict[int | str, str]
     styles = {"faces": f'fill="{FILL}"', "paint": f'fill-opacity="{0.4 / max(1, 2 * dimension - 4):g}"'}
@@ -362,7 +369,7 @@ def text_of(layers: Layers, wide: int, high: int, dimension: int, size: float) -
     styles |= {f"α{label}": f'{text}"{NAME * size:.4g}" fill="{colour}"' for label, colour in enumerate(COLOURS)}
     places = [complex(16 + (10 + 30 * at) * size, high - 14 * size) for at in range(dimension + 1)]
     layers |= {f"α{at}": [text_at(place, f"α{at}", NAME * size)] for at, place in enumerate(places)}
-    lines = [f'<svg xmlns="http://www.w3.org/2000/svg" width="{wide}" height="{high}" font-family="sans-serif">']
+    lines = [f'<svg xmlns="http://www.w3.org/2000/svg" {sides} font-family="sans-serif">']
     lines += [f'<rect width="{wide}" height="{high}" fill="white"/>']
     for layer, style in styles.items():
         drawn = "".join(layers[layer])

@@ -18,13 +18,15 @@ Polygons = Mapping[Node, Sequence[Node]]  # the corners of each face by its midd
 
 class Sheet(NamedTuple):
     """A part of a map that is laid out: the spots of its darts, the outlines of its faces, the darts whose edges are
-    cut, which darts turn left, and the darts that stand outside round a closed surface."""
+    cut, which darts turn left, the darts that stand outside round a closed surface, and those of faces seen from
+    within, through others."""
 
     spots: dict[int, Spot]
     outlines: list[Outline]
     cut: set[int]
     left: dict[int, bool]
     outer: set[int]
+    back: frozenset[int] = frozenset()
 
     def moved(self, by: complex) -> "Sheet":
         """The sheet at another place."""

@@ -8,7 +8,7 @@ from gmr.draw.surface import Spot, corners_of, nodes_of
 
 def flat_points(it: Model) -> dict[int, complex]:
     """The point of each dart in the plane, the third coordinate going to the right and up."""
-    return {dart: complex(x + 0.42 * z, y + 0.26 * z) for dart, (x, y, z) in it.points.items()}
+    return {dart: complex(x + 0.42 * z, y + 0.34 * z) for dart, (x, y, z) in it.points.items()}
 
 
 def unit_of(models: Iterable[Model]) -> float:
@@ -44,4 +44,22 @@ def lay_at_points(it: Model, darts: Sequence[int], neighbour: Neighbour, flat: d
     outlines = [(face, [layout[node] for node in corners]) for (_, face), corners in polygons.items()]
     outlines = [(face, one if area(one) > 0 else one[::-1]) for face, one in outlines if it.dimension > 1]
     left = {dart: area(spot[:3]) > 0 for dart, spot in spots.items()}
-    return Sheet(spots, outlines, set(), left, set())
+    return Sheet(spots, outlines, set(), left, set(), back_of(it, darts, neighbour, left))
+
+
+def back_of(it: Model, darts: Sequence[int], neighbour: Neighbour, left: dict[int, bool]) -> frozenset[int]:
+    """The darts of the faces that are seen from within, through those before them: where a surface with two sides turns
+    its other side. None where it turns one side everywhere, or has but one."""
+    sides = {darts[0]: left[darts[0]]}
+    waiting = [darts[0]]
+    for dart in waiting:
+        for near in (neighbour(dart, label) for label in range(3)):
+            if near not in sides:
+                sides[near] = not sides[dart]
+                waiting.append(near)
+    if any(sides[dart] == sides[other] for dart in sides for other in (neighbour(dart, label) for label in range(3))
+           if dart != other):
+        return frozenset()
+    one, two = ([dart for dart in sides if (sides[dart] == left[dart]) == side] for side in (True, False))
+    depths = [sum(it.points[dart][2] for dart in part) / (len(part) or 1) for part in (one, two)]
+    return frozenset(max(zip(depths, (one, two)))[1] if one and two else ())

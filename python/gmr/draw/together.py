@@ -5,25 +5,34 @@ from collections.abc import Sequence
 from typing import NamedTuple
 
 from gmr.draw.apart import Pair, set_apart
-from gmr.draw.discs import Goals, fits_mirrored, place_disc
+from gmr.draw.discs import Goals, fits_mirrored, place_disc, turned
 from gmr.draw.layout import Disc, Sheet, faces_to_open, open_up, sheet_of
+from gmr.draw.lines import OPENED, ends_of, line_along
 from gmr.draw.model import Model, orbits
 from gmr.draw.sheets import sheets_at_points, unit_of
 from gmr.draw.surface import Node, Spot
 
+POINTED = 4.0  # how strongly volumes with points are pulled beside those that they touch
 MOST_TRIED = 3  # faces round which a closed surface is laid out to see which is best
-WHOLE, MERGED, SPLIT = 5000.0, 30.0, 2.0  # how strongly a vertex is pulled where it lay, by what became of it
+WHOLE, MERGED, CUT, SPLIT = 5000.0, 30.0, 400.0, 2.0  # how strongly vertices are pulled to where they lay
 
 
 class Past(NamedTuple):
     """What is known of the map before: the spots of its darts, which turn left, which stand outside, the least dart of
-    each one's vertex, and the darts of each vertex by the least one."""
+    each one's vertex, the darts of each vertex by the least one, and each one's sheet, with how many darts it has and
+    by which way it was moved from its points."""
 
     spots: dict[int, Spot]
     left: dict[int, bool]
     outer: set[int]
     vertex_of: dict[int, int]
     darts_at: dict[int, set[int]]
+    part_of: dict[int, int]
+    sizes: Counter[int]
+    ways: Sequence[complex]
+
+
+NOTHING = Past({}, {}, set(), {}, {}, {}, Counter(), [])
 
 
 def past_of(it: Model, sheets: Sequence[Sheet]) -> Past:
@@ -33,28 +42,46 @@ def past_of(it: Model, sheets: Sequence[Sheet]) -> Past:
     vertices = orbits(sorted(spots), lambda dart, label: it.alpha[label][dart], (1, 2)[: it.dimension])
     vertex_of = {dart: orbit[0] for orbit in vertices for dart in orbit}
     outer = {dart for sheet in sheets for dart in sheet.outer}
-    return Past(spots, left, outer, vertex_of, {orbit[0]: {*orbit} for orbit in vertices})
+    part_of = {dart: at for at, sheet in enumerate(sheets) for dart in sheet.spots}
+    darts_at = {orbit[0]: {*orbit} for orbit in vertices}
+    return Past(spots, left, outer, vertex_of, darts_at, part_of, Counter(part_of.values()), [])
 
 
 def sheets_of(it: Model, unit: float) -> list[Sheet]:
     """The sheets of a map by itself, whose points are in edges of this length."""
-    return sheets_at_points(it, unit) if it.points else lay_parts(it, Past({}, {}, set(), {}, {}), None)
+    return sheets_at_points(it, unit) if it.points else lay_parts(it, NOTHING, None)
 
 
 def lay_together(models: Sequence[Model]) -> list[list[Sheet]]:
     """The sheets of maps that are drawn side by side."""
-    unit, past, found = unit_of(models), Past({}, {}, set(), {}, {}), []
+    unit, past, found = unit_of(models), NOTHING, []
     for at, it in enumerate(models):
         if it.points:
             sheets = sheets_at_points(it, unit)
-            if it.dimension == 3:
-                sheets = set_apart(sheets, pairs_of(it, sheets), [True] * len(sheets))
+            moved = pulled_apart(it, sheets, past) if it.dimension == 3 else sheets
         else:
             later = models[at + 1] if at + 1 < len(models) else None
-            sheets = lay_parts(it, past, later)
-        found.append(sheets)
-        past = past_of(it, sheets)
+            moved = sheets = lay_parts(it, past, later)
+        found.append(moved)
+        ways = [two.middle() - one.middle() for one, two in zip(sheets, moved)]
+        past = past_of(it, moved)._replace(ways=ways)
     return found
+
+
+def pulled_apart(it: Model, sheets: Sequence[Sheet], past: Past) -> list[Sheet]:
+    """Volumes at their points, pulled apart; those that stay as they were in the map before."""
+    stays, ways = [], []
+    for sheet in sheets:
+        kept = Counter(past.part_of[dart] for dart in sheet.spots if dart in past.spots)
+        stays.append(is_mostly(kept, len(sheet.spots), past))
+        ways.append(sum(count * past.ways[old] for old, count in kept.items()) / (sum(kept.values()) or 1))
+    moved = [sheet.moved(way) if is_kept else sheet for sheet, way, is_kept in zip(sheets, ways, stays)]
+    return set_apart(moved, pairs_of(it, sheets), stays, POINTED)
+
+
+def is_mostly(kept: Counter[int], count: int, past: Past) -> bool:
+    """Whether a part of that many darts is mostly one that was there before, and that one mostly it."""
+    return any(2 * shared >= max(count, past.sizes[old]) for old, shared in kept.items())
 
 
 def pairs_of(it: Model, sheets: Sequence[Sheet]) -> list[Pair]:
@@ -74,11 +101,11 @@ def lay_parts(it: Model, past: Past, later: Model | None) -> list[Sheet]:
     stays = []
     for part in parts:
         laid = {dart: sheet for sheet in sheets for dart in sheet.spots}
-        kept = bool(set(part) & past.spots.keys())
+        kept = Counter(past.part_of[dart] for dart in part if dart in past.spots)
         sheet = best_sheet(part, alpha, it.dimension, past, later, laid)
         near = [(dart, alpha[3][dart]) for dart in part if alpha[3][dart] in laid]
         sheets.append(sheet if kept or not near else placed_beside(sheet, near, laid))
-        stays.append(kept)
+        stays.append(is_mostly(kept, len(part), past) if it.dimension == 3 else bool(kept))
     return set_apart(sheets, pairs_of(it, sheets), stays)
 
 
@@ -137,6 +164,9 @@ def laid_out(
     goals = goals_of(disc, past)
     is_mirrored = fits_mirrored(disc, goals, votes_of(disc, alpha, past, laid) < 0)
     layout, energy, is_bent = place_disc(disc, goals, is_mirrored)
+    if disc.is_line and past.spots:
+        sought = {node: place for node, (place, pull) in goals.items() if pull > CUT} | ends_of(disc, alpha, past.spots)
+        layout = line_along(disc, layout, sought, alpha) or turned(layout, goals)
     return is_bent, round(energy, 2), at, sheet_of(disc, layout, is_bent, is_mirrored, alpha, dimension)
 
 
@@ -165,10 +195,17 @@ def goals_of(disc: Disc, past: Past) -> Goals:
         if len(taken) == 1:
             claims[taken[0]].append(past.spots[old].vertex)
     found = {node: (mean_of(places), WHOLE if len(places) == 1 else MERGED) for node, places in claims.items()}
+    grown = {spot.vertex for dart, spot in disc.nodes.items() if dart not in past.spots}
     for node in sorted(new_sizes.keys() - found.keys()):
         inner = [past.spots[dart] for dart, own in nodes.items() if own == node and dart not in past.outer]
         if inner:
-            found[node] = (mean_of([0.55 * spot.vertex + 0.45 * spot.heart for spot in inner]), SPLIT)
+            vertex, edge, heart = (mean_of([spot[at] for spot in inner]) for at in (0, 1, 6))
+            is_on_edge = len({spot.edge for spot in inner}) == 1
+            if is_on_edge:
+                share = 0.75 if node in grown else OPENED
+                found[node] = ((1 - share) * vertex + share * edge, CUT)
+            else:
+                found[node] = (0.35 * vertex + 0.4 * edge + 0.25 * heart, SPLIT)
     return found
 
 
@@ -178,13 +215,13 @@ def mean_of(places: Sequence[complex]) -> complex:
 
 
 def placed_beside(sheet: Sheet, near: Sequence[tuple[int, int]], laid: dict[int, Sheet]) -> Sheet:
-    """A sheet beside those that it has neighbours in along 3, turned so that neighbours lie near each other."""
+    """A sheet beside those that it has neighbours in along 3, upright or upside down, as neighbours lie nearer."""
     own, middles = sheet.middle(), {other: laid[other].middle() for _, other in near}
     ways = [laid[other].spots[other].heart - middles[other] for _, other in near]
     way = sum(ways) / len(ways)
     way = way / abs(way) if abs(way) > 0.1 else -1j
     mirrored = (-way * way * one.conjugate() for one in ways)
     turn = sum(one * (sheet.spots[dart].heart - own).conjugate() for one, (dart, _) in zip(mirrored, near))
-    turned = sheet.turned(turn / abs(turn) if abs(turn) > 1e-6 else 1, own)
+    turned = sheet.turned(1 if turn.real > -1e-6 else -1, own)
     size = sum(abs(it.box()[1] - it.box()[0]) for it in (sheet, laid[near[0][1]])) / 2.6
     return turned.moved(sum(middles.values()) / len(middles) + way * size - own)
