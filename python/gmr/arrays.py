@@ -23,7 +23,7 @@ CHUNK = 32_768  # rows that are printed at once
 PIECE = 1 << 18  # bytes that are read at once
 TOP = 1 << 16  # bytes in which the head of a text stands, as a rule
 EIGHT, SURE = 8, 18  # letters of a word of 64 bits; digits that fit in one, whichever they are
-ZERO, MINUS = 48, 45
+ZERO, MINUS, BLANK, FEED = 48, 45, 32, 10
 # What leaves of eight letters the digits of the last 0 to 8 of them: the later a letter, the higher its byte.
 LAST = numpy.array([0x0F0F0F0F0F0F0F0F >> 8 * (8 - many) << 8 * (8 - many) for many in range(9)], numpy.uint64)
 
@@ -56,25 +56,36 @@ def head_of(version: int, dimension: int, embeds: list[Embed], following: int, c
     return "\n".join([*lines, f"darts {count}", ""]).encode()
 
 
-def print_rows(names: Whole, alpha: Whole, columns: list[tuple[Whole, Whole]], head: bytes = b"") -> bytes:
-    """A head, and the lines of darts: their names, those of their neighbours, whose rows alpha has, and their values.
+def print_rows(names: Whole, alpha: Whole, columns: list[tuple[Whole, Whole]], head: bytes) -> bytes:
+    """A head, whose last line ends, and the lines of darts: their names, those of their neighbours, whose rows alpha
+    has, and their values.
 
     A column is a table of values (m x width), and for each dart the row of the table that has its value.
     """
-    named = print_numbers(names)
-    tables = [print_values(table) for table, _ in columns]
-    blank = numpy.array([32], numpy.uint8)
-    printed = [head]
-    for begin in range(0, len(names), CHUNK):
-        part = slice(begin, begin + CHUNK)
-        pieces = [named[part], *(named[step[part]] for step in alpha)]
-        pieces += [table[rows[part]] for table, (_, rows) in zip(tables, columns)]
-        count = len(pieces[0])
-        line = [piece for one in pieces for piece in (numpy.broadcast_to(blank, (count, 1)), one)][1:]
-        ends = numpy.full((count, 1), 10, numpy.uint8)
-        flat = numpy.concatenate([*line, ends], axis=1).ravel()
-        printed.append(flat[flat != 0].tobytes())
-    return b"".join(printed)
+    printed = print_numbers(names)
+    named = as_words(BLANK, printed)
+    pieces = [(as_words(FEED, printed), numpy.arange(len(names))), *((named, step) for step in alpha)]
+    pieces += [(as_words(BLANK, print_values(table)), rows) for table, rows in columns]
+    lines = [join_words(pieces, slice(begin, begin + CHUNK)) for begin in range(0, len(names), CHUNK)]
+    return b"".join([head.removesuffix(b"\n"), *lines, b"\n"])
+
+
+def join_words(pieces: Sequence[tuple[NDArray[numpy.uint64], Whole]], part: slice) -> bytes:
+    """The lines of some rows, whose pieces stand in tables."""
+    width = sum(table.shape[1] for table, _ in pieces)
+    line, begin = numpy.empty((len(pieces[0][1][part]), width), numpy.uint64), 0
+    for table, rows in pieces:
+        line[:, begin: begin + table.shape[1]] = table.take(rows[part], axis=0)
+        begin += table.shape[1]
+    return line.tobytes().translate(None, b"\0")
+
+
+def as_words(before: int, printed: Bytes) -> NDArray[numpy.uint64]:
+    """Rows of bytes with one before each, and with bytes of value 0 up to words of 64 bits, which are copied faster."""
+    found = numpy.zeros((len(printed), -(-(printed.shape[1] + 1) // EIGHT) * EIGHT), numpy.uint8)
+    found[:, 0] = before
+    found[:, 1: printed.shape[1] + 1] = printed
+    return found.view(numpy.uint64)
 
 
 def print_numbers(numbers: Whole) -> Bytes:
@@ -136,34 +147,24 @@ def read_numbers(body: bytes, width: int, count: int) -> Whole:
     """The numbers of the darts' lines: count x width."""
     if body.translate(None, IN_ROWS):
         raise ValueError("after 'darts' stands something other than numbers and parentheses")
-    if not has_plain_signs(body):
+    numbers, has_plain_signs = scan_numbers(body)
+    if not has_plain_signs:
         body = SPACED_MINUS.sub(b"-", body)
         if BARE_MINUS.search(body):
             raise ValueError("a sign stands after 'darts' with no number after it")
-    numbers = scan_numbers(body)
+        numbers, _ = scan_numbers(body)
     if len(numbers) != width * count:
         raise ValueError(f"there are {len(numbers)} numbers after 'darts', and not {width} for each of {count} darts")
     return numbers.reshape(count, width)
 
 
-def has_plain_signs(body: bytes) -> bool:
-    """Whether a digit stands right after each sign: so it is in what is printed, and no expression need look for it."""
-    letters = numpy.frombuffer(body, numpy.uint8)
-    for begin in range(0, len(letters), PIECE):
-        signs = numpy.flatnonzero(letters[begin: begin + PIECE] == MINUS)
-        signs += begin + 1
-        if len(signs) and (signs[-1] == len(letters) or (letters[signs] < ZERO).any()):
-            return False
-    return True
-
-
-def scan_numbers(text: bytes) -> Whole:
-    """The numbers of a text of digits, signs right before them, and blanks or parentheses between; ValueError at one
-    that doesn't fit in 64 bits."""
-    letters = numpy.frombuffer(b" " * EIGHT + text + b" ", numpy.uint8)
+def scan_numbers(text: bytes) -> tuple[Whole, bool]:
+    """The numbers of a text of digits, blanks, parentheses and signs, and whether a digit stands right after each sign;
+    ValueError at a number that doesn't fit in 64 bits."""
+    letters = numpy.frombuffer(b"".join([b" " * EIGHT, text, b" "]), numpy.uint8)
     # eight letters from each one on, as one number
     eights: NDArray[numpy.uint64] = numpy.ndarray((len(letters) - EIGHT + 1,), "<u8", letters, strides=(1,))
-    is_signed = b"-" in text
+    is_signed, apart = b"-" in text, 0
     parts, begin = [numpy.empty(0, numpy.int64)], EIGHT
     while begin < len(letters):
         end = min(begin + PIECE, len(letters) - 1)
@@ -176,7 +177,9 @@ def scan_numbers(text: bytes) -> Whole:
         sizes = ends - begins
         numbers = join_digits(eights, ends - EIGHT, sizes)
         if is_signed:
-            numpy.negative(numbers, out=numbers, where=letters[begins - 1] == MINUS)
+            is_minus = letters[begins - 1] == MINUS
+            apart += int(numpy.count_nonzero(letters[begin: end + 1] == MINUS) - numpy.count_nonzero(is_minus))
+            numpy.negative(numbers, out=numbers, where=is_minus)
         for at in numpy.flatnonzero(sizes > SURE).tolist() if sizes.max(initial=0) > SURE else ():
             sign = -1 if letters[begins[at] - 1] == MINUS else 1
             number = sign * int(letters[begins[at]: ends[at]].tobytes())
@@ -185,14 +188,14 @@ def scan_numbers(text: bytes) -> Whole:
             numbers[at] = number
         parts.append(numbers)
         begin = end + 1
-    return numpy.concatenate(parts)
+    return numpy.concatenate(parts), not apart
 
 
 def join_digits(eights: NDArray[numpy.uint64], places: Whole, sizes: Whole) -> Whole:
     """The numbers that end after the eight letters from these places on, and have this many digits. Digits are joined
     by twos, fours and eights within words of 64 bits; the first letter is the lowest byte of its word."""
     found = eights[places]
-    found &= LAST[numpy.minimum(sizes, EIGHT)]
+    found &= LAST.take(numpy.minimum(sizes, EIGHT))
     for times, bits, mask in ((10, 8, 0x00FF00FF00FF00FF), (100, 16, 0x0000FFFF0000FFFF), (10_000, 32, 0xFFFFFFFF)):
         lower = found >> numpy.uint64(bits)
         found *= numpy.uint64(times)

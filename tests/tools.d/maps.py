@@ -9,7 +9,7 @@ import time
 from pathlib import Path
 
 from gmr import maps, program
-from gmr.arrays import PIECE, has_plain_signs, scan_numbers
+from gmr.arrays import PIECE, scan_numbers
 from gmr.maps import Embed, Map, read_map
 
 ROOT = Path(__file__).resolve().parents[2]
@@ -86,8 +86,8 @@ def test_numbers_of_all_lengths_are_read():
     numbers = [sign * chance.randrange(10**length) for length in range(1, 19) for sign in (1, -1) for _ in range(20)]
     numbers = ends + numbers * 40
     text = "".join(chance.choice(("%d ", "(%d ", "%d)", "\n%d\t")) % number for number in numbers)
-    assert scan_numbers(text.encode()).tolist() == numbers and len(text) > PIECE
-    assert scan_numbers(b"000000000000000000000012 7").tolist() == [12, 7]
+    assert scan_numbers(text.encode())[0].tolist() == numbers and len(text) > PIECE
+    assert scan_numbers(b"000000000000000000000012 7")[0].tolist() == [12, 7]
     for wrong in (b"9223372036854775808", b"-9223372036854775809", b"1 " * 99 + b"9" * 30):
         try:
             scan_numbers(wrong)
@@ -101,9 +101,9 @@ def test_signs_apart_from_their_digits_are_seen():
     for begin in (0, 1, PIECE - 2, PIECE - 1, PIECE, 2 * PIECE):
         blank = b" " * begin
         for plain in (b"", b"7", b"-7", b"(-7 -8)"):
-            assert has_plain_signs(blank + plain), (begin, plain)
+            assert scan_numbers(blank + plain)[1], (begin, plain)
         for apart in (b"-", b"- 7", b"--7", b"-7 -", b"(-)"):
-            assert not has_plain_signs(blank + apart), (begin, apart)
+            assert not scan_numbers(blank + apart)[1], (begin, apart)
 
 
 def test_orbits():

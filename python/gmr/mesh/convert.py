@@ -12,8 +12,7 @@ import numpy as np
 from gmr import program
 from gmr.arrays import Arrays, read_arrays
 from gmr.files import check_apart, write_beside
-from gmr.mesh.checks import Claims
-from gmr.mesh.compare import compare
+from gmr.mesh.compare import Claims, compare
 from gmr.mesh.decimals import Whole
 from gmr.mesh.embeds import Colours, Wanted, embed_for_book, embed_plainly
 from gmr.mesh.fans import compare_fans
@@ -24,7 +23,7 @@ from gmr.mesh.scale import (
     Frame, Origin, Scaled, choose_scale, move_points, read_frame, scale_points, tell_frame,
 )
 from gmr.mesh.surface import Done, Wish, map_surface
-from gmr.mesh.taken import Taken, count_untyped, take_surface, take_volume
+from gmr.mesh.taken import Taken, count_untyped, take_surface, take_volume, walk_faces
 from gmr.mesh.volume import map_volume
 from gmr.mesh.weld import apply_weld, weld_alike, weld_near
 
@@ -130,9 +129,8 @@ def convert_read(mesh: Surface | Volume, options: Options) -> Imported:
     told = tell_import(mesh, left, made, (frame, scaled, leaders, done))
     if options.colours.is_taken:
         told += f" colours {tell_colours(made)}"
-    has_dropped = options.wish.drop
-    distance = float(options.weld or 0)
-    claims = Claims(None, done.kept if has_dropped else None, leaders, distance, options.wish.cut)
+    is_welded = (leaders != np.arange(len(leaders))).any()
+    claims = Claims(None, done.left, leaders if is_welded else None, float(options.weld or 0), options.wish.cut)
     return Imported(mesh, made, frame, told, claims)
 
 
@@ -244,7 +242,7 @@ def compare_written(written: Path, given: Arrays, frame: Frame, taken: Taken) ->
     if written.suffix.lower() in TRIANGLES:
         fault = compare_fans(written, given, frame.scale, frame.origin, starts)
     else:
-        fault = compare(written, given, frame.scale, frame.origin, Claims(starts))
+        fault = compare(written, given, frame.scale, frame.origin, Claims(walk_faces(given, starts)[0]))
     if fault:
         raise Unfit(f"{UNLIKE}: {fault}")
 

@@ -9,8 +9,8 @@ from pathlib import Path
 import numpy as np
 
 from gmr.arrays import Arrays
-from gmr.mesh.checks import Array, points_of
-from gmr.mesh.compare import SINGLE
+from gmr.mesh.again import SINGLE
+from gmr.mesh.compare import Array, points_of
 
 STL_HEAD, STL_FACET = 84, 50
 

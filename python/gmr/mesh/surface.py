@@ -26,10 +26,10 @@ class Wish:
 
 @dataclass
 class Done:
-    """What was done to a mesh so that it has a map: the elements that are kept, by their numbers in the file, and how
+    """What was done to a mesh so that it has a map: which corners of its faces are left, None where all are, and how
     many corners, edges and faces were touched."""
 
-    kept: Whole
+    left: Bools | None = None
     told: dict[str, int] = field(default_factory=dict)
 
 
@@ -47,7 +47,7 @@ def make_surface_map(surface: Surface, points: Whole) -> Mapped:
 def map_surface(surface: Surface, points: Whole, wish: Wish) -> tuple[Mapped, Surface, Done]:
     """The map, the surface that it is of, and what was done to the one that was given."""
     check_corners(surface)
-    surface, done = drop_faces(surface, points, wish) if wish.drop else (surface, Done(np.arange(len(surface.sizes))))
+    surface, done = drop_faces(surface, points, wish) if wish.drop else (surface, Done())
     if not len(surface.sizes):
         raise Unfit("it has no faces" + (" that aren't degenerate" if len(done.told) else ""))
     check_size(2 * len(surface.corners))
@@ -195,17 +195,18 @@ def drop_faces(surface: Surface, points: Whole, wish: Wish) -> tuple[Surface, Do
     suspect |= repeated_faces(surface) | (surface.sizes < FEWEST_CORNERS)
     numbers = np.nonzero(suspect)[0].tolist()
     if not numbers:
-        return surface, Done(np.arange(len(surface.sizes)))
+        return surface, Done()
     begins = surface.begins.tolist()
-    mended = {number: mend_face(corners_of(surface, begins, number), points) for number in numbers}
-    gone = [number for number, face in mended.items() if len(face) < FEWEST_CORNERS or
-            (not wish.cut and len(set(face)) < len(face))]
-    less = sum(len(face) < surface.sizes[number] for number, face in mended.items() if number not in set(gone))
-    is_kept = np.ones(len(surface.sizes), bool)
-    is_kept[gone] = False
+    faces_left = {number: mend_face(corners_of(surface, begins, number), points) for number in numbers}
+    is_left, gone, less = np.ones(len(surface.corners), bool), [], 0
+    for number, (places, face) in faces_left.items():
+        is_gone = len(face) < FEWEST_CORNERS or (not wish.cut and len(set(face)) < len(face))
+        gone += [number] if is_gone else []
+        less += not is_gone and len(face) < surface.sizes[number]
+        is_left[begins[number]: begins[number] + surface.sizes[number]] = False
+        is_left[[begins[number] + place for place in places if not is_gone]] = True
     told = {name: count for name, count in (("dropped", len(gone)), ("mended", int(less))) if count}
-    left = replace_faces(surface, {number: face for number, face in mended.items() if is_kept[number]}, is_kept)
-    return left, Done(np.nonzero(is_kept)[0], told)
+    return leave_corners(surface, is_left), Done(is_left, told)
 
 
 def corners_of(surface: Surface, begins: list[int], number: int) -> tuple[int, ...]:
@@ -213,36 +214,31 @@ def corners_of(surface: Surface, begins: list[int], number: int) -> tuple[int, .
     return tuple(surface.corners[begins[number]: begins[number] + int(surface.sizes[number])].tolist())
 
 
-def mend_face(face: tuple[int, ...], points: Whole) -> tuple[int, ...]:
-    """A face without corners that are where the next one is, and without spikes, whose ends are one point."""
-    corners = list(face)
-    place = 0
-    while len(corners) > 1 and place < len(corners):
-        here, after, last = corners[place], corners[(place + 1) % len(corners)], corners[place - 1]
+def mend_face(face: tuple[int, ...], points: Whole) -> tuple[list[int], list[int]]:
+    """The corners of a face that stay, by their places in it and as points: those that are where the next one is are
+    taken out, and so are spikes, whose ends are one point."""
+    places, corners = list(range(len(face))), list(face)
+    at = 0
+    while len(corners) > 1 and at < len(corners):
+        here, after, last = corners[at], corners[(at + 1) % len(corners)], corners[at - 1]
         if here == after or (points[here] == points[after]).all() or (after == last and len(corners) > 2):
-            del corners[place]
-            place = max(0, place - 2)
+            del corners[at], places[at]
+            at = max(0, at - 2)
         else:
-            place += 1
-    return tuple(corners)
+            at += 1
+    return places, corners
 
 
-def replace_faces(surface: Surface, mended: dict[int, tuple[int, ...]], is_kept: Bools) -> Surface:
-    """The surface with some faces in the place of others, and without those that aren't kept."""
-    sizes, begins = surface.sizes.copy(), surface.begins.tolist()
-    is_left = np.repeat(is_kept, sizes)
-    corners = surface.corners.copy()
-    for number, face in mended.items():
-        begin, size = begins[number], int(surface.sizes[number])
-        corners[begin: begin + len(face)] = face
-        is_left[begin + len(face): begin + size] = False
-        sizes[number] = len(face)
-    kept = np.nonzero(is_kept)[0]
+def leave_corners(surface: Surface, is_left: Bools) -> Surface:
+    """The surface with some of its corners alone, and without the faces that have none of them."""
+    faces = np.repeat(np.arange(len(surface.sizes)), surface.sizes)
+    sizes = np.bincount(faces[is_left], minlength=len(surface.sizes))
+    kept = np.flatnonzero(sizes)
     names = kept + surface.first if surface.names is None else np.asarray(surface.names)[kept]
     return replace(
         surface,
-        corners=corners[is_left],
-        sizes=sizes[is_kept],
+        corners=surface.corners[is_left],
+        sizes=sizes[kept],
         names=names,
         lines=None if surface.lines is None else np.asarray(surface.lines)[kept],
         face_colours=None if surface.face_colours is None else surface.face_colours[kept],

@@ -70,7 +70,7 @@ def check_cells(volume: Volume, points: Whole, wish: Wish) -> tuple[Volume, Done
     faults = [(index, find_fault(volume, cell, places)) for index, cell in enumerate(volume.cells)]
     wrong = [(index, fault) for index, fault in faults if fault]
     if not wrong:
-        return volume, Done(np.arange(len(volume.cells)))
+        return volume, Done()
     if not wish.drop:
         index, fault = wrong[0]
         raise Unfit(fault(volume, index, len(wrong)))
@@ -78,7 +78,9 @@ def check_cells(volume: Volume, points: Whole, wish: Wish) -> tuple[Volume, Done
     kept = [index for index in range(len(volume.cells)) if index not in gone]
     names = [volume.names[index] if volume.names is not None else index + volume.first for index in kept]
     left = replace(volume, cells=[volume.cells[index] for index in kept], names=names)
-    return left, Done(np.array(kept, np.int64), {"dropped": len(gone)})
+    is_left = np.repeat([index not in gone for index in range(len(volume.cells))],
+                        [sum(map(len, cell.faces)) for cell in volume.cells])
+    return left, Done(is_left, {"dropped": len(gone)})
 
 
 Fault = Callable[[Volume, int, int], str]
