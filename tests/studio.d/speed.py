@@ -16,7 +16,7 @@ RADII = 100_000, 40_000     # of a torus, and of the circle that it is swept by
 EMBEDS = [Embed("pos", (1, 2), "vec3"), Embed("paint", (0, 1), "rgb")]
 # From here on, what a click does is timed: when it is felt, when the answer is there, when the buffers are as they
 # are to be drawn, and when the picture is drawn, which is waited for; and counted: the bytes of the answer and of the
-# buffers that are sent to the card.
+# buffers that are sent to the card, and the pictures since the click.
 WATCH = """
 const {studio, stage} = gmr, {viewer} = stage, times = window.times = {}, {unwired} = gmr;
 const gl = viewer.renderer.getContext(), pixel = new Uint8Array(4), draw = viewer.drawNow.bind(viewer);
@@ -27,6 +27,7 @@ gmr.unwired = (bytes) => {
   return answer;
 };
 viewer.drawNow = () => {
+  if (times.click && !times.drawn) times.pictures = (times.pictures || 0) + 1;
   if (!times.answer || times.drawn) return draw();
   times.ready = performance.now();
   draw();
@@ -38,7 +39,7 @@ viewer.drawNow = () => {
 class Took(NamedTuple):
     """Seconds from a click: until the answer was there, until all was ready to be drawn, and until it was drawn. Those
     of a processor that the page's own thread and the studio with its program took. The bytes of the answer, and of the
-    buffers that were sent to the card. The calls and the triangles of the picture."""
+    buffers that were sent to the card. The calls and the triangles of the picture, and how many pictures were drawn."""
     answer: float
     ready: float
     drawn: float
@@ -48,6 +49,7 @@ class Took(NamedTuple):
     buffers: int
     calls: int
     triangles: int
+    pictures: int
 
 
 def torus(count: int) -> Map:
@@ -134,11 +136,15 @@ def time_clicks(page: Page) -> dict[str, Took]:
 
 
 def test_a_click_is_seen_soon_in_a_large_map() -> None:
-    """What is sent is what changed, and the processors are busy for no longer than thrice what a user waits at most."""
+    """What is sent is what changed, it is drawn at once, and the processors are busy for no longer than thrice what a
+    user waits at most. While something is done no picture is drawn, but one where that takes long."""
     with open_torus(20_000) as page:
         found = time_clicks(page)
         for name in ("set_point_2d", "triangulate_at_middle"):
             took = found[f"{name}, undone"]
-            assert took.wire < 20_000 and took.buffers < 60_000, (name, took)
+            assert took.wire < 2_000 and took.buffers < 50_000, (name, took)
             assert took.page + took.studio < 0.9, (name, took)
-        assert all(took.calls < 10 for took in found.values()), found
+        for took in (found["each paint_face"], found["each paint_face, undone"]):
+            assert took.wire < 4 * 20_000 and took.buffers < 4 * 20_000, took     # three bytes of a colour
+        assert all(took.calls <= 4 and took.pictures <= 2 for took in found.values()), found
+        assert all(took.triangles < 16_000 for name, took in found.items() if name != "each triangulate_at_middle"), found

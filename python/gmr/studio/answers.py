@@ -49,7 +49,7 @@ def count_darts(text: bytes) -> int:
 
 def told(session: Session, done: Done) -> Json:
     """What came of a wish, with the state and the changes of the map for the viewer."""
-    changes = None if done.rows is None else changes_of(done.rows.gone, done.rows.rows, session.map, pack=bare)
+    changes = None if done.rows is None else changes_of(done.rows, session.map, pack=bare)
     return {"answer": done.lines, "why": done.why, "changes": changes, "state": state_of(session)}
 
 

@@ -1,6 +1,7 @@
 """A session of the studio: the map as it is, its book, its script, and the statements that are done."""
 import tempfile
 import threading
+from concurrent.futures import ThreadPoolExecutor
 from pathlib import Path
 from typing import Any, NamedTuple
 
@@ -10,12 +11,13 @@ from gmr.maps import Map
 from gmr.model.session import Piece
 from gmr.studio.folder import Folder
 from gmr.studio.group import Group, group_text
-from gmr.studio.live import Live, Rows
+from gmr.studio.live import Live
 from gmr.studio.reasons import tell_refusal
 from gmr.studio.requests import Unclear
 from gmr.studio.rulebook import Text, describe_book, text_of
 from gmr.studio.store import BOOK, DRAFT, SCRIPT, START, Store
 from gmr.studio.timeline import Step, Timeline, came_of
+from gmr.view.scene import Differences
 
 Json = dict[str, Any]
 
@@ -24,7 +26,7 @@ class Done(NamedTuple):
     """What came of a wish: the program's lines as they came, why something is refused, and what changed in the map."""
     lines: tuple[str, ...]
     why: list[str]
-    rows: Rows | None
+    rows: Differences | None
 
 
 class Session:
@@ -36,6 +38,7 @@ class Session:
         self.example: dict[str, bytes] = {}
         self.told: list[Json] = []      # the steps as the page knows them
         self.draft, self.drafting = "", threading.Lock()
+        self.saver = ThreadPoolExecutor(1)      # a disk is waited for while a map is read
         self.begin(start, text_of(book))
 
     def begin(self, start: bytes, book: Text) -> None:
@@ -99,19 +102,20 @@ class Session:
                 self.store.write(DRAFT, draft.encode("utf-8"))
                 self.write_facts()
 
-    def _move_to(self, made: Path) -> Rows:
+    def _move_to(self, made: Path) -> Differences:
         """Shows the map of a file."""
         self.shown = made
         self.version += 1
         return self.live.move_to(made.read_bytes())
 
-    def _settle(self, text: str, report: tuple[str, ...], made: Path) -> Rows:
+    def _settle(self, text: str, report: tuple[str, ...], made: Path) -> Differences:
         """Takes a statement up, shows its map, and writes the script."""
         lines = tuple(text.split("\n"))
         self.timeline.keep([Step(text, report, came_of(lines, report), lines)], made)
         self.unsaved.add("script")
+        saving = self.saver.submit(self.write_script)
         rows = self._move_to(self.timeline.present())
-        self.write_script()
+        saving.result()
         return rows
 
     def attempt(self, text: str) -> Done:
@@ -228,7 +232,7 @@ class Session:
         told = [f"{count} lines are refused, and leave the map as it was."] * bool(count)
         return Done(tuple(piece.report), told, rows)
 
-    def _replace(self, steps: list[Step], made: Path) -> Rows:
+    def _replace(self, steps: list[Step], made: Path) -> Differences:
         self.timeline.replace(steps, made)
         self.unsaved.add("script")
         return self._move_to(self.timeline.present())

@@ -7,7 +7,7 @@ STATIC = Path(__file__).parent / "static"
 THREE = Path("/usr/share/javascript/three")
 LIBRARY = ("build/three.min.js", "examples/js/controls/OrbitControls.js")
 SCRIPTS = ("state.js", "groups.js", "colours.js", "polygons.js", "shape.js", "outward.js", "pool.js", "strokes.js",
-           "faces.js", "layers.js", "marks.js", "picture.js", "pick.js", "pointer.js", "eye.js", "viewer.js")
+           "faces.js", "layers.js", "marks.js", "picture.js", "near.js", "pick.js", "pointer.js", "eye.js", "viewer.js")
 
 
 def library() -> str:

@@ -10,18 +10,20 @@ place, see gmr.studio.wire. A scene is
 
 and changes are
 
-    {"gone": packed names, "rows": {"names": packed, "alpha": [packed by label: names], "values": {embedding: packed}},
-     "places": as above, "next": the next name}
+    {"gone": packed names, "fresh": rows of the darts that are new, "rows": rows of those with another neighbour or
+     value, "places": as above, "next": the next name}
 
-where `rows` has a row for each dart that is new or has another neighbour or value."""
+where rows are {"names": packed, "alpha": [packed by label: names], "values": {embedding: packed}}. In "rows" a column
+in which no dart has anything else is null."""
 import base64
-from collections.abc import Callable, Sequence
-from typing import Any
+from collections.abc import Callable, Collection, Sequence
+from functools import reduce
+from typing import Any, NamedTuple
 
 import numpy as np
 
 from gmr.arrays import Arrays, Whole
-from gmr.maps import WIDTHS, Embed, Map
+from gmr.maps import Embed, Map
 from gmr.view.places import lay_out
 
 Json = dict[str, Any]
@@ -42,7 +44,8 @@ def narrowed(numbers: Whole) -> tuple[str, "np.ndarray[Any, Any]"]:
 
 def run_of(numbers: Whole) -> Json | None:
     """A run of at least three numbers in order by its first one; None where the numbers are none."""
-    if len(numbers) > 2 and (numbers[1:] - numbers[:-1] == 1).all():
+    long = len(numbers)
+    if long > 2 and numbers[-1] - numbers[0] == long - 1 and (numbers[1:] - numbers[:-1] == 1).all():
         return {"from": int(numbers[0]), "count": len(numbers)}
     return None
 
@@ -111,42 +114,69 @@ def packed_places(it: Map, labels: Sequence[int], pack: Pack) -> Json:
             "outer": pack(np.array(found.outer, np.int64)), "flat": found.is_flat}
 
 
-def rows_of(it: Arrays) -> Whole:
-    """The rows of a map's darts: their names, those of their neighbours, and their values."""
-    tables = [it.values[embed.name] for embed in it.embeds]
-    return np.concatenate([it.names[:, None], it.names[it.alpha].T, *tables], axis=1)
+class Differences(NamedTuple):
+    """What differs from one map to the next: the names of the darts that went; the rows of the next map that have new
+    darts; those whose darts have another neighbour or value, and the labels and embeddings of which one has another."""
+    gone: Whole
+    fresh: Whole
+    other: Whole
+    labels: Collection[int]
+    embeds: Collection[str]
 
 
-def rows_between(before: Arrays, after: Arrays) -> tuple[Whole, Whole]:
-    """The names of the darts that are gone, and the rows that are new or other ones, from one map to another of the
-    same dimension and embeddings."""
-    gone = np.setdiff1d(before.names, after.names, assume_unique=True)
-    old, rows = rows_of(before), rows_of(after)
-    at = np.minimum(np.searchsorted(before.names, after.names), max(len(old) - 1, 0))
-    is_other = (old[at] != rows).any(axis=1) if len(old) else np.ones(len(rows), bool)
-    return gone, rows[is_other]
+def find_differences(before: Arrays, after: Arrays) -> Differences:
+    """What differs from one map to another of the same dimension and embeddings."""
+    if np.array_equal(before.names, after.names):
+        every, none = np.arange(len(after.names)), np.empty(0, np.int64)
+        return compare_rows(before, after, none, none, (every, every))
+    old = np.minimum(np.searchsorted(before.names, after.names), max(len(before.names) - 1, 0))
+    is_known = before.names[old] == after.names if len(before.names) else np.zeros(len(after.names), bool)
+    is_gone = np.ones(len(before.names), bool)
+    is_gone[old[is_known]] = False
+    return compare_rows(before, after, before.names[is_gone], np.flatnonzero(~is_known),
+                        (old[is_known], np.flatnonzero(is_known)))
+
+
+def compare_rows(before: Arrays, after: Arrays, gone: Whole, fresh: Whole, both: tuple[Whole, Whole]) -> Differences:
+    """What differs where these names went, these rows are new, and these have the same darts in both maps."""
+    old, new = both
+    steps = {label: before.names[one[old]] != after.names[two[new]]
+             for label, (one, two) in enumerate(zip(before.alpha, after.alpha))}
+    values = {embed.name: reduce(np.logical_or, (before.values[embed.name][old] != after.values[embed.name][new]).T)
+              for embed in after.embeds}
+    labels = [label for label, differs in steps.items() if differs.any()]
+    embeds = [name for name, differs in values.items() if differs.any()]
+    is_other = reduce(np.logical_or, [*(steps[label] for label in labels), *(values[name] for name in embeds)],
+                      np.zeros(len(new), bool))
+    return Differences(gone, fresh, new[is_other], labels, embeds)
 
 
 def changes_between(before: Map, after: Map, labels: Sequence[int] | None = None) -> Json:
     """What changes from one map to another of the same dimension and embeddings; ValueError where these differ."""
     if (before.dimension, before.embeds) != (after.dimension, after.embeds):
         raise ValueError("maps of two dimensions, or with other embeddings, have no changes between them")
-    return changes_of(*rows_between(before.arrays(), after.arrays()), after, labels)
+    return changes_of(find_differences(before.arrays(), after.arrays()), after, labels)
 
 
-def changes_of(gone: Whole, rows: Whole, after: Map, labels: Sequence[int] | None = None, pack: Pack = pack) -> Json:
-    """The changes that lead to a map: the names of the darts that are gone, and the rows that are new or other ones, as
-    `rows_of` has them."""
-    chosen = labels_of(after, labels)
-    values, place = {}, after.dimension + 2
-    for one in after.embeds:
-        values[one.name] = pack(rows[:, place:place + WIDTHS[one.kind]].ravel())
-        place += WIDTHS[one.kind]
-    is_laid_out = points_of(after, chosen) is None and bool(len(gone) or len(rows))
+def changes_of(found: Differences, after: Map, labels: Sequence[int] | None = None, pack: Pack = pack) -> Json:
+    """The changes that lead to a map by what differs."""
+    chosen, arrays = labels_of(after, labels), after.arrays()
+    every = range(after.dimension + 1), list(arrays.values)
+    count = len(found.gone) + len(found.fresh) + len(found.other)
     return {
-        "gone": pack(gone),
-        "rows": {"names": pack(rows[:, 0]), "alpha": [pack(rows[:, 1 + label]) for label in range(after.dimension + 1)],
-                 "values": values},
-        "places": packed_places(after, chosen, pack) if is_laid_out else None,
+        "gone": pack(found.gone),
+        "fresh": packed_rows(arrays, found.fresh, *every, pack),
+        "rows": packed_rows(arrays, found.other, found.labels, found.embeds, pack),
+        "places": packed_places(after, chosen, pack) if points_of(after, chosen) is None and count else None,
         "next": after.next,
+    }
+
+
+def packed_rows(it: Arrays, rows: Whole, labels: Collection[int], embeds: Collection[str], pack: Pack) -> Json:
+    """Rows of a map's darts: their names, those of their neighbours along some labels, and their values of some
+    embeddings."""
+    return {
+        "names": pack(it.names[rows]),
+        "alpha": [pack(it.names[step[rows]]) if label in labels else None for label, step in enumerate(it.alpha)],
+        "values": {name: pack(table[rows].ravel()) if name in embeds else None for name, table in it.values.items()},
     }

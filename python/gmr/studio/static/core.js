@@ -2,7 +2,8 @@
 
    studio.state    the script, the names of files and what can be done: see gmr.studio.answers
    studio.book     the book's text and its rules
-   studio.on(name, f), studio.tell(name, ..)   'state', 'book', 'scene', 'changes', 'message', 'choice', 'selection'
+   studio.on(name, f), studio.tell(name, ..)   'asked' (for something that is done), 'state', 'book', 'scene',
+                                               'changes', 'message', 'choice', 'selection'
    studio.ask(action, fields)    asks and gives the answer; what changes something goes through `studio.wish`
    studio.wish(action, fields)   the same, takes what came of it, and shows the program's lines */
 (function (gmr) {
@@ -44,6 +45,7 @@
 
     // Asks for something that is done, and shows what came of it. Wishes wait for each other.
     wish(action, fields) {
+      if (CHANGING.has(action)) studio.tell('asked', action);
       const asked = studio.last.then(() => studio.ask(action, fields)).then((answer) => {
         studio.take(answer);
         return answer;

@@ -5,6 +5,7 @@
 
   const {studio, element, byId} = gmr;
   const MOST_LIT = 8000;
+  const HELD = 250;   // milliseconds that no picture is drawn while something is done: the next one shows what came of it
   const KINDS = ['dart', 'vertex', 'edge', 'face', 'volume'];
 
   class Stage {
@@ -15,11 +16,13 @@
       this.glow = 1800;                // milliseconds that what is new stays lit
       studio.on('scene', (scene) => this.show(scene));
       studio.on('changes', (changes, answer) => this.change(changes, answer));
+      studio.on('asked', () => this.viewer.hold(HELD));
+      studio.on('message', () => this.viewer && this.viewer.release());
     }
 
     // Begins once the page stands, since the viewer needs an element that has a size.
     begin(theme) {
-      this.viewer = new gmr.Viewer(byId('view'), {theme});
+      this.viewer = new gmr.Viewer(byId('view'), {theme, isWayBack: false});
       this.viewer.on('pick', (hit) => studio.tell('pick', hit));
       this.viewer.on('hover', (hit) => this.hover(hit));
       this.makeLooks();
@@ -42,15 +45,16 @@
       this.light(lit, 'new', 'face');
       clearTimeout(this.fading);
       this.fading = setTimeout(() => this.light([], 'new'), this.glow);
+      this.viewer.drawNow();      // before what stands beside it is written
       this.showLooks();
       this.shown();
     }
 
     // Steps back where what is new or changed reaches out of the picture now, without turning.
-    keepInView({fresh, changed}) {
+    keepInView({isMoved, slots}) {
       const {viewer} = this;
       const {camera, controls} = viewer;
-      if (!this.isOutside(fresh) && !this.isOutside(changed)) return;
+      if (!isMoved || !this.isOutside(slots.rows)) return;
       const {middle, far} = viewer.reach();
       const way = camera.position.clone().sub(controls.target);
       if (way.length() > 1.6 * far) return;
@@ -62,15 +66,22 @@
       viewer.draw();
     }
 
-    // Whether a corner of some darts is drawn outside the picture.
-    isOutside(darts) {
-      const {shape, camera, state} = this.viewer;
+    // Whether a corner of some darts, by their slots, is drawn outside the picture.
+    isOutside(slots) {
+      const {camera, shape: {vertex}} = this.viewer;
       camera.updateMatrixWorld();
-      const place = new THREE.Vector3();
-      return darts.some((dart) => {
-        place.fromArray(shape.vertex, 3 * state.indexOf(dart)).project(camera);
-        return Math.max(Math.abs(place.x), Math.abs(place.y)) > 0.99;
-      });
+      camera.matrixWorldInverse.getInverse(camera.matrixWorld);
+      const m = new THREE.Matrix4().multiplyMatrices(camera.projectionMatrix, camera.matrixWorldInverse).elements;
+      for (let at = 0; at < slots.length; at += 1) {
+        const from = 3 * slots[at];
+        const x = vertex[from];
+        const y = vertex[from + 1];
+        const z = vertex[from + 2];
+        const most = 0.99 * (m[3] * x + m[7] * y + m[11] * z + m[15]);
+        if (Math.abs(m[0] * x + m[4] * y + m[8] * z + m[12]) > most) return true;
+        if (Math.abs(m[1] * x + m[5] * y + m[9] * z + m[13]) > most) return true;
+      }
+      return false;
     }
 
     shown() { studio.tell('shown'); }
@@ -119,14 +130,8 @@
     // The darts of an orbit, or the dart alone where it has very many.
     orbitOf(dart, labels) {
       const {state} = this.viewer;
-      const orbits = state.orbits(labels);
-      if (!orbits.sizes) {
-        orbits.sizes = new Int32Array(orbits.count);
-        for (const orbit of orbits.of) if (orbit >= 0) orbits.sizes[orbit] += 1;
-      }
-      const at = state.indexOf(dart);
-      if (orbits.sizes[orbits.of[at]] > MOST_LIT) return [dart];
-      return state.walk(labels, at).map((one) => state.names[one]);
+      const found = state.walk(labels, state.indexOf(dart), MOST_LIT);
+      return found.length > MOST_LIT ? [dart] : found.map((one) => state.names[one]);
     }
 
     // Which kind of cell an orbit over labels looks like.

@@ -7,7 +7,8 @@
       this.shape = shape;
       this.tints = tints;
       this.polygon = new gmr.Polygon();
-      this.layout = {position: [3, Float32Array], normal: [3, Float32Array], colour: [3, Uint8Array, true], id: [1, Float32Array]};
+      this.layout = {position: [3, Float32Array], normal: [3, Float32Array], colour: [3, Uint8Array, true],
+        id: [1, Int32Array, false, true], dart: [1, Int32Array, false, true]};   // the last two are for what is pointed at
       if (shape.isSpread) this.layout.drift = [3, Float32Array];
       this.pool = new gmr.Pool(this.layout);
     }
@@ -16,8 +17,36 @@
     renew(gone, groups) {
       for (const slot of gone) this.pool.drop(slot);
       const {list, begins, count} = groups;
+      this.pool.reserve(Math.max(0, 3 * (list.length / 2 - 2 * count)));     // as many as polygons on a plane have
       for (const slot of list) this.pool.drop(slot);
       for (let group = 0; group < count; group += 1) this.write(list[begins[group]]);
+    }
+
+    // Writes the colours of faces anew, by the darts that lead them.
+    recolour(leads) {
+      const {begins, sizes, dart, colour} = this.pool;
+      for (const lead of leads) {
+        const begin = (begins[lead] || 0) - 1;
+        if (begin < 0) continue;
+        const end = begin + sizes[lead];
+        for (let at = begin; at < end; at += 1) if (dart[at] >= 0) this.tint(colour, at, dart[at]);
+        if (dart[begin + 2] < 0) this.tintMiddle(begin, end);
+        this.pool.paint(begin, end);
+      }
+    }
+
+    tint(colour, at, dart) {
+      for (let part = 0; part < 3; part += 1) colour[3 * at + part] = this.tints.of(dart, part);
+    }
+
+    // Gives the middle of a round face the mean of the colours of its corners.
+    tintMiddle(begin, end) {
+      const {colour} = this.pool;
+      for (let part = 0; part < 3; part += 1) {
+        let sum = 0;
+        for (let at = begin; at < end; at += 3) sum += colour[3 * at + part];
+        for (let at = begin; at < end; at += 3) colour[3 * at + 6 + part] = sum / ((end - begin) / 3);
+      }
     }
 
     write(lead) {
@@ -45,22 +74,16 @@
 
     // Triangles round the middle, whose colour is the mean of those of the corners.
     round(lead) {
-      const {polygon} = this;
-      const {size, darts} = polygon;
+      const {size} = this.polygon;
       const middle = this.shape.middleOf(lead);
-      const tint = [0, 1, 2].map((part) => {
-        let sum = 0;
-        for (let at = 0; at < size; at += 1) sum += this.tints.of(darts[at], part);
-        return sum / size;
-      });
-      let to = this.pool.put(lead, 3 * size);
-      for (let at = 0; at < size; at += 1) {
+      const begin = this.pool.put(lead, 3 * size);
+      for (let at = 0, to = begin; at < size; at += 1, to += 3) {
         this.corner(to, lead, at);
         this.corner(to + 1, lead, at + 1 === size ? 0 : at + 1);
         this.put(to + 2, lead, lead, ...middle);
-        for (let part = 0; part < 3; part += 1) this.pool.colour[3 * to + 6 + part] = tint[part];
-        to += 3;
+        this.pool.dart[to + 2] = -1;
       }
+      this.tintMiddle(begin, begin + 3 * size);
     }
 
     // Triangles that are cut off one by one.
@@ -74,10 +97,7 @@
       const {places, darts} = this.polygon;
       const dart = darts[at];
       this.put(to, lead, dart, places[3 * at], places[3 * at + 1], places[3 * at + 2]);
-      const {colour} = this.pool;
-      colour[3 * to] = this.tints.of(dart, 0);
-      colour[3 * to + 1] = this.tints.of(dart, 1);
-      colour[3 * to + 2] = this.tints.of(dart, 2);
+      this.tint(this.pool.colour, to, dart);
     }
 
     put(to, lead, dart, x, y, z) {
@@ -91,6 +111,7 @@
       normal[at + 1] = way[1];
       normal[at + 2] = way[2];
       id[to] = lead;
+      this.pool.dart[to] = dart;
       if (drift) this.shape.drift(dart, position, at, drift, at);
     }
   }

@@ -27,6 +27,7 @@
       for (const slot of gone) this.pool.drop(slot);
       const keys = this.keys(groups.list);
       for (const slot of keys.all) this.pool.drop(slot);
+      this.pool.reserve(keys.leads.length);
       for (const slot of keys.leads) this.write(slot);
     }
 
@@ -58,7 +59,7 @@
 
   // The edges: one stroke an edge of each volume, or two where they are bent.
   class Edges extends Layer {
-    constructor(shape, theme) { super(shape, STROKE, gmr.STROKE_CORNERS, theme.edge); }
+    constructor(shape, theme) { super(shape, STROKE, gmr.SHAFT, theme.edge); }
 
     keys(list) {
       const [zero, , two] = this.shape.steps;
@@ -101,7 +102,7 @@
   // The darts: a short arrow each, from its vertex to the middle of its edge.
   class Darts extends Layer {
     constructor(shape, inset, tints, theme) {
-      super(shape, {...STROKE, outward: [3, Float32Array]}, gmr.STROKE_CORNERS, theme.dart);
+      super(shape, {...STROKE, outward: [3, Float32Array]}, gmr.ARROW, theme.dart);
       this.inset = inset;
       this.tints = tints;
       this.ends = new Float32Array(6);
@@ -127,7 +128,7 @@
   // each of the two has its own half.
   class Links extends Layer {
     constructor(shape, inset, label, theme) {
-      super(shape, {...STROKE, outward: [3, Float32Array]}, gmr.STROKE_CORNERS, theme.labels[label]);
+      super(shape, {...STROKE, outward: [3, Float32Array]}, gmr.SHAFT, theme.labels[label]);
       Object.assign(this, {inset, label, role: shape.roleLabels.indexOf(label)});
       this.share = this.role >= 0 ? LINKED[this.role] : 0.7;
     }

@@ -14,7 +14,7 @@
     const attributes = {begin: [parts(marks, 'places', from), 3], end: [parts(marks, 'places', to), 3],
       drift: [parts(marks, 'moved', from), 3], drift2: [parts(marks, 'moved', to), 3],
       colour: [gmr.layers.filled(marks.length, colour), 3, true]};
-    return {kind: 'strokes', geometry: gmr.geometryOf(attributes, gmr.STROKE_CORNERS), own};
+    return {kind: 'strokes', geometry: gmr.geometryOf(attributes, gmr.ARROW), own};
   }
 
   function points(marks, colour) {

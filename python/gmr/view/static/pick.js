@@ -1,68 +1,50 @@
-// What lies under the pointer: the layers are drawn once more, a few pixels of them, with numbers in place of colours.
+// What lies under the pointer: of the strokes and points that are near it the one that counts most, or the face.
 (function (gmr) {
   'use strict';
 
-  const REACH = 4; // pixels on each side of the pointer that are looked at
-  const SIDE = 2 * REACH + 1;
-  const KINDS = {face: 1, dart: 2, edge: 3, vertex: 4};
-  const NAMES = Object.fromEntries(Object.entries(KINDS).map(([name, number]) => [number, name]));
+  const REACH = 4.5; // pixels round the pointer that are looked at
+  const RANKS = {darts: ['dart', 0], points: ['vertex', 10], edges: ['edge', 20]};
 
   class Picker {
     constructor(viewer) {
       this.viewer = viewer;
-      this.target = new THREE.WebGLRenderTarget(SIDE, SIDE, {minFilter: THREE.NearestFilter, magFilter: THREE.NearestFilter});
-      this.pixels = new Uint8Array(4 * SIDE * SIDE);
     }
 
-    // Draws the pixels round a place.
-    draw(x, y) {
-      const {renderer, camera, scene, shared} = this.viewer;
-      const {clientWidth, clientHeight} = renderer.domElement;
-      const size = shared.size.value.clone();
-      camera.setViewOffset(clientWidth, clientHeight, x - REACH - 0.5, y - REACH - 0.5, SIDE, SIDE);
-      camera.updateProjectionMatrix();
-      shared.size.value.set(SIDE / 2, SIDE / 2);
-      shared.isPick.value = 1;
-      const pixels = shared.pixels.value;
-      shared.pixels.value = 1;
-      const hidden = scene.children.filter((layer) => layer.visible && !layer.userData.pick);
-      hidden.forEach((layer) => { layer.visible = false; });
-      renderer.setRenderTarget(this.target);
-      renderer.setClearColor(0x000000, 0);
-      renderer.clear();
-      renderer.render(scene, camera);
-      renderer.readRenderTargetPixels(this.target, 0, 0, SIDE, SIDE, this.pixels);
-      renderer.setRenderTarget(null);
-      renderer.setClearColor(this.viewer.theme.back, 1);
-      hidden.forEach((layer) => { layer.visible = true; });
-      shared.isPick.value = 0;
-      shared.pixels.value = pixels;
-      shared.size.value.copy(size);
-      camera.clearViewOffset();
-      camera.updateProjectionMatrix();
+    // The layers that are seen, by their names, each with the uniforms that say how it is drawn.
+    layer(name) {
+      const {meshes, layers} = this.viewer.picture;
+      const mesh = meshes.get(name);
+      if (!mesh || !mesh.visible || !layers.has(name)) return null;
+      const {uniforms} = mesh.material;
+      const drawn = Object.fromEntries(['width', 'head', 'least', 'lift'].map((word) => [word, uniforms[word] ? uniforms[word].value : 0]));
+      return {pool: layers.get(name).pool, drawn};
     }
 
-    // The nearest thing to the middle of what was drawn: strokes and points first, then faces.
-    nearest() {
-      let best = null;
-      for (let at = 0; at < SIDE * SIDE; at += 1) {
-        const [high, middle, low, kind] = this.pixels.subarray(4 * at, 4 * at + 4);
-        if (!kind) continue;
-        const far = Math.hypot((at % SIDE) - REACH, Math.floor(at / SIDE) - REACH);
-        if (kind === KINDS.face && far > 0) continue;
-        const rank = far + {[KINDS.face]: 100, [KINDS.edge]: 20, [KINDS.vertex]: 10}[kind] || far;
-        if (!best || rank < best.rank) best = {rank, kind: NAMES[kind], index: high * 65536 + middle * 256 + low};
+    // The nearest thing to a place that isn't hidden: strokes and points first, then the face.
+    nearest(x, y) {
+      const near = new gmr.Near(this.viewer, x, y, REACH);
+      const faces = this.layer('faces');
+      if (faces) near.takeFaces(faces.pool);
+      const found = [];
+      for (const [name, [kind, rank]] of Object.entries(RANKS)) {
+        const layer = this.layer(name);
+        if (!layer) continue;
+        const hits = kind === 'vertex' ? near.points(layer.pool, layer.drawn) : near.strokes(layer.pool, layer.drawn);
+        for (const hit of hits) found.push({...hit, kind, rank: rank + hit.far});
       }
-      return best;
+      found.sort((one, two) => one.rank - two.rank || one.depth - two.depth);
+      const seen = found.find((hit) => !near.isHidden(hit.x, hit.y, hit.depth));
+      if (seen) return seen;
+      const face = near.faceAt(0, 0);
+      return face && {kind: 'face', index: face.index};
     }
 
     // The dart at a place of the picture, by its place among the darts, with what was hit and where; or null.
     at(x, y) {
       const {shape} = this.viewer;
       if (!shape || !shape.count) return null;
-      this.draw(x, y);
-      const hit = this.nearest();
-      if (!hit || this.viewer.state.names[hit.index] === undefined || this.viewer.state.names[hit.index] < 0) return null;
+      const hit = this.nearest(x, y);
+      if (!hit) return null;
       const ray = this.ray(x, y);
       if (hit.kind === 'face') return this.inFace(hit.index, ray);
       if (hit.kind === 'edge') return this.onEdge(hit.index, ray);
@@ -114,8 +96,6 @@
         ...nearestOnStroke(ray, this.placed(one, shape.vertex), this.placed(one, shape.edge))}));
       return halves[1].far < halves[0].far ? halves[1] : halves[0];
     }
-
-    destroy() { this.target.dispose(); }
   }
 
   // Where a ray is nearest to a segment, and how far it is there.
@@ -125,5 +105,5 @@
     return {point, far};
   }
 
-  Object.assign(gmr, {Picker, KINDS});
+  gmr.Picker = Picker;
 }(window.gmr = window.gmr || {}));

@@ -3,7 +3,6 @@
   'use strict';
 
   const ORDER = {faces: 0, edges: 1, points: 2, links: 3, darts: 4, names: 8};
-  const KINDS = {faces: 'face', edges: 'edge', points: 'vertex', darts: 'dart'};     // what is pointed at in a layer
   const DRAWN_AS = {faces: 'faces', points: 'points', names: 'names'};
 
   class Picture {
@@ -77,8 +76,6 @@
           links: {lift: 8e-5, dash: gmr.dashOf(label), least: 3}, faces: {},
           names: {width: 13, digits: gmr.digitsTexture(), ink: new THREE.Color(), rim: new THREE.Color(), lift: 2e-4}}[sort];
         const made = gmr.meshOf(kind, new THREE.BufferGeometry(), gmr.materials[kind](this.viewer.shared, own), ORDER[sort]);
-        Object.assign(made.userData, {kind: KINDS[sort], pick: sort in KINDS});
-        made.material.uniforms.kind.value = gmr.KINDS[KINDS[sort]] || 0;
         this.meshes.set(name, made);
         this.viewer.scene.add(made);
       }
@@ -104,15 +101,30 @@
     }
 
     // Takes up what a change of the shape touched; layers that aren't seen are forgotten.
-    renew({gone, faces}) {
+    renew({gone, rows, faces}) {
       this.forget((name) => !this.meshes.get(name).visible);
       if (!this.tints.renew()) {
         this.tints = null;
         this.forget((name) => name === 'faces' || name === 'darts');
       }
-      for (const layer of this.layers.values()) layer.renew(gone, faces);
+      if (faces) for (const layer of this.layers.values()) layer.renew(gone, faces);
+      else if (this.layers.has('faces')) this.layers.get('faces').recolour(this.leadsOf(rows));
       this.forget((name) => this.layers.get(name).pool.isLoose);
       this.show();
+    }
+
+    // The darts that lead the faces of some darts, each once.
+    leadsOf(slots) {
+      const {shape: {face}, viewer: {state}} = this;
+      const stamp = state.newStamp();
+      const found = new Int32Array(slots.length);
+      let top = 0;
+      for (let at = 0; at < slots.length; at += 1) {
+        const lead = face[slots[at]];
+        if (state.seen[lead] !== stamp) found[top++] = lead;
+        state.seen[lead] = stamp;
+      }
+      return found.subarray(0, top);
     }
 
     // Sends what was written since the last picture, and says how many bytes that is.
@@ -136,7 +148,7 @@
           const key = `${kind} ${JSON.stringify(own)}`;
           if (!this.marks.has(key)) this.marks.set(key, gmr.materials[kind](this.viewer.shared, own));
           const mesh = gmr.meshOf(kind, geometry, this.marks.get(key), order);
-          Object.assign(mesh.userData, {style, pick: false});
+          mesh.userData.style = style;
           this.viewer.scene.add(mesh);
         }
       }

@@ -82,9 +82,10 @@
       this.steps = [0, 1, 2].map((role) => (role < state.roles.length ? state.alpha[state.roles[role]] : this.self));
     }
 
-    // Takes up what `State.apply` found. Gives the slots of darts that went, and the faces that are other ones; null
-    // where all is to be made anew.
-    renew({slots: {gone, rows}, isSewn}) {
+    // Takes up what `State.apply` found. Gives the slots of darts that went, and the faces that are other ones; where
+    // none is, the slots of the darts that have other values alone; null where all is to be made anew.
+    renew({slots: {gone, rows}, isSewn, isMoved}) {
+      if (!isSewn && !isMoved) return {gone, rows, faces: null};
       const hadSpread = this.isSpread;
       this.ways = null;
       this.makeRoom();
@@ -96,7 +97,7 @@
       if (this.isSpread !== hadSpread) return null;
       const faces = gmr.gather(this.state, this.steps.slice(0, 2), volumes && this.needsVolumes() ? volumes.list : rows);
       this.renewFaces(faces);
-      return {gone, faces};
+      return {gone, rows, faces};
     }
 
     // Whether something that is drawn moves or hides with its volume.

@@ -139,11 +139,11 @@
       return this.stamp;
     }
 
-    // The slots of an orbit, in the order of a walk from one of them.
-    walk(labels, first) {
+    // The slots of an orbit, in the order of a walk from one of them; where it has more than `most`, about so many.
+    walk(labels, first, most = Infinity) {
       const [found, stamp, {seen}] = [[first], this.newStamp(), this];
       seen[first] = stamp;
-      for (let at = 0; at < found.length; at += 1) {
+      for (let at = 0; at < found.length && found.length <= most; at += 1) {
         for (const label of labels) {
           const near = this.alpha[label][found[at]];
           if (seen[near] !== stamp) {
@@ -162,23 +162,29 @@
       return embed.width === 1 ? held[0] : held;
     }
 
-    // The rows of darts by names: what `rows` of changes hold of them.
-    rowsOf(slots) {
+    // Rows of darts by names, as changes hold them: of all columns, or of those that other rows have.
+    rowsOf(slots, like) {
       const values = {};
       for (const embed of this.embeds) {
-        const {width} = embed;
-        const made = new embed.values.constructor(slots.length * width);
-        for (let at = 0; at < slots.length; at += 1) {
-          for (let part = 0; part < width; part += 1) made[at * width + part] = embed.values[slots[at] * width + part];
-        }
-        values[embed.name] = made;
+        values[embed.name] = !like || like.values[embed.name] ? this.valuesOf(embed, slots) : null;
       }
-      const named = (step) => {
-        const made = new Int32Array(slots.length);
-        for (let at = 0; at < made.length; at += 1) made[at] = this.names[step ? step[slots[at]] : slots[at]];
-        return made;
-      };
-      return {names: named(null), values, alpha: this.alpha.map(named)};
+      const alpha = this.alpha.map((step, label) => (!like || like.alpha[label] ? this.namesOf(slots, step) : null));
+      return {names: this.namesOf(slots, null), values, alpha};
+    }
+
+    valuesOf({values, width}, slots) {
+      const made = new values.constructor(slots.length * width);
+      for (let at = 0; at < slots.length; at += 1) {
+        for (let part = 0; part < width; part += 1) made[at * width + part] = values[slots[at] * width + part];
+      }
+      return made;
+    }
+
+    // The names of darts, or of those to which a step leads from them.
+    namesOf(slots, step) {
+      const made = new Int32Array(slots.length);
+      for (let at = 0; at < made.length; at += 1) made[at] = this.names[step ? step[slots[at]] : slots[at]];
+      return made;
     }
 
     // The slots of darts by their names.
@@ -188,24 +194,36 @@
       return made;
     }
 
-    // Applies changes. Gives the names that are new, gone and changed, and the changes that lead back; `slots` has
-    // those of the darts that went, and of the new and changed ones, and `isSewn` whether a neighbour is another one.
-    apply(changes) {
-      const names = unpack(changes.rows.names);
-      const gone = Array.from(unpack(changes.gone));
-      const [fresh, changed] = [[], []];
-      for (const name of names) (this.indexOf(name) < 0 ? fresh : changed).push(name);
-      const left = this.slotsOf(gone);
-      const undo = {gone: fresh, rows: this.rowsOf(this.slotsOf([...gone, ...changed])), places: this.places, next: this.next};
+    // Applies changes. Gives the names that are new, gone and changed, and where that is wanted the changes that lead
+    // back; `slots` has those of the darts that went, and of the new and changed ones. `isSewn` tells whether a
+    // neighbour is another one, and `isMoved` whether a point is.
+    apply(changes, isWayBack) {
+      const [gone, fresh, changed] = [changes.gone, changes.fresh.names, changes.rows.names].map(unpack);
+      const [left, held] = [this.slotsOf(gone), this.slotsOf(changed)];
+      const undo = isWayBack ? {gone: fresh, fresh: this.rowsOf(left), rows: this.rowsOf(held, changes.rows), places: this.places, next: this.next} : null;
       for (const slot of left) this.release(slot);
       this.next = changes.next;
-      for (const name of fresh) this.take(name);
-      const rows = this.slotsOf(names);
-      const isSewn = this.writeSteps(rows, changes.rows.alpha.map(unpack)) || gone.length > 0 || fresh.length > 0;
-      for (const embed of this.embeds) this.writeValues(embed, rows, unpack(changes.rows.values[embed.name]));
+      const added = this.takeAll(fresh);
+      this.writeRows(added, changes.fresh);
+      this.writeRows(held, changes.rows);
       this.places = changes.places || (this.points ? null : this.places);
-      this.found.clear();
-      return {fresh, gone, changed, undo, isSewn, slots: {gone: left, rows}};
+      const isOther = gone.length > 0 || fresh.length > 0;
+      const isSewn = isOther || changes.rows.alpha.some(Boolean);
+      if (isSewn) this.found.clear();
+      const rows = new Int32Array(added.length + held.length);
+      rows.set(added);
+      rows.set(held, added.length);
+      const isMoved = isOther || Boolean(changes.places || changes.rows.values[this.points]);
+      return {fresh, gone, changed, undo, isSewn, isMoved, slots: {gone: left, rows}};
+    }
+
+    // Gives darts slots.
+    takeAll(names) {
+      const made = new Int32Array(names.length);
+      const room = this.top + names.length - this.free.length;
+      if (room > this.names.length) this.makeRoom(Math.ceil(1.25 * room) + 64);
+      for (let at = 0; at < made.length; at += 1) made[at] = this.take(names[at]);
+      return made;
     }
 
     release(slot) {
@@ -223,6 +241,7 @@
       this.names[slot] = name;
       this.slots[name] = slot + 1;
       this.count += 1;
+      return slot;
     }
 
     makeRoom(room) {
@@ -231,18 +250,18 @@
       for (const embed of this.embeds) embed.values = grown(embed.values, room * embed.width);
     }
 
-    // Writes the neighbours of rows, by names. Gives whether one is another than before.
-    writeSteps(rows, alpha) {
-      let isSewn = false;
+    // Writes rows at slots: the columns that they have.
+    writeRows(slots, {alpha, values}) {
+      if (!slots.length) return;
       alpha.forEach((column, label) => {
-        const step = this.alpha[label];
-        for (let at = 0; at < rows.length; at += 1) {
-          const near = this.slots[column[at]] - 1;
-          if (step[rows[at]] !== near) isSewn = true;
-          step[rows[at]] = near;
-        }
+        if (column) this.writeStep(this.alpha[label], slots, unpack(column));
       });
-      return isSewn;
+      for (const embed of this.embeds) if (values[embed.name]) this.writeValues(embed, slots, unpack(values[embed.name]));
+    }
+
+    writeStep(step, rows, column) {
+      const {slots} = this;
+      for (let at = 0; at < rows.length; at += 1) step[rows[at]] = slots[column[at]] - 1;
     }
 
     writeValues(embed, rows, column) {

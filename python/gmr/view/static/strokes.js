@@ -4,7 +4,7 @@
 
   const COMMON = `
     uniform float apart; uniform float lift; uniform vec2 size; uniform float isSolid;
-    varying vec3 world; varying vec3 tint; varying float mark;
+    varying vec3 world; varying vec3 tint;
     vec4 placed(vec3 at, vec3 by) {
       vec3 there = at + apart * by;
       world = there;
@@ -14,14 +14,9 @@
       return isSolid > 0.5 && dot(outward, cameraPosition - at) < -1e-4;
     }`;
   const CUT = `
-    uniform vec4 plane; uniform float isPick; uniform float kind; uniform float fade;
-    varying vec3 world; varying vec3 tint; varying float mark;
-    void cutAway() { if (dot(world, plane.xyz) > plane.w) discard; }
-    vec4 named() {
-      float number = floor(mark + 0.5);
-      float high = floor(number / 65536.0), middle = floor((number - high * 65536.0) / 256.0);
-      return vec4(high, middle, number - high * 65536.0 - middle * 256.0, kind) / 255.0;
-    }`;
+    uniform vec4 plane; uniform float fade;
+    varying vec3 world; varying vec3 tint;
+    void cutAway() { if (dot(world, plane.xyz) > plane.w) discard; }`;
 
   // A stroke is a quad along two places, with the head of an arrow where `head` is more than 0: all in pixels.
   const STROKE = `
@@ -44,7 +39,7 @@
       there.xy += moved / size * there.w;
       there.z -= lift * there.w;
       world = mix(begin + apart * drift, end + apart * drift2, share);
-      along = at * reach; tint = colour; mark = id;
+      along = at * reach; tint = colour;
       gl_Position = id < 0.0 || turnedAway(outward, world) ? vec4(2.0, 2.0, 2.0, 1.0) : there;
     }`;
   const STROKE_COLOUR = `
@@ -52,17 +47,17 @@
     ${CUT}
     void main() {
       cutAway();
-      if (dash > 0.0 && mod(along, 2.0 * dash) > 1.2 * dash && isPick < 0.5) discard;
-      gl_FragColor = isPick > 0.5 ? named() : vec4(tint, fade);
+      if (dash > 0.0 && mod(along, 2.0 * dash) > 1.2 * dash) discard;
+      gl_FragColor = vec4(tint, fade);
     }`;
   const FACE = `
-    attribute vec3 drift; attribute vec3 colour; attribute float id;
+    attribute vec3 drift; attribute vec3 colour;
     varying vec3 way; varying vec3 seen;
     ${COMMON}
     void main() {
       gl_Position = placed(position, drift);
       gl_Position.z -= lift * gl_Position.w;
-      way = normalMatrix * normal; seen = (modelViewMatrix * vec4(world, 1.0)).xyz; tint = colour; mark = id;
+      way = normalMatrix * normal; seen = (modelViewMatrix * vec4(world, 1.0)).xyz; tint = colour;
     }`;
   const FACE_COLOUR = `
     uniform float shade; uniform vec3 pale; uniform float paleness; varying vec3 way; varying vec3 seen;
@@ -72,7 +67,7 @@
       vec3 turned = normalize(way);
       if (dot(turned, seen) > 0.0) turned = -turned;
       float light = shade + (1.0 - shade) * (0.55 * max(0.0, dot(turned, normalize(vec3(-0.4, 0.55, 0.73)))) + 0.45 * max(0.0, turned.z));
-      gl_FragColor = isPick > 0.5 ? named() : vec4(mix(tint, pale, paleness) * light, fade);
+      gl_FragColor = vec4(mix(tint, pale, paleness) * light, fade);
     }`;
   const POINT = `
     attribute vec3 drift; attribute vec3 colour; attribute float id;
@@ -83,14 +78,14 @@
       gl_Position.z -= lift * gl_Position.w;
       gl_PointSize = width * pixels;
       if (id < 0.0) gl_Position = vec4(2.0, 2.0, 2.0, 1.0);
-      tint = colour; mark = id;
+      tint = colour;
     }`;
   const POINT_COLOUR = `
     ${CUT}
     void main() {
       cutAway();
       if (length(gl_PointCoord - 0.5) > 0.5) discard;
-      gl_FragColor = isPick > 0.5 ? named() : vec4(tint, fade);
+      gl_FragColor = vec4(tint, fade);
     }`;
   // A name is a row of digits, each a quad of the picture of all digits, beside a place on the side of its face.
   const NAME = `
@@ -131,30 +126,27 @@
 
   // A material over what all share: how far apart, how large the picture is, and where it is cut.
   function material(shared, vertexShader, fragmentShader, own, options) {
-    const uniforms = {lift: {value: 0}, fade: {value: 1}, kind: {value: 0}, ...shared};
+    const uniforms = {lift: {value: 0}, fade: {value: 1}, ...shared};
     Object.entries(own || {}).forEach(([name, value]) => { uniforms[name] = {value}; });
     const made = new THREE.ShaderMaterial({uniforms, vertexShader, fragmentShader, side: THREE.DoubleSide, ...options});
     made.defaultAttributeValues = ABSENT;
     return made;
   }
 
-  // The quad of a stroke and the head of its arrow: x along, y across, z 0 for the shaft, 1 the head's base, 2 its tip.
-  const STROKE_CORNERS = new Float32Array([0, -1, 0, 1, -1, 0, 1, 1, 0, 0, -1, 0, 1, 1, 0, 0, 1, 0, 1, -1, 1, 1, 0, 2, 1, 1, 1]);
-  const QUAD = new Float32Array([-0.5, -0.5, 0, 0.5, -0.5, 0, 0.5, 0.5, 0, -0.5, -0.5, 0, 0.5, 0.5, 0, -0.5, 0.5, 0]);
+  // The quad of a stroke, and with the head of its arrow: x along, y across, z 0 for the shaft, 1 the head's base, 2 its
+  // tip. The quad of a digit.
+  const SHAFT = {at: [0, -1, 0, 1, -1, 0, 1, 1, 0, 0, 1, 0], index: [0, 1, 2, 0, 2, 3]};
+  const ARROW = {at: [...SHAFT.at, 1, -1, 1, 1, 0, 2, 1, 1, 1], index: [...SHAFT.index, 4, 5, 6]};
+  const QUAD = {at: [-0.5, -0.5, 0, 0.5, -0.5, 0, 0.5, 0.5, 0, -0.5, 0.5, 0], index: [0, 1, 2, 0, 2, 3]};
 
-  // The geometry of things that are drawn once; with corners each is an instance of them.
+  // The geometry of things that are drawn once; with corners each is drawn at all of them.
   function geometryOf(attributes, corners) {
-    const Attribute = corners ? THREE.InstancedBufferAttribute : THREE.BufferAttribute;
-    const geometry = corners ? new THREE.InstancedBufferGeometry() : new THREE.BufferGeometry();
-    if (corners) geometry.addAttribute('position', new THREE.BufferAttribute(corners, 3));
-    Object.entries(attributes).forEach(([name, [array, width, isColour]]) => {
-      geometry.addAttribute(name, new Attribute(array, width, Boolean(isColour)));
-    });
-    if (corners) {
-      const [array, width] = Object.values(attributes)[0];
-      geometry.maxInstancedCount = array.length / width;
-    }
-    return geometry;
+    const layout = Object.entries(attributes).map(([name, [array, width, isColour]]) => [name, [width, array.constructor, isColour]]);
+    const [first, width] = Object.values(attributes)[0];
+    const pool = new gmr.Pool(Object.fromEntries(layout), corners, first.length / width);
+    pool.top = pool.room;
+    for (const [name, [array]] of Object.entries(attributes)) pool[name] = array;
+    return pool.geometry();
   }
 
   // The materials of each kind of thing, with uniforms of their own.
@@ -201,5 +193,5 @@
     return texture;
   }
 
-  Object.assign(gmr, {materials, geometryOf, meshOf, digitsTexture, STROKE_CORNERS, QUAD});
+  Object.assign(gmr, {materials, geometryOf, meshOf, digitsTexture, SHAFT, ARROW, QUAD});
 }(window.gmr = window.gmr || {}));

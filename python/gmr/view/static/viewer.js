@@ -6,7 +6,8 @@
    v.show(scene)          shows a scene of gmr.view.scene from a view that fits it
    v.update(changes, isPassed)  applies changes of gmr.view.scene, and keeps the view. Gives {fresh, gone, changed, undo}:
                           names of darts, and the changes that lead back. What is gone can still be lit, where it was.
-                          Where isPassed is true, nothing is drawn: more changes come at once, or v.settle()
+                          Where isPassed is true, nothing is drawn: more changes come at once, or v.settle(). Without
+                          the option isWayBack there is no undo, and what is gone can't be lit.
    v.fit()                turns back to the first view, and fits it
    v.set({..})            sets some of: apart (0 to 1), cut (null, or {axis: 'x', 'y' or 'z', at: 0 to 1, flip}),
                           darts, faces, edges, points, names (true, false, or 'auto' by the number of darts),
@@ -25,6 +26,7 @@
    v.state                the map that is shown (state.js): names, alpha, embeds, walk, indexOf
    v.calls                how many calls the last picture took, v.triangles how many triangles, and v.sent how many bytes
                           of buffers were sent for it
+   v.hold(time)           draws nothing for so many milliseconds, or until the next update
    v.destroy()            takes everything away
 
    Darts are told by their names. Keys, where the canvas has the focus: arrows turn, shift and arrows move, + and - come
@@ -37,9 +39,18 @@
   const CELLS = ['vertex', 'edge', 'face', 'volume'];
   const MANY = ['vertices', 'edges', 'faces', 'volumes'];
   const DEFAULTS = {apart: 0, cut: null, faces: true, edges: 'auto', points: 'auto', darts: 'auto', names: 'auto',
-    links: 'auto', colourBy: 'auto'};
+    links: 'auto', colourBy: 'auto', isWayBack: true};
   const dashOf = (label) => [0, 0, 0, 3, 5, 2, 7, 4][label]; // pixels of a dash: labels differ without colours too
   const nameOfCell = (dimension) => CELLS[dimension] || `cell of dimension ${dimension}`;
+
+  // Whether WebGL is drawn by the processor: the names of what draws so.
+  function isDrawnBySoftware() {
+    const gl = document.createElement('canvas').getContext('webgl');
+    const told = gl && gl.getExtension('WEBGL_debug_renderer_info');
+    const name = told ? gl.getParameter(told.UNMASKED_RENDERER_WEBGL) : '';
+    if (gl) gl.getExtension('WEBGL_lose_context').loseContext();
+    return /swiftshader|llvmpipe|softpipe|software|basic render/i.test(name);
+  }
 
   class Viewer {
     constructor(element, options) {
@@ -49,12 +60,14 @@
       this.listeners = {pick: new Set(), hover: new Set()};
       this.marks = new Map();
       this.ghosts = new Map();
-      this.shared = {apart: {value: 0}, size: {value: new THREE.Vector2(1, 1)}, plane: {value: new THREE.Vector4(0, 0, 0, 1)}, isSolid: {value: 0}, isPick: {value: 0}, pixels: {value: 1}};
+      this.shared = {apart: {value: 0}, size: {value: new THREE.Vector2(1, 1)}, plane: {value: new THREE.Vector4(0, 0, 0, 1)}, isSolid: {value: 0}, pixels: {value: 1}};
       this.scene = new THREE.Scene();
       this.camera = new THREE.PerspectiveCamera(32, 1, 0.01, 100);
       this.camera.up.set(0, 0, 1);
-      this.renderer = new THREE.WebGLRenderer({antialias: true});
-      this.renderer.setPixelRatio(Math.min(window.devicePixelRatio || 1, 2));
+      // Where no card draws, a picture has one pixel to one of the page, and edges that aren't smoothed.
+      const isSlow = isDrawnBySoftware();
+      this.renderer = new THREE.WebGLRenderer({antialias: !isSlow});
+      this.renderer.setPixelRatio(isSlow ? 1 : Math.min(window.devicePixelRatio || 1, 2));
       const canvas = this.renderer.domElement;
       canvas.tabIndex = 0;
       canvas.setAttribute('role', 'application');
@@ -82,9 +95,10 @@
     }
 
     update(changes, isPassed) {
+      this.release();
       const wasEmpty = !this.state.count;
-      this.ghosts = isPassed ? new Map() : this.ghostsOf(changes);
-      const found = this.state.apply(changes);
+      this.ghosts = isPassed || !this.options.isWayBack ? new Map() : this.ghostsOf(changes);
+      const found = this.state.apply(changes, this.options.isWayBack);
       this.marks.clear();
       const touched = this.shape && !isPassed && !wasEmpty ? this.shape.renew(found) : null;
       if (touched) {
@@ -333,14 +347,27 @@
 
     // Draws at the next picture of the screen, once however often it is asked.
     draw() {
-      if (this.waiting) return;
-      this.waiting = requestAnimationFrame(() => {
-        this.waiting = 0;
-        this.drawNow();
-      });
+      if (this.waiting || this.held) return;
+      this.waiting = requestAnimationFrame(() => this.drawNow());
+    }
+
+    hold(time) {
+      clearTimeout(this.held);
+      cancelAnimationFrame(this.waiting);
+      this.waiting = 0;
+      this.held = setTimeout(() => this.release(), time);
+    }
+
+    release() {
+      if (!this.held) return;
+      clearTimeout(this.held);
+      this.held = 0;
+      this.draw();
     }
 
     drawNow() {
+      cancelAnimationFrame(this.waiting);
+      this.waiting = 0;
       this.sent = this.picture.send();
       this.renderer.render(this.scene, this.camera);
       this.calls = this.renderer.info.render.calls;
@@ -349,11 +376,11 @@
 
     destroy() {
       cancelAnimationFrame(this.waiting);
+      clearTimeout(this.held);
       this.resizer.disconnect();
       this.pointer.destroy();
       this.controls.dispose();
       this.picture.dispose();
-      this.picker.destroy();
       this.renderer.dispose();
       this.renderer.domElement.remove();
     }
