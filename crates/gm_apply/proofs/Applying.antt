@@ -28,7 +28,7 @@ use Rattle.gm_match.specs.declared.fault.MatchFault.{MatchFault}
 use Rattle.gm_match.specs.declared.fault.MatchFault.TheVariants as faults
 use Rattle.gm_eval.specs.inner.Places.{reading_in}
 use Rattle.gm_match.specs.inner.Outcome.{application_of, IsAnswer, IsCause}
-use Rattle.gm_pending.specs.inner.EditLists.{HasSameRows, IsResultOf}
+use Rattle.gm_commit.specs.inner.EditLists.{HasSameRows, IsResultOf}
 use Rattle.gm_pending.specs.inner.Results.{PendingOf, IsGivenIn}
 use Rattle.gm_plan.specs.inner.Counts.{removed_nodes}
 use Rattle.gm_plan.specs.inner.InArena.{placement_in}

@@ -8,7 +8,7 @@ use Rattle.gm_model.specs.Maps.{IsEmbedAt}
 use Rattle.gm_model.specs.Rules.{rule_of}
 use Rattle.gm_arena.specs.inner.ArenaAsMap.{as_map}
 use Rattle.gm_arena.specs.inner.ArenaMap.{ArenaMap}
-use Rattle.gm_pending.specs.inner.EditLists.{EditLists, AreEditsOf, HasSameRows, IsReachedSumIn}
+use Rattle.gm_commit.specs.inner.EditLists.{EditLists, AreEditsOf, HasSameRows, IsReachedSumIn}
 use Rattle.gm_pending.specs.inner.Results.{PendingOf, IsGivenIn, rule_in}
 use Rattle.gm_theory.specs.inner.Theorem.{Unfolded, Unfolds, IsDartOf}
 use Rattle.gm_theory.proofs.Lists.{some_same}

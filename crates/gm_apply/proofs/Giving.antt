@@ -19,8 +19,8 @@ use Rattle.gm_theory.proofs.Keeps.{rules_keep_generalised_maps}
 use Rattle.gm_theory.proofs.Lists.{get_contained, contained_at, none_some, some_same}
 use Rattle.gm_arena.specs.inner.ArenaAsMap.{as_map}
 use Rattle.gm_pending.specs.declared.deciding_instance.DecidingInstance.{DecidingInstance as Entry}
-use Rattle.gm_pending.specs.inner.EditLists.{EditLists, AllGiven, AreEditsOf, IsReachedSumIn}
-use Rattle.gm_pending.specs.inner.Results.{PendingOf, IsAsked, IsWithinReach, AreDecidingInstances, IsDecidingIn, instances_of, deciding_of, with_instances, given_at, place_of, rule_in}
+use Rattle.gm_commit.specs.inner.EditLists.{EditLists, AreEditsOf, IsReachedSumIn}
+use Rattle.gm_pending.specs.inner.Results.{PendingOf, AllGiven, IsAsked, IsWithinReach, AreDecidingInstances, IsDecidingIn, instances_of, deciding_of, with_instances, given_at, place_of, rule_in}
 use Rattle.gm_apply.specs.declared.reading.Reading.{Reading}
 use Rattle.gm_apply.specs.declared.refusal.Refusal.TheVariants as refusals
 use Rattle.gm_apply.specs.inner.Reads.{IsReadable, app_at, place_at, pending_at, unasked_at, decider_at, seen_at, seen_before, seen_to, IsGivenRight, IsWithinSeen, IsWithinSeenBy, IsWithinSeenOnce, IsWithinRead, IsWithinReadOnce, IsWithinEdits, IsWithinEditsOnce, IsEnded, HasEdits, HasRead}

@@ -7,10 +7,10 @@ use Rattle.gm_model.specs.Rules.{rule_of}
 use Rattle.gm_model.specs.Unfolding.{added_nodes}
 use Rattle.gm_arena.specs.inner.ArenaAsMap.{as_map}
 use Rattle.gm_arena.specs.inner.ArenaMap.{ArenaMap}
-use Rattle.gm_pending.specs.inner.EditLists.{EditLists, AreEditsOf, HasSameRows, IsReachedSumIn}
-use Rattle.gm_pending.specs.inner.OwnEdits.{OwnEdits, AreTouched}
+use Rattle.gm_commit.specs.inner.EditLists.{EditLists, AreEditsOf, HasSameRows, IsReachedSumIn}
+use Rattle.gm_commit.specs.inner.OwnEdits.{OwnEdits, AreTouched}
 use Rattle.gm_pending.specs.inner.Results.{PendingOf, rule_in}
-use Rattle.gm_pending.proofs.Collected.{few_added}
+use Rattle.gm_commit.proofs.on_rewrite.EditsOfRule.{few_added}
 use Rattle.gm_theory.specs.inner.Theorem.{Unfolded, Unfolds, IsDartOf}
 use Rattle.gm_apply.specs.declared.reading.Reading.{Reading}
 use Rattle.gm_apply.specs.inner.Prepared.{IsCommittedOf, IsReadyToCommit, cost_with_rows, rows_of}

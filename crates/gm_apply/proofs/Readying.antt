@@ -6,7 +6,7 @@ use Rattle.gm_model.specs.Maps.{IsSchema}
 use Rattle.gm_model.specs.Rules.{rule_of}
 use Rattle.gm_arena.specs.inner.ArenaAsMap.{as_map}
 use Rattle.gm_arena.specs.inner.ArenaMap.{ArenaMap}
-use Rattle.gm_pending.specs.inner.EditLists.{EditLists, AreEditsOf, AreEditsHere, HasSameRows, IsReachedSumIn, IsResultOf}
+use Rattle.gm_commit.specs.inner.EditLists.{EditLists, AreEditsOf, AreEditsHere, HasSameRows, IsReachedSumIn, IsResultOf}
 use Rattle.gm_pending.specs.inner.Results.{PendingOf, rule_in}
 use Rattle.gm_apply.specs.declared.reading.Reading.{Reading}
 use Rattle.gm_apply.specs.declared.refusal.Refusal.{Refusal}

@@ -9,6 +9,6 @@ mod refusal;
 mod values;
 
 pub use application::apply;
-pub use gm_pending::Applied;
+pub use gm_commit::Applied;
 pub use preparation::prepare;
 pub use refusal::Refusal;

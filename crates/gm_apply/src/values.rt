@@ -7,9 +7,10 @@ ghost use Rattle.gm_apply.specs.inner.Reads.{IsReadable, HasRead, HasEdits, IsEn
 use crate::reading::Reading;
 use crate::refusal::Refusal;
 use gm_arena::Steps;
+use gm_commit::Changes;
 use gm_eval::Kept;
 use gm_model::MOST_DARTS;
-use gm_pending::{Changes, Pending};
+use gm_pending::Pending;
 use gm_walk::Scratch;
 use std::alloc::Global;
 use std::sync::ledger::Ledger;
@@ -38,7 +39,7 @@ impl<'a, 'm> Reading<'a, 'm> {
         for embed in 0..self.plan.schema().embeds.as_slice().len() as u8 {
             self.give_values(alloc, &mut pending, embed, scratch, steps)?;
         }
-        Ok(pending.into_changes(scratch.lend_slots(alloc), steps)?)
+        Ok(Changes::gather(alloc, pending, scratch.lend_slots(alloc), steps)?)
     }
 
     /// Gives each deciding instance of the embedding the value of its expression.

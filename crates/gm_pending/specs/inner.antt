@@ -1,15 +1,7 @@
--- The definitions of gm_pending that no clause of `tool` rests on: Arcs, Answered, Collected, EditLists, Gathered, Marks, Pairs, Reached, Results, Sources, ToldEdits, OwnEdits, Touched and Written.
-pub mod Arcs
-pub mod Answered
-pub mod Collected
-pub mod EditLists
-pub mod Gathered
+-- The definitions of gm_pending that no clause of `tool` rests on: AskedOrbits, LabelPairs, Marks, ReachedDarts, Results and ValueSources.
+pub mod AskedOrbits
+pub mod LabelPairs
 pub mod Marks
-pub mod Pairs
-pub mod Reached
+pub mod ReachedDarts
 pub mod Results
-pub mod Sources
-pub mod ToldEdits
-pub mod OwnEdits
-pub mod Touched
-pub mod Written
+pub mod ValueSources

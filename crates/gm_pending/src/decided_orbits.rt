@@ -9,19 +9,19 @@ use std::alloc::Global;
 
 /// The instances that decide. Most applications have one or two for each embedding, and those need no
 /// memory of their own.
-pub(crate) type DecidingInstances = SmallVec<DecidingInstance, 2>;
+pub type DecidingInstances = SmallVec<DecidingInstance, 2>;
 
 /// The orbits of one embedding that instances decide: these instances, and marks of the darts in
 /// the orbits.
 #[derive(Drop)]
-pub(crate) struct DecidedOrbits {
-    pub(crate) instances: DecidingInstances,
-    pub(crate) marks: Marks,
+pub struct DecidedOrbits {
+    pub instances: DecidingInstances,
+    pub marks: Marks,
 }
 
 /// By embedding, the orbits that are decided, where they were asked for. Where there is no embedding,
 /// it takes no memory.
-pub(crate) type OrbitsByEmbed = Vec<Option<DecidedOrbits>>;
+pub type OrbitsByEmbed = Vec<Option<DecidedOrbits>>;
 
 /// Those of `embeds` embeddings that were not asked for.
 pub(crate) fn no_orbits(alloc: Global, embeds: usize) -> Result<OrbitsByEmbed, OutOfMemory>

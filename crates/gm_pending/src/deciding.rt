@@ -13,8 +13,8 @@ ghost use Rattle.gm_pending.specs.declared.deciding_instance.DecidingInstance.{D
 ghost use Rattle.gm_walk.specs.declared.mark.Mark.{Mark};
 ghost use Rattle.gm_pending.specs.inner.Marks.{HasKey};
 ghost use Rattle.gm_walk.specs.inner.Keys.{key_of};
-ghost use Rattle.gm_pending.specs.inner.Pairs.{IsPair};
-ghost use Rattle.gm_pending.specs.inner.Reached.{AreReached, AreResultDarts, AreSomeReached, IsClosed, IsGrown, IsSpreadTo, IsFollowedTo, IsFollowed, IsFollowedAlong, IsFollowedBut, IsGrownAlong, IsDecidedUpTo, IsAlwaysOneOrbit, IsUnmarked, AreMarkedTo, IsFollowedOut, IsGoneOn, LeadsBackOnly, ungiven};
+ghost use Rattle.gm_pending.specs.inner.LabelPairs.{IsPair};
+ghost use Rattle.gm_pending.specs.inner.ReachedDarts.{AreReached, AreResultDarts, AreSomeReached, IsClosed, IsGrown, IsSpreadTo, IsFollowedTo, IsFollowed, IsFollowedAlong, IsFollowedBut, IsGrownAlong, IsDecidedUpTo, IsAlwaysOneOrbit, IsUnmarked, AreMarkedTo, IsFollowedOut, IsGoneOn, LeadsBackOnly, ungiven};
 ghost use Rattle.gm_pending.specs.inner.Results.{IsPrepared, AreDecidingInstances, IsAsked, IsResultDart, IsUnfoldedIn, IsWithinReach, instances_of, with_instances, name_of, rule_in};
 ghost use Rattle.gm_model.specs.declared.limit.TheConstants.{MOST_LABELS};
 
@@ -81,7 +81,16 @@ impl Pending<'_, '_> {
         requires { embed < length self.now.map.schema.embeds }
     {
         let mask = self.arena.schema().embeds.as_slice()[embed as usize].mask;
-        self.made_labels().bits & mask.bits != 0 && self.walks(embed)
+        if self.made_labels().bits & mask.bits == 0 {
+            return false;
+        }
+        // Some node has an assignment to it, and its instances needn't be one orbit.
+        for node in 0..self.nodes() {
+            if self.assigns(embed, node) && !self.plan.is_exact(embed, node) {
+                return true;
+            }
+        }
+        false
     }
 
     /// Finds the deciding instances of an embedding and the darts that they reach, which are marked in

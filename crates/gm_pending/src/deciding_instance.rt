@@ -3,8 +3,8 @@ use gm_model::Value;
 
 /// An instance that decides the value of an orbit, and the value that was given to it.
 #[derive(Clone, Copy, Default)]
-pub(crate) struct DecidingInstance {
-    pub(crate) node: u8,
-    pub(crate) position: u32,
-    pub(crate) given: Option<Value>,
+pub struct DecidingInstance {
+    pub node: u8,
+    pub position: u32,
+    pub given: Option<Value>,
 }

@@ -1,22 +1,18 @@
-//! The result of an application, which is read before it is written, and the commit in place that
-//! can't be refused.
+//! The result of an application before anything is written: which instances decide its values, and
+//! what each dart's neighbours and values are. Once each embedding's instances have values, it is all
+//! that a commit is made of.
 #![tactic(auto)]
 
-mod applied;
-mod changes;
-mod commit;
 mod decided_orbits;
 mod deciding;
 mod deciding_instance;
-mod edits;
-mod gathering;
 mod marks;
 mod pending;
-mod rewrite;
 mod values;
 
-pub use applied::Applied;
-pub use changes::Changes;
-pub use edits::Edits;
+pub use decided_orbits::{DecidedOrbits, DecidingInstances, OrbitsByEmbed};
+pub use deciding_instance::DecidingInstance;
 pub use gm_walk::At;
+pub use marks::Marks;
 pub use pending::Pending;
+pub use values::given;

@@ -25,7 +25,7 @@ const SLOTS_REACHED: usize = 32;
 
 /// The darts that are reached, in the order in which they were found. None comes twice.
 #[derive(Drop)]
-pub(crate) struct Marks {
+pub struct Marks {
     alloc: Global,
     reached: Vec<Mark>,
     /// The index of the deciding instance of each dart. It is made where a search would look through
@@ -76,7 +76,7 @@ impl Marks {
     }
 
     /// The darts.
-    pub(crate) fn as_slice(&self) -> &[Mark]
+    pub fn as_slice(&self) -> &[Mark]
         ensures reached { result.now ≡ self.now }
         ensures distinct { HasDistinctKeys self.now }
     {
@@ -92,7 +92,7 @@ impl Marks {
     }
 
     /// The room of marks that are no longer needed, or of none; what is in it means nothing.
-    pub(crate) fn into_room(self) -> Vec<Mark> {
+    pub fn into_room(self) -> Vec<Mark> {
         let Marks {
             alloc: _,
             reached,
@@ -313,7 +313,7 @@ impl Marks {
 
 /// Puts an entry after the others. Where there is no room, it makes room for `room` at once.
 #[inline(always)]
-pub(crate) fn push<T: Copy>(entries: &mut Vec<T>, entry: T, room: usize) -> Result<(), OutOfMemory>
+fn push<T: Copy>(entries: &mut Vec<T>, entry: T, room: usize) -> Result<(), OutOfMemory>
     ensures ok { OnOk result (entries.new.items ≡ entries.old.items ++ entry ∷ []) }
     ensures capacity { vec_capacity entries.old ≤ vec_capacity entries.new }
     ensures err { OnErr result (entries.new.items ≡ entries.old.items) }

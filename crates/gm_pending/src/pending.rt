@@ -37,7 +37,7 @@ impl<'a, 'm> Model for Pending<'a, 'm> {
     ghost use Rattle.gm_arena.specs.inner.ArenaMap.{arena_code};
     ghost use Rattle.gm_pending.specs.contracts.deciding_instance.DecidingInstance as instance_block;
     ghost use Rattle.gm_pending.specs.inner.Results.{PendingOf, IsPrepared};
-    ghost use Rattle.gm_pending.specs.inner.Answered.{pending_as, AreDecidedOrbits, AreMatchedSeen, IsLookedUp};
+    ghost use Rattle.gm_pending.specs.inner.AskedOrbits.{pending_as, AreDecidedOrbits, AreMatchedSeen, IsLookedUp};
 
     ghost Value = { PendingOf };
 
@@ -231,6 +231,24 @@ impl<'a, 'm> Pending<'a, 'm> {
         }
     }
 
+    /// The plan of its rule, for the schema of its map.
+    #[inline]
+    pub fn plan(&self) -> &'a Plan<'a>
+        ensures rule { result.now.table ≡ self.now.table }
+        ensures schema { result.now.schema ≡ self.now.map.schema }
+        ensures prepared { IsPrepared self.now }
+    {
+        self.plan
+    }
+
+    /// The instances of its rule.
+    #[inline]
+    pub fn found(&self) -> &'a Instances
+        ensures { result.now ≡ self.now.placed }
+    {
+        self.found
+    }
+
     /// The number of labels.
     pub(crate) fn labels(&self) -> u8
         ensures labels { result ≡ self.now.map.schema.dim + 1 }
@@ -241,7 +259,7 @@ impl<'a, 'm> Pending<'a, 'm> {
     }
 
     /// The number of positions.
-    pub(crate) fn positions(&self) -> u32
+    pub fn positions(&self) -> u32
         ensures positions { result ≡ self.now.placed.positions }
         ensures some { 1 ≤ self.now.placed.positions }
         ensures prepared { IsPrepared self.now }
@@ -250,7 +268,7 @@ impl<'a, 'm> Pending<'a, 'm> {
     }
 
     /// The number of nodes.
-    pub(crate) fn nodes(&self) -> u8
+    pub fn nodes(&self) -> u8
         ensures nodes { result ≡ length (rule_in self.now).nodes }
         ensures prepared { IsPrepared self.now }
     {
@@ -258,7 +276,7 @@ impl<'a, 'm> Pending<'a, 'm> {
     }
 
     /// The number of left nodes. The nodes from there on are added.
-    pub(crate) fn left_nodes(&self) -> u8
+    pub fn left_nodes(&self) -> u8
         ensures left { result ≡ self.now.placed.nodes }
         ensures most { result ≤ length (rule_in self.now).nodes }
     {
@@ -272,19 +290,6 @@ impl<'a, 'm> Pending<'a, 'm> {
         ensures { IsTrue result ↔ IsAssigned (rule_in self.now) embed node }
     {
         self.plan.assigns(embed, node)
-    }
-
-    /// Whether orbits of the embedding have to be walked: some node has an assignment to it, and its
-    /// instances needn't be one orbit.
-    pub(crate) fn walks(&self, embed: u8) -> bool
-        requires { embed < length self.now.map.schema.embeds }
-    {
-        for node in 0..self.nodes() {
-            if self.assigns(embed, node) && !self.plan.is_exact(embed, node) {
-                return true;
-            }
-        }
-        false
     }
 
     /// The dart of a right node at a position.

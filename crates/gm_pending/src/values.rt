@@ -4,14 +4,15 @@ ghost use Rattle.gm_model.specs.declared.schema.Embed.{Embed};
 ghost use Rattle.gm_model.specs.Maps.{IsEmbedAt};
 ghost use Rattle.gm_model.specs.Values.{IsValueOf};
 ghost use Rattle.gm_pending.specs.declared.deciding_instance.DecidingInstance.{DecidingInstance};
-ghost use Rattle.gm_pending.specs.inner.Reached.{AreReached};
-ghost use Rattle.gm_pending.specs.inner.Sources.{HasSourceNode, IsKeeperFor, IsOldValue, IsSourceOf, IsUnreached, given_of};
+ghost use Rattle.gm_pending.specs.inner.AskedOrbits.{AreOrbitsOf};
+ghost use Rattle.gm_pending.specs.inner.ReachedDarts.{AreReached};
+ghost use Rattle.gm_pending.specs.inner.ValueSources.{HasSourceNode, IsKeeperFor, IsOldValue, IsSourceOf, IsUnreached, given_of};
 ghost use Rattle.gm_model.specs.Rules.{is_added, is_preserved};
 ghost use Rattle.gm_arena.specs.inner.ArenaMap.{IsLiveSlot};
 ghost use Rattle.gm_plan.specs.inner.InArena.{slot_number};
 ghost use Rattle.gm_pending.specs.inner.Results.{IsPrepared, IsAsked, AreAllGiven, IsResultDart, IsValueIn, instances_of, given_at, with_instances, name_of, place_of, rule_in};
 
-use crate::decided_orbits::DecidedOrbits;
+use crate::decided_orbits::{DecidedOrbits, OrbitsByEmbed};
 use crate::deciding_instance::DecidingInstance;
 use crate::pending::Pending;
 use gm_arena::{Slot, Steps};
@@ -56,7 +57,7 @@ impl Pending<'_, '_> {
     }
 
     /// The value of a keeper's old dart at a position. Where there is no keeper, it may be any.
-    pub(crate) fn kept_value<L: Ledger>(
+    pub fn kept_value<L: Ledger>(
         &self,
         keeper: Option<u8>,
         position: u32,
@@ -93,7 +94,7 @@ impl Pending<'_, '_> {
     }
 
     /// The old dart whose value a dart has in an orbit without a deciding instance.
-    pub(crate) fn source(&self, at: At, embed: u8) -> Slot
+    fn source(&self, at: At, embed: u8) -> Slot
         requires dart { IsResultDart self.now at }
         requires embed { embed < length self.now.map.schema.embeds }
         requires keeper { (kept : Embed) → IsEmbedAt self.now.map.schema embed kept → HasSourceNode self.now kept at }
@@ -111,7 +112,7 @@ impl Pending<'_, '_> {
 
     /// The keeper of an added node: the least preserved node of its component for the embedding,
     /// if there is one.
-    pub(crate) fn keeper(&self, node: u8, embed: u8) -> Option<u8>
+    pub fn keeper(&self, node: u8, embed: u8) -> Option<u8>
         requires added { IsTrue (is_added (rule_in self.now) node) }
         requires embed { embed < length self.now.map.schema.embeds }
         ensures { IsKeeperFor self.now embed node result }
@@ -129,8 +130,27 @@ impl Pending<'_, '_> {
         self.found.slot(keeper, position)
     }
 
+    /// The orbits that instances decide, by embedding. What else was found is let go of.
+    #[inline(always)]
+    pub fn into_orbits(self) -> OrbitsByEmbed
+        ensures { AreOrbitsOf self.entry result.items }
+    {
+        let Pending {
+            plan: _,
+            arena: _,
+            found: _,
+            alloc: _,
+            lookup,
+            orbits,
+            matched: _,
+            room,
+        } = self;
+        drop((lookup, room));
+        orbits
+    }
+
     /// The orbits that instances decide, of an embedding that was asked for.
-    pub(crate) fn orbits(&self, embed: u8) -> &DecidedOrbits
+    pub fn orbits(&self, embed: u8) -> &DecidedOrbits
         requires { IsAsked self.now embed }
         ensures deciders { result.now.instances.items ≡ instances_of self.now embed }
         ensures reached { (kept : Embed) → IsEmbedAt self.now.map.schema embed kept → AreReached self.now embed kept (instances_of self.now embed) result.now.marks }
@@ -145,7 +165,7 @@ impl Pending<'_, '_> {
 }
 
 /// The value that was given to a deciding instance, if one was.
-pub(crate) fn given(instances: &[DecidingInstance], index: u32) -> Option<Value>
+pub fn given(instances: &[DecidingInstance], index: u32) -> Option<Value>
     ensures { result ≡ given_of instances.now index }
 {
     instances.get(index as usize)?.given

@@ -20,7 +20,7 @@ use Rattle.gm_model.specs.Runs.{IsOutcome, IsLineOutcome}
 use Rattle.gm_model.specs.Budgets.{IsLineBudget}
 use Rattle.gm_model.specs.Runs as runs
 use Rattle.gm_apply.specs.inner.Outcomes.{IsRefusedFor}
-use Rattle.gm_pending.specs.declared.applied.Applied.{Applied}
+use Rattle.gm_commit.specs.declared.applied.Applied.{Applied}
 use Rattle.gm_apply.specs.declared.refusal.Refusal.{Refusal}
 use Rattle.gm_apply.specs.declared.refusal.Refusal.TheVariants as refusals
 use Rattle.gm_arena.specs.inner.ArenaAsMap.{as_map}
@@ -28,7 +28,7 @@ use Rattle.gm_arena.specs.declared.slot.Slot.{Slot}
 use Rattle.gm_arena.specs.inner.ArenaMap.{ArenaMap, IsAt}
 use Rattle.gm_arena.specs.inner.Lawful.{IsLawful}
 use Rattle.gm_match.specs.inner.Outcome as matches
-use Rattle.gm_pending.specs.inner.EditLists.{HasSameRows}
+use Rattle.gm_commit.specs.inner.EditLists.{HasSameRows}
 use Rattle.gm_plan.specs.inner.Plans.{PlanOf, IsPlanned}
 use Rattle.gm_theory.specs.inner.Outcomes.{IsGoodLine}
 use Rattle.gm_theory.specs.inner.Suited.{IsRuleOf}

@@ -13,7 +13,7 @@ ghost use Rattle.gm_model.specs.Runs.{State};
 ghost use Rattle.gm_arena.specs.inner.ArenaAsMap.{as_map};
 ghost use Rattle.gm_run.specs.declared.standing.Open.TheVariants as opens;
 ghost use Rattle.gm_match.specs.inner.Outcome.{application_of};
-ghost use Rattle.gm_pending.specs.inner.EditLists.{HasSameRows};
+ghost use Rattle.gm_commit.specs.inner.EditLists.{HasSameRows};
 ghost use Rattle.gm_apply.specs.inner.Outcomes.{IsRefusedFor};
 ghost use Rattle.gm_run.specs.inner.Standing.{StandsAt, HasStep, IsAllowed, IsInGroup, KeepsEnough, MayGoBack, NeedsHistory, Remembers, going};
 

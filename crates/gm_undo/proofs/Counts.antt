@@ -9,7 +9,7 @@ use Rattle.gm_arena.specs.inner.ArenaMap.{ArenaMap, Dart, IsLiveName}
 use Rattle.gm_arena.proofs.FilledLemmas.{same_maps, get-insert_same, get-insert_other, get-remove_same, get-remove_other, len-insert_new}
 use Rattle.gm_arena.proofs.InsideLemmas.{some_of}
 use Rattle.gm_arena.proofs.Keys.{rising, live}
-use Rattle.gm_pending.proofs.Whole.{contains_first, contains_later}
+use Rattle.gm_commit.proofs.ListMembers.{contains_first, contains_later}
 
 -- no element comes twice
 abbrev AreApart : List ℕ → Type 0

@@ -8,7 +8,7 @@ use Rattle.gm_arena.specs.inner.ArenaAsMap.{as_map}
 use Rattle.gm_arena.specs.inner.ArenaMap.{ArenaMap}
 use Rattle.gm_arena.specs.inner.Lawful.{IsLawful}
 use Rattle.gm_model.specs.Maps.{Map, IsSound}
-use Rattle.gm_pending.specs.inner.EditLists.{HasSameRows}
+use Rattle.gm_commit.specs.inner.EditLists.{HasSameRows}
 use Rattle.gm_model.specs.Budgets.{Entries, entered}
 use Rattle.gm_model.specs.Histories.{Group, History, done_at, dropped}
 use Rattle.gm_model.specs.declared.schema.Schema.{Schema}

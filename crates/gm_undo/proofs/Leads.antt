@@ -17,9 +17,9 @@ use Rattle.gm_arena.specs.inner.Lawful.{IsLawful}
 use Rattle.gm_arena.specs.declared.slot.Slot.{Slot}
 use Rattle.gm_arena.proofs.InsideLemmas.{is_some_at, none_of}
 use Rattle.gm_arena.proofs.MapLemmas.{IsAt-name_at, name_below}
-use Rattle.gm_pending.specs.inner.EditLists.{EditLists, AreDistinct, AreEditsOf, IsResultOf}
+use Rattle.gm_commit.specs.inner.EditLists.{EditLists, AreDistinct, AreEditsOf, IsResultOf}
 use Rattle.gm_pending.specs.inner.Results.{PendingOf, place_in, rule_in}
-use Rattle.gm_pending.proofs.Numbers.{numbered, number_below}
+use Rattle.gm_commit.proofs.on_new_darts.Numbers.{numbered, number_below}
 use Rattle.gm_undo.specs.inner.Flat.{RowsOf, row_in}
 use Rattle.gm_undo.specs.inner.Kept.{KeptRow}
 use Rattle.gm_undo.specs.inner.Keeping.{AreAddedKept, AreBehindKept, AreTouchedKept}

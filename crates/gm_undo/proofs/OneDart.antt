@@ -20,8 +20,8 @@ use Rattle.gm_apply.proofs.ReadValues.{some_embed}
 use Rattle.gm_arena.specs.inner.Edits.{put_if, turned, revalued, with_alpha, with_value}
 use Rattle.gm_arena.proofs.FilledLemmas.{get-insert_same, get-insert_other}
 use Rattle.gm_arena.proofs.MapLemmas.{alpha-with_alpha_label, get-with_alpha_same, get-with_alpha_other}
-use Rattle.gm_pending.specs.inner.Written.{AreWhole}
-use Rattle.gm_pending.proofs.Whole.{alpha_turned, live_turned, whole_turned}
+use Rattle.gm_commit.specs.inner.WrittenMap.{AreWhole}
+use Rattle.gm_commit.proofs.on_commit.WholeDarts.{alpha_turned, live_turned, whole_turned}
 use Rattle.gm_undo.specs.inner.Writing.{HasFrame}
 
 pub no_frame : (m : ArenaMap) → HasFrame m m

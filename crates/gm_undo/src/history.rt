@@ -12,7 +12,7 @@ ghost use Rattle.gm_arena.specs.inner.ArenaAsMap.{as_map};
 ghost use Rattle.gm_arena.specs.inner.ArenaMap.{ArenaMap};
 ghost use Rattle.gm_arena.specs.inner.Lawful.{IsLawful};
 ghost use Rattle.gm_match.specs.inner.Outcome.{application_of};
-ghost use Rattle.gm_pending.specs.inner.EditLists.{HasSameRows};
+ghost use Rattle.gm_commit.specs.inner.EditLists.{HasSameRows};
 ghost use Rattle.gm_apply.specs.declared.refusal.Refusal.TheVariants as refusals;
 ghost use Rattle.gm_apply.specs.inner.Outcomes.{IsRefusedFor, StaysInRoom};
 ghost use Rattle.gm_undo.specs.inner.Costs.{MayTake};

@@ -15,8 +15,8 @@ ghost use Rattle.std.specs.List.{Contains};
 
 use crate::rows::KeptRows;
 use gm_arena::{Arena, Slot, Steps};
+use gm_commit::Edits;
 use gm_model::{MOST_DARTS, OutOfMemory};
-use gm_pending::Edits;
 use std::sync::ledger::Ledger;
 
 /// What one application made of the map: its kept rows from `first` to `middle` are those before it,

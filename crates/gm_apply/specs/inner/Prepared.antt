@@ -4,8 +4,8 @@ use Rattle.gm_model.specs.Applications.{Application, IsDone}
 use Rattle.gm_model.specs.Maps.{IsSound}
 use Rattle.gm_arena.specs.inner.ArenaAsMap.{as_map}
 use Rattle.gm_arena.specs.inner.ArenaMap.{ArenaMap}
-use Rattle.gm_pending.specs.inner.EditLists.{EditLists, AreEditsHere, AreEditsOf, HasSameRows, IsResultOf, cost_of}
-use Rattle.gm_pending.specs.inner.OwnEdits.{OwnEdits, AreTouched}
+use Rattle.gm_commit.specs.inner.EditLists.{EditLists, AreEditsHere, AreEditsOf, HasSameRows, IsResultOf, cost_of}
+use Rattle.gm_commit.specs.inner.OwnEdits.{OwnEdits, AreTouched}
 use Rattle.gm_pending.specs.inner.Results.{PendingOf}
 
 -- what a commit of the edits leaves in the arena: the result of each application that they are the edits of

@@ -15,7 +15,7 @@ use Rattle.gm_theory.specs.inner.Theorem.{Unfolded, Unfolds, IsDartOf}
 use Rattle.gm_arena.specs.inner.ArenaAsMap.{as_map}
 use Rattle.gm_match.specs.inner.Outcome.{application_of, IsAnswer}
 use Rattle.gm_pending.specs.declared.deciding_instance.DecidingInstance.{DecidingInstance as Entry}
-use Rattle.gm_pending.specs.inner.EditLists.{EditLists, AreEditsOf}
+use Rattle.gm_commit.specs.inner.EditLists.{EditLists, AreEditsOf}
 use Rattle.gm_pending.specs.inner.Results.{PendingOf, IsAsked, AreDecidingInstances, instances_of}
 use Rattle.gm_plan.specs.inner.InArena.{placement_in}
 use Rattle.gm_apply.specs.declared.reading.Reading.{Reading}

@@ -86,6 +86,10 @@ module _ (app : PendingOf) where
   abbrev pub AreAllGiven : ℕ → Type 0
   AreAllGiven e = IsAsked e × ((instance : DecidingInstance) → Contains (instances_of e) instance → IsSome instance.given)
 
+  -- each embedding was asked for, and each of its deciding instances has a value: all that a commit is made of
+  abbrev pub AllGiven : Type 0
+  AllGiven = (e : ℕ) → e < length app.map.schema.embeds → AreAllGiven e
+
   -- the instance decides the orbit of the dart d
   abbrev pub IsDecidedIn : Unfolded → ℕ → Embed → ℕ → ℕ → ℕ → Type 0
   IsDecidedIn result e embed d x p = IsDecidedBy (as_map app.map) (rule_in app) (place_in app) result.alpha e (type_of embed) d x p

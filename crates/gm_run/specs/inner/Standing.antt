@@ -9,7 +9,7 @@ use Rattle.gm_model.specs.Maps.{Map}
 use Rattle.gm_model.specs.Rules.{Rule}
 use Rattle.gm_model.specs.Runs.{State, IsLineOutcome, IsStatOutcome}
 use Rattle.gm_model.specs.Runs as runs
-use Rattle.gm_pending.specs.declared.applied.Applied.{Applied}
+use Rattle.gm_commit.specs.declared.applied.Applied.{Applied}
 use Rattle.gm_apply.specs.declared.refusal.Refusal.{Refusal}
 use Rattle.gm_arena.specs.inner.ArenaAsMap.{as_map}
 use Rattle.gm_arena.specs.inner.ArenaMap.{ArenaMap}

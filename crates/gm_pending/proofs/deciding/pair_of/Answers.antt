@@ -1,4 +1,4 @@
-use Rattle.gm_pending.proofs.Pairs.{pair_found}
+use Rattle.gm_pending.proofs.on_deciding.TwoLabelOrbits.{pair_found}
 use Rattle.gm_pending.proofs.deciding.pair_of.Goals as goal
 
 pub returns-in-None : goal.returns-in-None

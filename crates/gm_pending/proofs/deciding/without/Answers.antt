@@ -2,7 +2,7 @@ use Rattle.std.proofs.Common.{◌≡◌, ℕ, ◌<◌, ◌≤◌, ◌==◌, IsTr
 use Rattle.std.proofs.lemmas.Bool.{cases_eq, false≢true}
 use Rattle.std.proofs.lemmas.Nat.Bits.{bit_at_clear_same, bit_at_clear_other}
 use Rattle.gm_theory.proofs.Lists.{none_some, some_same}
-use Rattle.gm_pending.proofs.Pairs.{fewer_bits}
+use Rattle.gm_pending.proofs.on_deciding.TwoLabelOrbits.{fewer_bits}
 use Rattle.gm_pending.proofs.deciding.without.Goals as goal
 
 pub returns-in-Some-clause-among : goal.returns-in-Some-clause-among

@@ -3,7 +3,7 @@ use Rattle.std.specs.Int.{bit_at}
 use Rattle.std.proofs.lemmas.Bool.{cases_eq}
 use Rattle.gm_arena.specs.declared.slot.Slot.{Slot}
 use Rattle.gm_pending.specs.inner.Marks.{bit_of}
-use Rattle.gm_pending.proofs.Reached.{bit_kept, own_bit, with_bit}
+use Rattle.gm_pending.proofs.on_marks.OneMoreMark.{bit_kept, own_bit, with_bit}
 use Rattle.gm_pending.proofs.marks.bits_of.Goals as goal
 
 pub loop-slot-preserved : goal.loop-slot-preserved

@@ -7,7 +7,7 @@ use Rattle.gm_plan.specs.declared.index.Index.{Index}
 use Rattle.gm_plan.specs.inner.Indices.{index_at}
 use Rattle.gm_walk.specs.inner.Keys.{key_of}
 use Rattle.gm_pending.specs.inner.Marks.{ByKey, HasKey, IsIndex}
-use Rattle.gm_pending.proofs.Reached.{put_fresh, fresh_key}
+use Rattle.gm_pending.proofs.on_marks.OneMoreMark.{put_fresh, fresh_key}
 use Rattle.gm_model.proofs.Exits.{unless_ok}
 use Rattle.gm_pending.proofs.marks.index.Goals as goal
 

@@ -4,7 +4,7 @@ use Rattle.std.specs.Option.{option_and_then}
 use Rattle.std.proofs.lemmas.Option.{slice_get_past, slice_get_read}
 use borrow.Author.Tests.{ltb-false, ltb-true}
 use Rattle.gm_pending.specs.declared.deciding_instance.DecidingInstance.{DecidingInstance}
-use Rattle.gm_pending.specs.inner.Sources.{given_of}
+use Rattle.gm_pending.specs.inner.ValueSources.{given_of}
 use Rattle.gm_pending.proofs.values.given.Goals as goal
 
 given_past : (instances : List DecidingInstance) (k : ℕ) → false ≡ ltb k (length instances) → None ≡ given_of instances k

@@ -1,7 +1,7 @@
 use Rattle.std.proofs.Common.{◌≡◌, length, subst, ap, arith}
 use Rattle.gm_model.specs.Rules.{rule_of}
 use Rattle.gm_plan.specs.inner.Plans.{IsLeftCount}
-use Rattle.gm_pending.proofs.Created.{created}
+use Rattle.gm_pending.proofs.on_pending.CreationMatch.{created}
 use Rattle.gm_tests.proofs.pending.expect_result.Goals as goal
 
 pub expect_alphas-requires-clause-matched : goal.expect_alphas-requires-clause-matched

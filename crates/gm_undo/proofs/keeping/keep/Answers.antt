@@ -9,7 +9,7 @@ use Rattle.std.proofs.Common.{◌≢◌, sym, ap, subst, ◌∙◌}
 use Rattle.gm_arena.specs.inner.ArenaMap.{ArenaMap, name_at}
 use Rattle.std.specs.FinMap.{get}
 use Rattle.gm_undo.specs.inner.Flat.{row_in}
-use Rattle.gm_pending.specs.inner.EditLists.{IsResultOf, cost_of}
+use Rattle.gm_commit.specs.inner.EditLists.{IsResultOf, cost_of}
 use Rattle.gm_undo.proofs.Leads.{added_live, added_only, front_kept, sides}
 use Rattle.gm_undo.proofs.Ranges.{sides_of}
 use Rattle.std.proofs.Math.Nat.{le_refl, le_trans}

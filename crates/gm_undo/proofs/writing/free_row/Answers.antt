@@ -6,7 +6,7 @@ use Rattle.gm_arena.proofs.MapLemmas.{name_at-is}
 use Rattle.gm_undo.proofs.OneDart.{free_none, free_more, named}
 use Rattle.gm_arena.specs.inner.Edits.{with_alpha}
 use Rattle.gm_arena.specs.inner.ArenaMap.{ArenaMap}
-use Rattle.gm_pending.proofs.Whole.{lawful_whole}
+use Rattle.gm_commit.proofs.on_commit.WholeDarts.{lawful_whole}
 use Rattle.gm_undo.proofs.writing.free_row.Goals as goal
 
 pub loop-label-init : goal.loop-label-init

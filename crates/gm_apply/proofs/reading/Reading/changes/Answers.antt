@@ -52,30 +52,30 @@ loop-embed-preserved g c = record {
   room = c.in_ok-give_values.ensures.room ∙ c.loop-embed.invariant.room;
 }
 
-pub into_changes-requires : goal.into_changes-requires
-into_changes-requires g c =
+pub gather-requires : goal.gather-requires
+gather-requires g c =
     let many : length c.as_slice.result.now ≡ length c.args.self.now.arena.now.schema.embeds = ap length c.as_slice.ensures ∙ ap (λ (s : Schema). length s.embeds) c.schema.ensures.schema ∙ ap (λ (s : Schema). length s.embeds) (sym c.requires.readable.1.schema) in
     let whole : c.loop-embed.embed ≡ length c.args.self.now.arena.now.schema.embeds = omega (arith, c.loop-embed-test.false, c.loop-embed.auto.embed-end, many) in
     let read = subst (λ n. HasRead c.args.self.now c.requires.readable.0 c.loop-embed.pending n n 0 c.args.steps.now c.loop-embed.steps) whole (c.loop-embed.invariant.read c.requires.readable.0 c.requires.readable.1) in
     record { given = every_one c.args.self.now c.requires.readable.0 c.loop-embed.pending c.args.steps.now c.loop-embed.steps read }
 
-pub returns-in_err-into_changes-clause-edits : goal.returns-in_err-into_changes-clause-edits
-returns-in_err-into_changes-clause-edits g c hooks readable =
-    let p = err_from_is_err_and c.from_residual-in_err-into_changes.result c.from_residual-in_err-into_changes.ensures.1 in
+pub returns-in_err-gather-clause-edits : goal.returns-in_err-gather-clause-edits
+returns-in_err-gather-clause-edits g c hooks readable =
+    let p = err_from_is_err_and c.from_residual-in_err-gather.result c.from_residual-in_err-gather.ensures.1 in
     let many : length c.as_slice.result.now ≡ length c.args.self.now.arena.now.schema.embeds = ap length c.as_slice.ensures ∙ ap (λ (s : Schema). length s.embeds) c.schema.ensures.schema ∙ ap (λ (s : Schema). length s.embeds) (sym readable.schema) in
     let whole : c.loop-embed.embed ≡ length c.args.self.now.arena.now.schema.embeds = omega (arith, c.loop-embed-test.false, c.loop-embed.auto.embed-end, many) in
     let read = subst (λ n. HasRead c.args.self.now hooks c.loop-embed.pending n n 0 c.args.steps.now c.loop-embed.steps) whole (c.loop-embed.invariant.read hooks readable) in
-    rw (p.1, p.2) (ended_editing c.args.self.now hooks c.loop-embed.pending c.args.steps.now c.loop-embed.steps read c.into_changes.new.steps c.into_changes.ensures.least c.into_changes.ensures.cost)
+    rw (p.1, p.2) (ended_editing c.args.self.now hooks c.loop-embed.pending c.args.steps.now c.loop-embed.steps read c.gather.new.steps c.gather.ensures.least c.gather.ensures.cost)
 
 pub returns-clause-edits : goal.returns-clause-edits
 returns-clause-edits g c hooks readable =
     let many : length c.as_slice.result.now ≡ length c.args.self.now.arena.now.schema.embeds = ap length c.as_slice.ensures ∙ ap (λ (s : Schema). length s.embeds) c.schema.ensures.schema ∙ ap (λ (s : Schema). length s.embeds) (sym readable.schema) in
     let whole : c.loop-embed.embed ≡ length c.args.self.now.arena.now.schema.embeds = omega (arith, c.loop-embed-test.false, c.loop-embed.auto.embed-end, many) in
     let read = subst (λ n. HasRead c.args.self.now hooks c.loop-embed.pending n n 0 c.args.steps.now c.loop-embed.steps) whole (c.loop-embed.invariant.read hooks readable) in
-    has_edits c.args.self.now hooks c.loop-embed.pending c.args.steps.now c.loop-embed.steps read c.into_changes.new.steps c.into_changes.ensures.least c.into_changes.ensures.cost c.in_ok-into_changes.field-0 c.in_ok-into_changes.ensures.edits
+    has_edits c.args.self.now hooks c.loop-embed.pending c.args.steps.now c.loop-embed.steps read c.gather.new.steps c.gather.ensures.least c.gather.ensures.cost c.in_ok-gather.field-0 c.in_ok-gather.ensures.edits
 
-pub returns-in_err-into_changes-clause-room : goal.returns-in_err-into_changes-clause-room
-returns-in_err-into_changes-clause-room g c = ap (λ room. room.bound) c.lend_slots.ensures ∙ c.loop-embed.invariant.room
+pub returns-in_err-gather-clause-room : goal.returns-in_err-gather-clause-room
+returns-in_err-gather-clause-room g c = ap (λ room. room.bound) c.lend_slots.ensures ∙ c.loop-embed.invariant.room
 
 pub returns-clause-room : goal.returns-clause-room
 returns-clause-room g c = ap (λ room. room.bound) c.lend_slots.ensures ∙ c.loop-embed.invariant.room

@@ -6,7 +6,7 @@ use Rattle.gm_walk.specs.declared.mark.Mark.{Mark}
 use Rattle.gm_plan.specs.declared.index.Index.{Index}
 use Rattle.gm_plan.specs.inner.Indices.{index_at}
 use Rattle.gm_pending.specs.inner.Marks.{bit_of, AreSeen, HasDistinctKeys, HasKey, IsIndex}
-use Rattle.gm_pending.proofs.Reached.{indexed_at}
+use Rattle.gm_pending.proofs.on_marks.OneMoreMark.{indexed_at}
 use Rattle.gm_pending.proofs.marks.Marks.decided_by.Goals as goal
 
 -- a dart whose bit isn't set isn't marked

@@ -5,8 +5,8 @@ use Rattle.gm_walk.specs.declared.mark.Mark.{Mark}
 use Rattle.gm_pending.specs.inner.Marks.{HasKey, reached_by}
 use Rattle.gm_plan.specs.inner.Indices.{index_at}
 use Rattle.gm_walk.specs.inner.Keys.{key_of}
-use Rattle.gm_pending.proofs.Marking.{bit_below, found_marked, some_below}
-use Rattle.gm_pending.proofs.Reached.{marked_few, unmarked}
+use Rattle.gm_pending.proofs.on_marks.IndexRoom.{bit_below, found_marked, some_below}
+use Rattle.gm_pending.proofs.on_marks.OneMoreMark.{marked_few, unmarked}
 use Rattle.gm_pending.proofs.marks.Marks.mark.Goals as goal
 
 pub invariant_of-self : goal.invariant_of-self

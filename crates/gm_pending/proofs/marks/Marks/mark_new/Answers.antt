@@ -6,8 +6,8 @@ use Rattle.gm_walk.specs.declared.mark.Mark.{Mark}
 use Rattle.gm_pending.specs.inner.Marks.{HasKey, IsMarkedMore, reached_by}
 use Rattle.gm_plan.specs.inner.Indices.{index_at}
 use Rattle.gm_walk.specs.inner.Keys.{key_of}
-use Rattle.gm_pending.proofs.Marking.{bit_below}
-use Rattle.gm_pending.proofs.Reached.{marked_few}
+use Rattle.gm_pending.proofs.on_marks.IndexRoom.{bit_below}
+use Rattle.gm_pending.proofs.on_marks.OneMoreMark.{marked_few}
 use Rattle.gm_pending.proofs.marks.Marks.mark_new.Goals as goal
 
 pub invariant_of-self : goal.invariant_of-self

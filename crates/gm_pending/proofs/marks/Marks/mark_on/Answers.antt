@@ -6,8 +6,8 @@ use Rattle.gm_walk.specs.declared.mark.Mark.{Mark}
 use Rattle.gm_pending.specs.inner.Marks.{HasKey, reached_by}
 use Rattle.gm_plan.specs.inner.Indices.{index_at}
 use Rattle.gm_walk.specs.inner.Keys.{key_of}
-use Rattle.gm_pending.proofs.Marking.{bit_below, some_below}
-use Rattle.gm_pending.proofs.Reached.{marked_few}
+use Rattle.gm_pending.proofs.on_marks.IndexRoom.{bit_below, some_below}
+use Rattle.gm_pending.proofs.on_marks.OneMoreMark.{marked_few}
 use Rattle.gm_pending.proofs.marks.Marks.mark_on.Goals as goal
 use Rattle.gm_pending.proofs.marks.Marks.mark_on.Goals.{then-key-via-then-key, then-key-via-else-key+then-key-2}
 

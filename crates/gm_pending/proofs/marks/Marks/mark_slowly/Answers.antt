@@ -2,8 +2,8 @@ use Rattle.std.proofs.Common.{refl, sym, ◌∙◌, inl, inr}
 use Rattle.std.proofs.lemmas.Bool.{false≢true}
 use Rattle.gm_walk.specs.inner.Keys.{key_of}
 use Rattle.gm_model.proofs.Exits.{never_ok, on_err, unless_ok}
-use Rattle.gm_pending.proofs.Marking.{found_marked}
-use Rattle.gm_pending.proofs.Reached.{unmarked}
+use Rattle.gm_pending.proofs.on_marks.IndexRoom.{found_marked}
+use Rattle.gm_pending.proofs.on_marks.OneMoreMark.{unmarked}
 use Rattle.gm_pending.proofs.marks.Marks.mark_slowly.Goals as goal
 
 pub returns-then-is_some : goal.returns-then-is_some

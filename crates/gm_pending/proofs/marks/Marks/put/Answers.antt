@@ -6,8 +6,8 @@ use Rattle.gm_walk.specs.declared.mark.Mark.{Mark}
 use Rattle.gm_pending.specs.inner.Marks.{ByKey, AreMarked, AreSeen, HasDistinctKeys, HasKey, IsIndex}
 use Rattle.gm_plan.specs.inner.Indices.{AreTheSame, IsOneMore, index_at}
 use Rattle.gm_walk.specs.inner.Keys.{key_of}
-use Rattle.gm_pending.proofs.Marking.{bit_below, not_quick}
-use Rattle.gm_pending.proofs.Reached.{distinct_more, put_again, put_new, seen_more}
+use Rattle.gm_pending.proofs.on_marks.IndexRoom.{bit_below, not_quick}
+use Rattle.gm_pending.proofs.on_marks.OneMoreMark.{distinct_more, put_again, put_new, seen_more}
 use Rattle.gm_model.proofs.Exits.{never_ok, on_err, unless_ok}
 use Rattle.gm_pending.proofs.marks.Marks.put.Goals as goal
 

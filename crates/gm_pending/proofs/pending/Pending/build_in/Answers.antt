@@ -3,8 +3,8 @@ use Rattle.gm_model.specs.declared.schema.Schema.{Schema}
 use Rattle.gm_model.specs.Rules.{rule_of}
 use Rattle.gm_plan.specs.inner.Plans.{IsPlanned}
 use Rattle.gm_pending.specs.inner.Results.{IsPrepared}
-use Rattle.gm_pending.proofs.Answered.{no_answers, nothing_answered, nothing_prepared}
-use Rattle.gm_pending.proofs.MatchedBits.{all_seen}
+use Rattle.gm_pending.proofs.on_values.AnswersKept.{no_answers, nothing_answered, nothing_prepared}
+use Rattle.gm_pending.proofs.on_marks.BitsOfInstances.{all_seen}
 use Rattle.gm_pending.proofs.pending.Pending.build_in.Goals as goal
 
 pub returns-clause-pending : goal.returns-clause-pending

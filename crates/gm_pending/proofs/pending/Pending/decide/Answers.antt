@@ -2,10 +2,10 @@ use Rattle.std.proofs.Common.{sym, ◌∙◌, ap, subst, arith, ◌<◌, List, l
 use Rattle.gm_model.specs.declared.schema.Embed.{Embed}
 use Rattle.gm_model.specs.declared.schema.Schema.{Schema}
 use Rattle.gm_theory.proofs.Lists.{some_same, contained_at}
-use Rattle.gm_pending.specs.inner.Reached.{AreReached}
+use Rattle.gm_pending.specs.inner.ReachedDarts.{AreReached}
 use Rattle.gm_pending.specs.inner.Results.{PendingOf, AreDecidingInstances, IsWithinReach, IsPrepared}
-use Rattle.gm_pending.proofs.Answering.{read_there}
-use Rattle.gm_pending.proofs.Decided.{are_deciders, are_reached, within_reach, none_decided}
+use Rattle.gm_pending.proofs.on_values.OneMoreAnswer.{read_there}
+use Rattle.gm_pending.proofs.on_deciding.DecidersFound.{are_deciders, are_reached, within_reach, none_decided}
 use Rattle.gm_model.proofs.Exits.{unless_ok}
 use Rattle.gm_pending.proofs.pending.Pending.decide.Goals as goal
 

@@ -1,8 +1,8 @@
 use Rattle.std.proofs.Common.{length, sym, ◌∙◌, subst, arith}
-use Rattle.gm_pending.specs.inner.Reached.{IsSpreadTo}
+use Rattle.gm_pending.specs.inner.ReachedDarts.{IsSpreadTo}
 use Rattle.gm_pending.specs.inner.Results.{name_of}
 use Rattle.gm_walk.specs.inner.Keys.{key_of}
-use Rattle.gm_pending.proofs.Decided.{assigned_right, decided_reached, instance_decides, instance_passed, key_absent, key_there, on_ok, some_grown}
+use Rattle.gm_pending.proofs.on_deciding.DecidersFound.{assigned_right, decided_reached, instance_decides, instance_passed, key_absent, key_there, on_ok, some_grown}
 use Rattle.gm_model.proofs.Exits.{never_ok}
 use Rattle.gm_pending.proofs.pending.Pending.decide_instance.Goals as goal
 

@@ -7,10 +7,10 @@ use Rattle.gm_model.specs.Maps.{IsEmbedAt, type_of}
 use Rattle.gm_model.specs.Rules.{rule_of}
 use Rattle.gm_theory.proofs.RuleSteps.{word_below}
 use Rattle.gm_plan.specs.inner.Sources.{HasExactLetters}
-use Rattle.gm_pending.specs.inner.Reached.{IsDecidedUpTo}
+use Rattle.gm_pending.specs.inner.ReachedDarts.{IsDecidedUpTo}
 use Rattle.gm_pending.specs.inner.Results.{PendingOf, IsPrepared, rule_in}
-use Rattle.gm_pending.proofs.Decided.{decided_reached, node_decided}
-use Rattle.gm_pending.proofs.OneOrbit.{assigned_within, is_one_orbit, longer_cost}
+use Rattle.gm_pending.proofs.on_deciding.DecidersFound.{decided_reached, node_decided}
+use Rattle.gm_pending.proofs.on_deciding.NodesOfOneOrbit.{assigned_within, is_one_orbit, longer_cost}
 use Rattle.gm_model.proofs.Exits.{never_ok}
 use Rattle.gm_pending.proofs.pending.Pending.decide_node.Goals as goal
 

@@ -1,8 +1,8 @@
 use Rattle.std.proofs.Common.{sym, ◌∙◌, arith, ◌≡◌, length, subst}
 use Rattle.std.proofs.lemmas.Bool.{false≢true}
 use Rattle.std.proofs.lemmas.Option.{slice_get_within}
-use Rattle.gm_pending.proofs.Decided.{decided_reached, node_passed}
-use Rattle.gm_pending.specs.inner.Reached.{IsDecidedUpTo}
+use Rattle.gm_pending.proofs.on_deciding.DecidersFound.{decided_reached, node_passed}
+use Rattle.gm_pending.specs.inner.ReachedDarts.{IsDecidedUpTo}
 use Rattle.gm_pending.specs.inner.Results.{rule_in}
 use Rattle.gm_model.proofs.Exits.{never_ok}
 use Rattle.gm_pending.proofs.pending.Pending.decide_nodes.Goals as goal

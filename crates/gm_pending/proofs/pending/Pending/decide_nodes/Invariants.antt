@@ -1,5 +1,5 @@
 use Rattle.std.proofs.Common.{◌+◌, ◌*◌, ◌≤◌, length}
-use Rattle.gm_pending.specs.inner.Reached.{IsDecidedUpTo}
+use Rattle.gm_pending.specs.inner.ReachedDarts.{IsDecidedUpTo}
 use Rattle.gm_pending.proofs.pending.Pending.decide_nodes.Given as goal
 
 abbrev pub invariant-loop-node : goal.invariant-loop-node

@@ -1,9 +1,9 @@
 use Rattle.std.proofs.Common.{◌∷◌, [], ◌++◌, length, refl, sym, ◌∙◌, subst, arith}
 use Rattle.gm_walk.specs.inner.Keys.{key_of}
-use Rattle.gm_pending.specs.inner.Reached.{AreMarkedTo, IsGrown, IsSpreadTo, ungiven}
-use Rattle.gm_pending.proofs.Decided.{assigned_right, decided_reached, instance_decides, key_absent, key_there, node_marked, on_ok, some_grown}
-use Rattle.gm_pending.proofs.Following.{stays_longer}
-use Rattle.gm_pending.proofs.OneOrbit.{all_marked, none_marked, orbit_grown, orbit_spread}
+use Rattle.gm_pending.specs.inner.ReachedDarts.{AreMarkedTo, IsGrown, IsSpreadTo, ungiven}
+use Rattle.gm_pending.proofs.on_deciding.DecidersFound.{assigned_right, decided_reached, instance_decides, key_absent, key_there, node_marked, on_ok, some_grown}
+use Rattle.gm_pending.proofs.on_deciding.ArcsFollowed.{stays_longer}
+use Rattle.gm_pending.proofs.on_deciding.NodesOfOneOrbit.{all_marked, none_marked, orbit_grown, orbit_spread}
 use Rattle.gm_pending.proofs.pending.Pending.decide_orbit.Goals as goal
 
 pub place-requires : goal.place-requires

@@ -1,8 +1,8 @@
 use Rattle.std.proofs.Common.{◌≡◌, Some, ap, ◌∙◌}
 use Rattle.gm_arena.proofs.InsideLemmas.{some_of}
 use Rattle.gm_pending.specs.inner.Results.{instances_of}
-use Rattle.gm_pending.specs.inner.Sources.{given_of}
-use Rattle.gm_pending.proofs.Valued.{value_decided, has_given}
+use Rattle.gm_pending.specs.inner.ValueSources.{given_of}
+use Rattle.gm_pending.proofs.on_values.ValuesOfDarts.{value_decided, has_given}
 use Rattle.gm_pending.proofs.pending.Pending.decided_value.Goals as goal
 
 pub returns-clause-value : goal.returns-clause-value

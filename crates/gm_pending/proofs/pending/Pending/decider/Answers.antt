@@ -1,4 +1,4 @@
-use Rattle.gm_pending.proofs.Answered.{some_decider}
+use Rattle.gm_pending.proofs.on_values.AnswersKept.{some_decider}
 use Rattle.std.proofs.Common.{◌≡◌, None, ◌∙◌, ap}
 use Rattle.std.specs.Option.{option_map}
 use Rattle.std.proofs.lemmas.Option.{slice_get-get_or, slice_get-map}

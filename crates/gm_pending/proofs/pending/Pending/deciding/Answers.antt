@@ -1,10 +1,10 @@
 use Rattle.std.proofs.Common.{◌<◌, List, Contains, Some, length, set, refl, sym, ◌∙◌, ap, subst, arith}
 use Rattle.std.proofs.lemmas.List.{length-map}
 use Rattle.gm_model.specs.Maps.{IsEmbedAt}
-use Rattle.gm_pending.specs.inner.Answered.{instances_in}
+use Rattle.gm_pending.specs.inner.AskedOrbits.{instances_in}
 use Rattle.gm_pending.specs.declared.deciding_instance.DecidingInstance.{DecidingInstance}
 use Rattle.gm_pending.specs.inner.Results.{PendingOf, AreDecidingInstances, IsWithinReach}
-use Rattle.gm_pending.proofs.Answering.{kept_answers, kept_asked, kept_deciders, kept_prepared, good_if_ungiven}
+use Rattle.gm_pending.proofs.on_values.OneMoreAnswer.{kept_answers, kept_asked, kept_deciders, kept_prepared, good_if_ungiven}
 use Rattle.gm_model.proofs.Exits.{never_ok, on_err, unless_ok}
 use Rattle.gm_pending.proofs.pending.Pending.deciding.Goals as goal
 

@@ -7,13 +7,13 @@ use Rattle.gm_walk.specs.declared.at.At.{At}
 use Rattle.gm_walk.specs.declared.mark.Mark.{Mark}
 use Rattle.gm_pending.specs.inner.Marks.{HasKey}
 use Rattle.gm_walk.specs.inner.Keys.{key_of}
-use Rattle.gm_pending.specs.inner.Pairs.{IsPair}
-use Rattle.gm_pending.specs.inner.Reached.{IsFollowedAlong, IsFollowedBut, IsFollowedOut, IsGoneOn, IsGrownAlong, LeadsBackOnly}
+use Rattle.gm_pending.specs.inner.LabelPairs.{IsPair}
+use Rattle.gm_pending.specs.inner.ReachedDarts.{IsFollowedAlong, IsFollowedBut, IsFollowedOut, IsGoneOn, IsGrownAlong, LeadsBackOnly}
 use Rattle.gm_pending.specs.inner.Results.{PendingOf, IsUnfoldedIn, name_of}
-use Rattle.gm_pending.proofs.Law.{some_unfolding}
-use Rattle.gm_pending.proofs.Pairs.{by_keys, follow_ends, follow_goes_on, no_shorter, one_longer, only_ends, pair_turned}
-use Rattle.gm_pending.proofs.Reached.{key_kept, key_marked}
-use Rattle.gm_pending.proofs.Spread.{marked_darts}
+use Rattle.gm_pending.proofs.on_pending.PreparedIsLawful.{some_unfolding}
+use Rattle.gm_pending.proofs.on_deciding.TwoLabelOrbits.{by_keys, follow_ends, follow_goes_on, no_shorter, one_longer, only_ends, pair_turned}
+use Rattle.gm_pending.proofs.on_marks.OneMoreMark.{key_kept, key_marked}
+use Rattle.gm_pending.proofs.on_deciding.OrbitsWalked.{marked_darts}
 use Rattle.gm_model.proofs.Exits.{never_ok}
 use Rattle.gm_pending.proofs.pending.Pending.follow.Goals as goal
 

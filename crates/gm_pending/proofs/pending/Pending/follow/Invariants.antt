@@ -3,7 +3,7 @@ use Rattle.gm_theory.specs.inner.Theorem.{Unfolded}
 use Rattle.gm_walk.specs.declared.mark.Mark.{Mark}
 use Rattle.gm_pending.specs.inner.Marks.{HasKey}
 use Rattle.gm_walk.specs.inner.Keys.{key_of}
-use Rattle.gm_pending.specs.inner.Reached.{AreResultDarts, IsFollowedBut, LeadsBackOnly}
+use Rattle.gm_pending.specs.inner.ReachedDarts.{AreResultDarts, IsFollowedBut, LeadsBackOnly}
 use Rattle.gm_pending.specs.inner.Results.{IsResultDart, IsUnfoldedIn, name_of}
 use Rattle.gm_pending.proofs.pending.Pending.follow.Given as goal
 

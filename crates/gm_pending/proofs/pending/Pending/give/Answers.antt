@@ -3,11 +3,11 @@ use Rattle.smallvec.specs.SmallVec.{with_items}
 use Rattle.gm_model.specs.Maps.{IsEmbedAt}
 use Rattle.gm_pending.specs.declared.decided_orbits.DecidedOrbits.{DecidedOrbits}
 use Rattle.gm_pending.specs.declared.deciding_instance.DecidingInstance.{DecidingInstance}
-use Rattle.gm_pending.specs.inner.Answered.{pending_as}
+use Rattle.gm_pending.specs.inner.AskedOrbits.{pending_as}
 use Rattle.gm_pending.specs.inner.Results.{PendingOf, instances_of, given_at, with_instances}
-use Rattle.gm_pending.proofs.Answered.{decided_within, decider_within, unanswered_at}
-use Rattle.gm_pending.proofs.Answering.{read_there}
-use Rattle.gm_pending.proofs.Giving.{with_value, given_answers, given_is, given_prepared, written_back}
+use Rattle.gm_pending.proofs.on_values.AnswersKept.{decided_within, decider_within, unanswered_at}
+use Rattle.gm_pending.proofs.on_values.OneMoreAnswer.{read_there}
+use Rattle.gm_pending.proofs.on_values.OneValueGiven.{with_value, given_answers, given_is, given_prepared, written_back}
 use Rattle.std.specs.Prelude.{slice_get, unwrap_or}
 use Rattle.gm_pending.proofs.pending.Pending.give.Goals as goal
 

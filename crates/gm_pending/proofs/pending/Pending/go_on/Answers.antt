@@ -2,9 +2,9 @@ use Rattle.std.proofs.Common.{None, sym, ◌∙◌, arith}
 use Rattle.std.proofs.lemmas.Bool.{false≢true}
 use Rattle.gm_model.proofs.Exits.{never_ok, on_err, unless_ok}
 use Rattle.gm_walk.specs.inner.Keys.{key_of}
-use Rattle.gm_pending.proofs.Pairs.{gone_on, gone_out, no_shorter}
-use Rattle.gm_pending.proofs.Reached.{key_kept}
-use Rattle.gm_pending.proofs.Spread.{marked_darts}
+use Rattle.gm_pending.proofs.on_deciding.TwoLabelOrbits.{gone_on, gone_out, no_shorter}
+use Rattle.gm_pending.proofs.on_marks.OneMoreMark.{key_kept}
+use Rattle.gm_pending.proofs.on_deciding.OrbitsWalked.{marked_darts}
 use Rattle.gm_pending.proofs.pending.Pending.go_on.Goals as goal
 
 pub neighbour-to-requires : goal.neighbour-to-requires

@@ -4,7 +4,7 @@ use Rattle.gm_theory.proofs.Scenes.{IsRightAt}
 use Rattle.gm_walk.specs.declared.at.At.TheVariants.{Old}
 use Rattle.gm_plan.specs.inner.Lookup.{IsWithin, IsAtSlot}
 use Rattle.gm_pending.specs.inner.Results.{PendingOf, IsPrepared, IsResultDart, scene_in, name_of}
-use Rattle.gm_pending.proofs.Darts.{instance_lies, none_lies}
+use Rattle.gm_pending.proofs.on_pending.ResultDarts.{instance_lies, none_lies}
 use Rattle.gm_pending.proofs.pending.Pending.instance.Goals as goal
 
 pub returns-in-Old : goal.returns-in-Old

@@ -7,7 +7,7 @@ use Rattle.gm_model.specs.Maps.{IsEmbedAt, type_of}
 use Rattle.gm_model.specs.Rules.{rule_of, has_word}
 use Rattle.gm_theory.proofs.Tests.{both_true}
 use Rattle.gm_pending.specs.inner.Results.{PendingOf, rule_in}
-use Rattle.gm_pending.specs.inner.Sources.{IsKeeperFor}
+use Rattle.gm_pending.specs.inner.ValueSources.{IsKeeperFor}
 use Rattle.gm_pending.proofs.pending.Pending.keeper.Goals as goal
 
 pub keeper-requires-clause-embed : goal.keeper-requires-clause-embed

@@ -4,9 +4,9 @@ use Rattle.gm_model.specs.Rules.{rule_of}
 use Rattle.gm_plan.specs.inner.InArena.{slot_number}
 use Rattle.gm_plan.specs.inner.Lookup.{IsWithin, IsAtSlot}
 use Rattle.gm_pending.specs.inner.Results.{PendingOf, IsPrepared}
-use Rattle.gm_pending.proofs.Darts.{one_left_count}
-use Rattle.gm_pending.proofs.MatchedBits.{none_matched}
-use Rattle.gm_pending.specs.inner.Answered.{IsLookedUp}
+use Rattle.gm_pending.proofs.on_pending.ResultDarts.{one_left_count}
+use Rattle.gm_pending.proofs.on_marks.BitsOfInstances.{none_matched}
+use Rattle.gm_pending.specs.inner.AskedOrbits.{IsLookedUp}
 use Rattle.gm_pending.proofs.pending.Pending.left_instance.Goals as goal
 
 pub instance_at-requires : goal.instance_at-requires

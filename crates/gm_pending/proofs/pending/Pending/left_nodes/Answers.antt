@@ -1,7 +1,7 @@
 use Rattle.std.proofs.Common.{subst}
 use Rattle.gm_plan.specs.inner.Plans.{IsLeftCount}
 use Rattle.gm_pending.specs.inner.Results.{PendingOf, rule_in}
-use Rattle.gm_pending.proofs.Darts.{one_left_count}
+use Rattle.gm_pending.proofs.on_pending.ResultDarts.{one_left_count}
 use Rattle.gm_pending.proofs.pending.Pending.left_nodes.Goals as goal
 
 pub returns-clause-left : goal.returns-clause-left

@@ -1,8 +1,8 @@
 use Rattle.std.proofs.Common.{◌≡◌, ℕ, ◌*◌, ◌<◌, ◌≤◌, arith}
 use Rattle.std.proofs.lemmas.Nat.{mul-le}
 use Rattle.gm_model.specs.Rules.{rule_of}
-use Rattle.gm_pending.proofs.Darts.{one_left_count}
-use Rattle.gm_pending.proofs.MatchedBits.{matched_seen}
+use Rattle.gm_pending.proofs.on_pending.ResultDarts.{one_left_count}
+use Rattle.gm_pending.proofs.on_marks.BitsOfInstances.{matched_seen}
 use Rattle.gm_pending.proofs.pending.Pending.look_up.Goals as goal
 
 small_product : (a b nodes positions : ℕ) → a ≡ nodes → b ≡ positions → nodes < 256 → positions < 4294967296 → a * b < 18446744073709551616

@@ -4,8 +4,8 @@ use Rattle.gm_model.specs.declared.step.Step.TheVariants.{Absent, Exp, Imp}
 use Rattle.gm_model.specs.Rules.{step, width}
 use Rattle.gm_model.specs.Unfolding.{IsMadeArc}
 use Rattle.gm_pending.specs.inner.Results.{PendingOf, IsPrepared, rule_in, scene_in, name_of}
-use Rattle.gm_pending.proofs.Law.{law}
-use Rattle.gm_pending.proofs.Made.{unmade_there}
+use Rattle.gm_pending.proofs.on_pending.PreparedIsLawful.{law}
+use Rattle.gm_pending.proofs.on_pending.MadeArcs.{unmade_there}
 use Rattle.gm_plan.specs.inner.Placed.{turn_at}
 use Rattle.gm_pending.proofs.pending.Pending.made.Goals as goal
 

@@ -1,7 +1,7 @@
 use Rattle.std.proofs.Common.{◌≡◌, None, inr, subst, arith}
-use Rattle.gm_pending.specs.inner.Reached.{AreMarkedTo}
-use Rattle.gm_pending.proofs.OneOrbit.{next_absent, next_marked, none_marked_yet}
-use Rattle.gm_pending.proofs.Spread.{marked_darts}
+use Rattle.gm_pending.specs.inner.ReachedDarts.{AreMarkedTo}
+use Rattle.gm_pending.proofs.on_deciding.NodesOfOneOrbit.{next_absent, next_marked, none_marked_yet}
+use Rattle.gm_pending.proofs.on_deciding.OrbitsWalked.{marked_darts}
 use Rattle.gm_pending.proofs.pending.Pending.mark_instances.Goals as goal
 
 pub loop-position-init : goal.loop-position-init

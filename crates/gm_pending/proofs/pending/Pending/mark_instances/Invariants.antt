@@ -1,4 +1,4 @@
-use Rattle.gm_pending.specs.inner.Reached.{AreMarkedTo, AreResultDarts}
+use Rattle.gm_pending.specs.inner.ReachedDarts.{AreMarkedTo, AreResultDarts}
 use Rattle.gm_pending.proofs.pending.Pending.mark_instances.Given as goal
 
 abbrev pub invariant-loop-position : goal.invariant-loop-position

@@ -2,8 +2,8 @@ use Rattle.std.proofs.Common.{◌≤◌, IsSome, subst, sym}
 use Rattle.std.specs.FinMap.{get}
 use Rattle.gm_arena.specs.inner.ArenaMap.{IsAt, name_at, alpha}
 use Rattle.gm_pending.specs.inner.Results.{PendingOf, IsPrepared}
-use Rattle.gm_pending.proofs.Darts.{old_kept, unmade_old}
-use Rattle.gm_pending.proofs.KeptArcs.{kept_neighbour}
+use Rattle.gm_pending.proofs.on_pending.ResultDarts.{old_kept, unmade_old}
+use Rattle.gm_pending.proofs.on_pending.SteadyArcs.{kept_neighbour}
 use Rattle.gm_pending.proofs.pending.Pending.neighbour.Goals as goal
 
 pub returns-then-is_old-clause-arc : goal.returns-then-is_old-clause-arc

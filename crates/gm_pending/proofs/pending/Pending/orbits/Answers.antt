@@ -1,9 +1,9 @@
 use Rattle.std.proofs.Common.{◌≡◌, ◌<◌, Some, slice_get, length, refl, sym, ◌∙◌, ap, subst, [], None, arith}
 use Rattle.gm_model.specs.Maps.{IsEmbedAt}
-use Rattle.gm_pending.specs.inner.Reached.{AreReached}
+use Rattle.gm_pending.specs.inner.ReachedDarts.{AreReached}
 use Rattle.gm_pending.specs.inner.Results.{IsPrepared, PendingOf, instances_of}
-use Rattle.gm_pending.proofs.Answered.{answered_reached, asked_embed, asked_within, answered_at, unanswered_at}
-use Rattle.gm_pending.proofs.Answering.{read_there}
+use Rattle.gm_pending.proofs.on_values.AnswersKept.{answered_reached, asked_embed, asked_within, answered_at, unanswered_at}
+use Rattle.gm_pending.proofs.on_values.OneMoreAnswer.{read_there}
 use Rattle.std.specs.Prelude.{unwrap_or}
 use Rattle.std.proofs.lemmas.Bool.{false≢true}
 use Rattle.gm_pending.proofs.pending.Pending.orbits.Goals as goal

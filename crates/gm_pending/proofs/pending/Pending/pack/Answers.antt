@@ -1,6 +1,6 @@
 use Rattle.std.proofs.Common.{subst}
 use Rattle.gm_pending.specs.inner.Results.{IsResultDart}
-use Rattle.gm_pending.proofs.Spread.{added_sides, few_nodes}
+use Rattle.gm_pending.proofs.on_deciding.OrbitsWalked.{added_sides, few_nodes}
 use Rattle.gm_pending.proofs.pending.Pending.pack.Goals as goal
 
 pub new-requires : goal.new-requires

@@ -4,12 +4,12 @@ use Rattle.gm_model.specs.Rules.{has_word}
 use Rattle.gm_plan.specs.inner.InArena.{slot_number}
 use Rattle.gm_pending.specs.inner.Results.{PendingOf, IsPrepared, rule_in, scene_in}
 use Rattle.gm_plan.proofs.Looked.{slot_answered}
-use Rattle.gm_pending.proofs.Darts.{stays_there}
+use Rattle.gm_pending.proofs.on_pending.ResultDarts.{stays_there}
 use Rattle.gm_plan.specs.inner.Plans.{IsLeftCount}
 use Rattle.gm_theory.proofs.Arcs.{kept_name}
-use Rattle.gm_pending.proofs.Law.{law}
-use Rattle.gm_pending.proofs.Lefts.{right_added}
-use Rattle.gm_pending.proofs.Spread.{few_nodes}
+use Rattle.gm_pending.proofs.on_pending.PreparedIsLawful.{law}
+use Rattle.gm_pending.proofs.on_pending.LeftNodes.{right_added}
+use Rattle.gm_pending.proofs.on_deciding.OrbitsWalked.{few_nodes}
 use Rattle.gm_pending.proofs.pending.Pending.place.Goals as goal
 
 pub returns-then-node-left_nodes-clause-dart : goal.returns-then-node-left_nodes-clause-dart

@@ -1,13 +1,13 @@
 use Rattle.std.proofs.Common.{◌≡◌, ◌+◌, ◌<◌, List, length, get_or, None, sym, ap, ◌∙◌, subst, arith, ◌*◌, ◌≤◌, ℕ, ◌-◌, le_refl, le_of_eq}
 use Rattle.std.proofs.lemmas.Option.{slice_get_read}
 use Rattle.gm_walk.specs.declared.mark.Mark.{Mark}
-use Rattle.gm_pending.specs.inner.Reached.{IsSpreadTo}
+use Rattle.gm_pending.specs.inner.ReachedDarts.{IsSpreadTo}
 use Rattle.gm_pending.specs.inner.Results.{name_of}
-use Rattle.gm_pending.proofs.Following.{stays_longer, walked_cost, walked_on, walked_some}
-use Rattle.gm_pending.proofs.Decided.{on_ok}
-use Rattle.gm_pending.proofs.Pairs.{follow_other, follow_spreads, follow_starts, one_longer, pair_cost, pair_turned, pair_wide}
-use Rattle.gm_pending.proofs.Reached.{key_marked}
-use Rattle.gm_pending.proofs.Spread.{marked_kept, marked_darts, nothing_grown, spread_starts}
+use Rattle.gm_pending.proofs.on_deciding.ArcsFollowed.{stays_longer, walked_cost, walked_on, walked_some}
+use Rattle.gm_pending.proofs.on_deciding.DecidersFound.{on_ok}
+use Rattle.gm_pending.proofs.on_deciding.TwoLabelOrbits.{follow_other, follow_spreads, follow_starts, one_longer, pair_cost, pair_turned, pair_wide}
+use Rattle.gm_pending.proofs.on_marks.OneMoreMark.{key_marked}
+use Rattle.gm_pending.proofs.on_deciding.OrbitsWalked.{marked_kept, marked_darts, nothing_grown, spread_starts}
 use Rattle.gm_theory.proofs.Lists.{get_contained}
 use Rattle.gm_model.proofs.Exits.{never_ok}
 use Rattle.gm_pending.proofs.pending.Pending.reach.Goals as goal

@@ -1,6 +1,6 @@
 use Rattle.std.proofs.Common.{◌+◌, ◌-◌, ◌*◌, ◌≤◌, length}
 use Rattle.gm_theory.specs.inner.Theorem.{Unfolded}
-use Rattle.gm_pending.specs.inner.Reached.{AreResultDarts, IsClosed, IsSpreadTo}
+use Rattle.gm_pending.specs.inner.ReachedDarts.{AreResultDarts, IsClosed, IsSpreadTo}
 use Rattle.gm_pending.specs.inner.Results.{IsUnfoldedIn, name_of}
 use Rattle.gm_pending.proofs.pending.Pending.reach.Given as goal
 

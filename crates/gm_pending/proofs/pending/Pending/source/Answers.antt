@@ -1,6 +1,6 @@
 use Rattle.std.proofs.Common.{subst}
-use Rattle.gm_pending.specs.inner.Sources.{HasSourceNode}
-use Rattle.gm_pending.proofs.Reached.{get_within}
+use Rattle.gm_pending.specs.inner.ValueSources.{HasSourceNode}
+use Rattle.gm_pending.proofs.on_marks.OneMoreMark.{get_within}
 use Rattle.gm_pending.proofs.pending.Pending.source.Goals as goal
 
 pub kept_slot-requires-clause-preserved : goal.kept_slot-requires-clause-preserved

@@ -1,8 +1,8 @@
 use Rattle.std.proofs.Common.{◌+◌, ◌≤◌, Some, refl, sym, ◌∙◌, arith}
 use Rattle.gm_theory.proofs.Lists.{contained_at, get_contained}
-use Rattle.gm_pending.specs.inner.Reached.{IsFollowedTo}
-use Rattle.gm_pending.proofs.Following.{asked_next, stays_longer, followed_some, followed_follows, followed_up_to}
-use Rattle.gm_pending.proofs.Spread.{marked_kept, marked_darts}
+use Rattle.gm_pending.specs.inner.ReachedDarts.{IsFollowedTo}
+use Rattle.gm_pending.proofs.on_deciding.ArcsFollowed.{asked_next, stays_longer, followed_some, followed_follows, followed_up_to}
+use Rattle.gm_pending.proofs.on_deciding.OrbitsWalked.{marked_kept, marked_darts}
 use Rattle.gm_model.proofs.Exits.{never_ok}
 use Rattle.gm_pending.proofs.pending.Pending.spread.Goals as goal
 

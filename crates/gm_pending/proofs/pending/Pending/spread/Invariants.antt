@@ -1,7 +1,7 @@
 use Rattle.std.proofs.Common.{◌≡◌, ℕ, ◌+◌, ◌≤◌, Some, slice_get}
 use Rattle.gm_walk.specs.declared.mark.Mark.{Mark}
-use Rattle.gm_pending.specs.inner.Reached.{AreResultDarts, IsFollowedTo}
-use Rattle.gm_pending.proofs.Following.{IsAskedFrom}
+use Rattle.gm_pending.specs.inner.ReachedDarts.{AreResultDarts, IsFollowedTo}
+use Rattle.gm_pending.proofs.on_deciding.ArcsFollowed.{IsAskedFrom}
 use Rattle.gm_pending.proofs.pending.Pending.spread.Given as goal
 
 abbrev pub invariant-loop-label : goal.invariant-loop-label

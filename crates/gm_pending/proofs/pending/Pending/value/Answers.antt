@@ -2,7 +2,7 @@ use Rattle.std.proofs.Common.{◌≡◌, subst}
 use Rattle.gm_arena.specs.inner.ArenaAsMap.{value}
 use Rattle.gm_arena.specs.inner.ArenaMap.{name_at}
 use Rattle.gm_pending.specs.inner.Results.{PendingOf}
-use Rattle.gm_pending.proofs.Valued.{value_kept, source_node}
+use Rattle.gm_pending.proofs.on_values.ValuesOfDarts.{value_kept, source_node}
 use Rattle.gm_pending.proofs.pending.Pending.value.Goals as goal
 
 pub source-requires-clause-keeper : goal.source-requires-clause-keeper

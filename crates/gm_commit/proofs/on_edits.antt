@@ -1,0 +1,2 @@
+-- Which slots edits touch.
+pub mod SlotsTaken

@@ -1,6 +1,0 @@
-use Rattle.std.proofs.Common.{◌≤◌, [], take}
-use Rattle.gm_pending.specs.inner.Touched.{AreTaken}
-use Rattle.gm_pending.proofs.edits.touched_slots.Given as goal
-
-abbrev pub invariant-loop-slot : goal.invariant-loop-slot
-invariant-loop-slot l = record { taken : AreTaken (take l.slot-index l.slots) [] l.scratch.walked; fits : l.arena.bound ≤ l.scratch.bound; room : l.fn.scratch.bound ≤ l.scratch.bound }

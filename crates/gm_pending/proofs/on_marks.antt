@@ -1,0 +1,4 @@
+-- How marks are kept: one more of them, their bits and their index.
+pub mod BitsOfInstances
+pub mod IndexRoom
+pub mod OneMoreMark
