@@ -28,7 +28,8 @@ use Rattle.gm_parse.specs.declared.key.Collector.TheVariants as collectors
 use Rattle.gm_parse.specs.Forms.{TermForm, Form, NumberForm, TruthForm, ParamForm, FieldForm, SameForm, CountForm, CollectForm, CallForm, ParenForm, MinusForm, NotForm, BinaryForm, IfForm, Arguments, First, Further, level_of, IsGood, AreGood}
 use Rattle.gm_parse.specs.Levels.{unary_level, least_of_part, least_on_left, least_on_right}
 use Rattle.gm_parse.specs.Meaning.{Names, function_named, call_of, tree_in, trees_in}
-use Rattle.gm_parse.specs.Spelling.{Role, Fixed, NameAt, Counted, greatest, limit_of, passed_by, limit_in, operator, spell_labels, spell_orbit, spell_path, spell_term, spell_field, spell, spell_arguments, counted_from, parts_of}
+use Rattle.gm_parse.specs.Spelling.{Role, Fixed, NameAt, Counted, greatest, limit_of, passed_by, limit_in, operator, spell_orbit, spell_term, spell_field, spell, spell_arguments, counted_from, parts_of}
+use Rattle.gm_parse.proofs.SpelledParts.{spell_labels, spell_path}
 use Rattle.gm_expr.specs.ExprText.{level, param_name, embed_name}
 use Rattle.gm_expr.specs.inner.Writable.{AreGoodNames, IsGoodEmbed, IsGoodTerm, IsGoodMask, IsWritable}
 use Rattle.gm_expr.proofs.Found.{param_low, embed_low, node_low}

@@ -16,7 +16,8 @@ use Rattle.gm_parse.specs.declared.key.Collector.{Collector}
 use Rattle.gm_parse.specs.declared.key.Collector.TheVariants as collectors
 use Rattle.gm_parse.specs.Forms.{CallForm, First}
 use Rattle.gm_parse.specs.Levels.{least_of_part, least_on_left, least_on_right}
-use Rattle.gm_parse.specs.Spelling.{Role, Fixed, operator, spell, spell_labels, spell_orbit, spell_path, spell_term, spell_field, IsPlacedAt}
+use Rattle.gm_parse.specs.Spelling.{Role, Fixed, operator, spell, spell_orbit, spell_term, spell_field, IsPlacedAt}
+use Rattle.gm_parse.proofs.SpelledParts.{spell_labels, spell_path}
 use Rattle.gm_text.specs.SchemaText.{labels_in}
 use Rattle.gm_expr.proofs.Canonical.{behind, place_in, at, function_name, unary_form, within_unary, behind_unary, behind_labels, behind_orbit, behind_path, behind_term, behind_field, behind_tree, labels_at, orbit_at, term_at, embed_at, collect_at, is_wrapped, enclosed, within, form_at}
 

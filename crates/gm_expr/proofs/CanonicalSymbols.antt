@@ -24,7 +24,8 @@ use Rattle.gm_parse.specs.declared.key.Collector.{Collector}
 use Rattle.gm_parse.specs.declared.key.Collector.TheVariants as collectors
 use Rattle.gm_parse.specs.Forms.{CallForm, IfForm, First, Further}
 use Rattle.gm_parse.specs.Levels.{least_of_part, least_on_left, least_on_right}
-use Rattle.gm_parse.specs.Spelling.{Role, greatest, collector_word, operator, spell, spell_labels, spell_orbit, spell_path, spell_term, spell_field}
+use Rattle.gm_parse.specs.Spelling.{Role, greatest, collector_word, operator, spell, spell_orbit, spell_term, spell_field}
+use Rattle.gm_parse.proofs.SpelledParts.{spell_labels, spell_path}
 use Rattle.gm_text.specs.SchemaText.{labels_in, labels_text}
 use Rattle.gm_expr.specs.ExprText.{orbit_text, path_text, term_text, field_text, param_name, embed_name, wrapped, sign_of, head_of, tail_of, same_text, collector_text, triple_text, tree_text}
 use Rattle.gm_expr.specs.inner.Writable.{IsGoodEmbed, IsGoodTerm, IsGoodMask, IsWritable, AreGoodNames}

@@ -3,7 +3,8 @@ use Rattle.std.proofs.Common.{◌≡◌, ℕ, List, [], ◌∷◌, ◌++◌, cod
 use Rattle.gm_model.specs.Reading.{Part, word, number, sign}
 use Rattle.gm_text.specs.SchemaText.{LabelForm}
 use Rattle.gm_parse.specs.Forms.{TermForm, Form, NumberForm, TruthForm, ParamForm, FieldForm, SameForm, CountForm, CollectForm, CallForm, ParenForm, MinusForm, NotForm, BinaryForm, IfForm, Arguments, First, Further}
-use Rattle.gm_parse.specs.Spelling.{Role, Fixed, LabelAt, StepAt, name, collector_word, operator, spell, spell_arguments, spell_labels, spell_orbit, spell_path, spell_term}
+use Rattle.gm_parse.specs.Spelling.{Role, Fixed, LabelAt, StepAt, name, collector_word, operator, spell, spell_arguments, spell_orbit, spell_term}
+use Rattle.gm_parse.proofs.SpelledParts.{spell_labels, spell_path}
 
 abbrev Parts : Type 0
 Parts = List (Part Role)

@@ -11,7 +11,8 @@ use Rattle.gm_parse.specs.Forms.{TermForm, Form, NumberForm, TruthForm, ParamFor
 use Rattle.gm_parse.specs.Meaning.{Names, NameFault, UnknownAt, TwiceAt, fault_place, unknown, again_in, faults_in, argument_faults, node_number, embed_number, param_number, function_of, term_faults}
 use Rattle.gm_parse.specs.inner.Reading as exprs
 use Rattle.gm_parse.specs.inner.Reading.{first_spot, is_whole_spot}
-use Rattle.gm_parse.specs.Spelling.{Role, NameAt, LabelAt, Counted, counted_from, spell, spell_arguments, spell_labels, spell_orbit, spell_path, spell_term, spell_field, IsPlacedAt}
+use Rattle.gm_parse.specs.Spelling.{Role, NameAt, LabelAt, Counted, counted_from, spell, spell_arguments, spell_orbit, spell_term, spell_field, IsPlacedAt}
+use Rattle.gm_parse.proofs.SpelledParts.{spell_labels, spell_path}
 use Rattle.gm_parse.proofs.Counted.{LedSpot, spot_behind, form_leads, form_whole}
 use Rattle.gm_forms.specs.BookText.{ExprToken, IsValue, IsTokenPlaced, part_of, first_place, fault_in_value, place_of}
 use Rattle.gm_forms.proofs.Contained.{contains_cases, contains_none, contains_either}

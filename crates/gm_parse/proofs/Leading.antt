@@ -22,7 +22,8 @@ use Rattle.gm_parse.specs.declared.place.Place.{Place}
 use Rattle.gm_parse.specs.declared.place.Place.TheVariants as places
 use Rattle.gm_parse.specs.Forms.{TermForm, Form, NumberForm, TruthForm, ParamForm, FieldForm, SameForm, CountForm, CollectForm, CallForm, ParenForm, MinusForm, NotForm, BinaryForm, IfForm, Arguments, First, Further, level_of, IsGood, AreGood}
 use Rattle.gm_parse.specs.Levels.{binary_level, least_on_left, least_on_right}
-use Rattle.gm_parse.specs.Spelling.{Role, Fixed, limit_of, name, operator, spell, spell_arguments, spell_labels, spell_path, spell_term, Quantity, StepAt, collector_word}
+use Rattle.gm_parse.specs.Spelling.{Role, Fixed, limit_of, name, operator, spell, spell_arguments, spell_term, Quantity, StepAt, collector_word}
+use Rattle.gm_parse.proofs.SpelledParts.{spell_labels, spell_path}
 use Rattle.gm_parse.specs.inner.Reading.{State, state_at, operator_move, behind_move, move_by, move, role_at, key_role, key_of, is_whole}
 use Rattle.gm_parse.proofs.Keys.{key_operator, key_name}
 

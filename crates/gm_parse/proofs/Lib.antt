@@ -9,3 +9,4 @@ pub mod Steps
 pub mod FaultOrder
 pub mod OneReading
 pub mod AtLeast
+pub mod SpelledParts

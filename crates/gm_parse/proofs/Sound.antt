@@ -21,7 +21,8 @@ use Rattle.gm_parse.specs.declared.place.Place.{Place}
 use Rattle.gm_parse.specs.declared.place.Place.TheVariants as places
 use Rattle.gm_parse.specs.Forms.{TermForm, Form, NumberForm, TruthForm, ParamForm, FieldForm, SameForm, CountForm, CollectForm, CallForm, ParenForm, First, Further, level_of, IsGood, IsGoodTerm}
 use Rattle.gm_parse.specs.Levels.{binary_level, least_on_right}
-use Rattle.gm_parse.specs.Spelling.{Role, Fixed, Quantity, NameAt, LabelAt, StepAt, name, operator, spell, spell_labels, spell_orbit, spell_path, spell_term, spell_field, collector_word}
+use Rattle.gm_parse.specs.Spelling.{Role, Fixed, Quantity, NameAt, LabelAt, StepAt, name, operator, spell, spell_orbit, spell_term, spell_field, collector_word}
+use Rattle.gm_parse.proofs.SpelledParts.{spell_labels, spell_path}
 use Rattle.gm_parse.specs.inner.Reading.{State, state_at, operator_move, behind_move, close_move, comma_move, then_move, else_move, move_by, move, role_at, key_role, key_of, is_whole, start}
 use Rattle.gm_parse.proofs.Keys.{symbol_of, is_fixed, fixed_is, number_is, name_is}
 use Rattle.gm_parse.proofs.Leading.{compared_by, need_behind, Led, tables}

@@ -1,5 +1,6 @@
 -- How a form of an expression is spelled: its symbols with their roles and limits, and where it stands among the marks of a text.
 use Rattle.std.specs.Prelude.{◌≡◌, ℕ, ◌+◌, Bool, true, false, nat_lt, if◌then◌else◌, List, [], ◌∷◌, ◌++◌, length, map, Option, Some, None, codes}
+use Rattle.std.specs.List.{flat_map}
 use Rattle.gm_model.specs.declared.limit.TheConstants.{MOST_NAME_BYTES, MOST_TOKENS}
 use Rattle.gm_model.specs.declared.expr.BinOp.{BinOp}
 use Rattle.gm_model.specs.declared.expr.BinOp.TheVariants as ops
@@ -82,22 +83,13 @@ collector_word collectors.Greatest = codes "max"
 
 -- Each spelling takes what stands after it. Labels go up to the number n.
 
-abbrev pub spell_labels : ℕ → List LabelForm → List (Part Role) → List (Part Role)
-spell_labels n [] rest = rest
-spell_labels n (form ∷ forms) rest = number (LabelAt n form.place) form.label ∷ spell_labels n forms rest
-
 -- <0 1>
 abbrev pub spell_orbit : ℕ → List LabelForm → List (Part Role) → List (Part Role)
-spell_orbit n orbit rest = sign Fixed (codes "<") ∷ spell_labels n orbit (sign Fixed (codes ">") ∷ rest)
-
--- @0@1
-abbrev pub spell_path : ℕ → List ℕ → List (Part Role) → List (Part Role)
-spell_path n [] rest = rest
-spell_path n (label ∷ labels) rest = sign Fixed (codes "@") ∷ number (StepAt n) label ∷ spell_path n labels rest
+spell_orbit n orbit rest = sign Fixed (codes "<") ∷ (map (λ (form : LabelForm). number (LabelAt n form.place) form.label) orbit ++ sign Fixed (codes ">") ∷ rest)
 
 -- a@0@1
 abbrev pub spell_term : ℕ → TermForm → List (Part Role) → List (Part Role)
-spell_term n term rest = name term.node ∷ spell_path n term.path rest
+spell_term n term rest = name term.node ∷ (flat_map (λ (label : ℕ). sign Fixed (codes "@") ∷ number (StepAt n) label ∷ []) term.path ++ rest)
 
 -- a@0.pos
 abbrev pub spell_field : ℕ → TermForm → Mention → List (Part Role) → List (Part Role)

@@ -29,7 +29,8 @@ use Rattle.gm_tree.specs.declared.partial.Lead.TheVariants as leads
 use Rattle.gm_tree.specs.declared.partial.Named.{Named}
 use Rattle.gm_parse.specs.Forms.{TermForm, Form, NumberForm, TruthForm, ParamForm, FieldForm, SameForm, CountForm, CollectForm, CallForm, ParenForm, MinusForm, NotForm, BinaryForm, IfForm, Arguments, First, Further, count_of, level_of, IsGood, AreGood}
 use Rattle.gm_parse.specs.Levels.{binary_level, least_on_left, least_on_right}
-use Rattle.gm_parse.specs.Spelling.{Role, Fixed, Quantity, LabelAt, StepAt, greatest, IsPlacedAt, spell, spell_arguments, spell_path, spell_labels, spell_term, operator, name, collector_word}
+use Rattle.gm_parse.specs.Spelling.{Role, Fixed, Quantity, LabelAt, StepAt, greatest, IsPlacedAt, spell, spell_arguments, spell_term, operator, name, collector_word}
+use Rattle.gm_parse.proofs.SpelledParts.{spell_path, spell_labels}
 use Rattle.gm_tree.specs.inner.Small.{IsSmall, AreSmall, IsSmallPath, IsSmallOrbit}
 use Rattle.gm_parse.specs.inner.Reading.{key_of}
 use Rattle.gm_parse.specs.Meaning.{Names, NameFault, UnknownAt, TwiceAt, node_number, embed_number, param_number, function_named, function_of, with_arity, arity, unknown, again_in, orbit_faults, term_faults, field_faults, faults_in, argument_faults, call_of, mask_of, term_in, embed_in, tree_in, trees_in}

@@ -14,7 +14,8 @@ use Rattle.gm_text.specs.inner.SchemaAnswers.{marks_left}
 use Rattle.gm_parse.specs.declared.fault.ExprFault.{ExprFault}
 use Rattle.gm_parse.specs.declared.fault.ExprFault.TheVariants as faults
 use Rattle.gm_parse.specs.Forms.{TermForm, Form, NumberForm, TruthForm, ParamForm, FieldForm, SameForm, CountForm, CollectForm, CallForm, ParenForm, MinusForm, NotForm, BinaryForm, IfForm, Arguments, First, Further, IsGood}
-use Rattle.gm_parse.specs.Spelling.{Role, Fixed, greatest, limit_of, limit_in, passed_by, counted_from, parts_of, spell, spell_arguments, spell_labels, spell_path, spell_term, name, operator, Stands, IsPlacedAt}
+use Rattle.gm_parse.specs.Spelling.{Role, Fixed, greatest, limit_of, limit_in, passed_by, counted_from, parts_of, spell, spell_arguments, spell_term, name, operator, Stands, IsPlacedAt}
+use Rattle.gm_parse.proofs.SpelledParts.{spell_labels, spell_path}
 use Rattle.gm_tree.specs.inner.Small.{IsSmall, AreSmall, IsSmallPath, IsSmallOrbit}
 use Rattle.gm_parse.specs.Meaning.{Names, NameFault, UnknownAt, TwiceAt, fault_place, fault_rank, faults_in, tree_in, IsFirstFault, IsNotAfter, IsUnsigned}
 use Rattle.gm_tree.specs.inner.FirstNames.{first_names}
