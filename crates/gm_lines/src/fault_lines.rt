@@ -11,7 +11,7 @@ use gm_laws::MapBreach;
 use gm_mapfile::{MapFault, NoMap};
 use gm_model::{LimitKind, Name, OutOfMemory};
 use gm_script::ScriptFault;
-use gm_text::Text;
+use gm_text::{Text, put_number};
 use std::alloc::Global;
 
 /// The line that refuses a map, with its line end. There is none where memory ran out.
@@ -30,11 +30,11 @@ fn put_map_fault(text: &mut Text, fault: MapFault, embed: Option<Name>) -> Resul
     ensures { OnOk result ((bytes : List ℕ) → IsNamedFaultOf bytes fault embed → PutsMapFault bytes text.old text.new) }
 {
     match fault {
-        MapFault::Text { place } => put_at(text, b"text ", place as u64),
+        MapFault::Text { place } => put_number(text, b"text ", place as u64),
         MapFault::Limit { what, place } => put_limit(text, what, place),
-        MapFault::Twice { place } => put_at(text, b"twice ", place as u64),
-        MapFault::DartTwice { dart } => put_at(text, b"dart-twice ", u64::from(dart)),
-        MapFault::Next { dart } => put_at(text, b"next dart ", u64::from(dart)),
+        MapFault::Twice { place } => put_number(text, b"twice ", place as u64),
+        MapFault::DartTwice { dart } => put_number(text, b"dart-twice ", u64::from(dart)),
+        MapFault::Next { dart } => put_number(text, b"next dart ", u64::from(dart)),
         MapFault::NoTarget { dart, label } => put_label(text, b"no-target dart ", dart, label),
         MapFault::Breach(breach) => put_breach(text, breach, embed),
         MapFault::OutOfMemory => Err(OutOfMemory),
@@ -60,8 +60,8 @@ fn put_change(text: &mut Text, name: &[u8], dart: u32, other: u32) -> Result<(),
 {
     text.put(b"embedding ")?;
     text.put(name)?;
-    put_at(text, b" darts ", u64::from(dart))?;
-    put_at(text, b" ", u64::from(other))
+    put_number(text, b" darts ", u64::from(dart))?;
+    put_number(text, b" ", u64::from(other))
 }
 
 /// The line that refuses a book, with its line end. There is none where memory ran out.
@@ -79,11 +79,11 @@ fn put_book_fault(text: &mut Text, fault: BookFault) -> Result<(), OutOfMemory>
     ensures { OnOk result (IsSaidOfBook fault × (text.new ≡ text.old ++ book_words fault)) }
 {
     match fault {
-        BookFault::Text { place } => put_at(text, b"text ", place as u64),
+        BookFault::Text { place } => put_number(text, b"text ", place as u64),
         BookFault::Limit { what, place } => put_limit(text, what, place),
-        BookFault::Twice { place } => put_at(text, b"twice ", place as u64),
-        BookFault::Unknown { place } => put_at(text, b"unknown ", place as u64),
-        BookFault::WrongKind { place } => put_at(text, b"type ", place as u64),
+        BookFault::Twice { place } => put_number(text, b"twice ", place as u64),
+        BookFault::Unknown { place } => put_number(text, b"unknown ", place as u64),
+        BookFault::WrongKind { place } => put_number(text, b"type ", place as u64),
         BookFault::OutOfMemory => Err(OutOfMemory),
     }
 }
@@ -103,12 +103,12 @@ fn put_script_fault(text: &mut Text, fault: ScriptFault) -> Result<(), OutOfMemo
     ensures { OnOk result (IsSaidOfScript fault × (text.new ≡ text.old ++ script_words fault)) }
 {
     match fault {
-        ScriptFault::Text { place } => put_at(text, b"text ", place as u64),
+        ScriptFault::Text { place } => put_number(text, b"text ", place as u64),
         ScriptFault::Limit { what, place } => put_limit(text, what, place),
-        ScriptFault::Twice { place } => put_at(text, b"twice ", place as u64),
-        ScriptFault::UnknownRule { place } => put_at(text, b"unknown-rule ", place as u64),
-        ScriptFault::HookCount { place } => put_at(text, b"hook-count ", place as u64),
-        ScriptFault::Params { place } => put_at(text, b"params ", place as u64),
+        ScriptFault::Twice { place } => put_number(text, b"twice ", place as u64),
+        ScriptFault::UnknownRule { place } => put_number(text, b"unknown-rule ", place as u64),
+        ScriptFault::HookCount { place } => put_number(text, b"hook-count ", place as u64),
+        ScriptFault::Params { place } => put_number(text, b"params ", place as u64),
         ScriptFault::OutOfMemory => Err(OutOfMemory),
     }
 }
@@ -118,30 +118,22 @@ fn put_limit(text: &mut Text, what: LimitKind, place: usize) -> Result<(), OutOf
 {
     text.put(b"limit ")?;
     text.put(word_of(what))?;
-    put_at(text, b" ", place as u64)
+    put_number(text, b" ", place as u64)
 }
 
 fn put_label(text: &mut Text, words: &[u8], dart: u32, label: u8) -> Result<(), OutOfMemory>
     ensures { OnOk result (text.new ≡ text.old ++ (words.now ++ decimal dart ++ codes " label " ++ decimal label)) }
 {
-    put_at(text, words, u64::from(dart))?;
-    put_at(text, b" label ", u64::from(label))
+    put_number(text, words, u64::from(dart))?;
+    put_number(text, b" label ", u64::from(label))
 }
 
 fn put_crossing(text: &mut Text, dart: u32, i: u8, j: u8) -> Result<(), OutOfMemory>
     ensures { OnOk result (text.new ≡ text.old ++ (codes "cycle dart " ++ decimal dart ++ codes " labels " ++ decimal i ++ codes " " ++ decimal j)) }
 {
-    put_at(text, b"cycle dart ", u64::from(dart))?;
-    put_at(text, b" labels ", u64::from(i))?;
-    put_at(text, b" ", u64::from(j))
-}
-
-/// Appends words and a number.
-pub fn put_at(text: &mut Text, words: &[u8], number: u64) -> Result<(), OutOfMemory>
-    ensures { OnOk result (text.new ≡ text.old ++ (words.now ++ decimal number)) }
-{
-    text.put(words)?;
-    text.number(number)
+    put_number(text, b"cycle dart ", u64::from(dart))?;
+    put_number(text, b" labels ", u64::from(i))?;
+    put_number(text, b" ", u64::from(j))
 }
 
 /// The word of a limit.

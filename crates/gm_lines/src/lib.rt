@@ -4,5 +4,5 @@
 mod fault_lines;
 mod rule_lines;
 
-pub use fault_lines::{book_line, map_line, put_at, script_line};
-pub use rule_lines::{put_rule, refused_rule_line};
+pub use fault_lines::{book_line, map_line, script_line};
+pub use rule_lines::{refused_rule_line, verdict_line};

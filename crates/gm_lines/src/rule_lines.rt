@@ -5,27 +5,27 @@ ghost use Rattle.gm_lines.specs.Refusing.{refusal};
 ghost use Rattle.gm_model.specs.Rules.{rule_of};
 ghost use Rattle.gm_lines.specs.inner.Speaking.{IsSayable, SpeaksOf};
 ghost use Rattle.gm_lines.specs.Checking.{rule_line, verdict_words, rule_fault_words, node_name, side_word};
-ghost use Rattle.gm_model.specs.Reports.{embed_name};
 
-use crate::fault_lines::put_at;
 use gm_model::{OutOfMemory, RuleFault, RuleTable, Schema, Side};
-use gm_text::Text;
+use gm_text::{Text, put_embed, put_number};
 use std::alloc::Global;
 
-/// Appends the line of a rule: accepted, or refused with its first fault.
-pub fn put_rule(
-    text: &mut Text,
+/// The line of a rule, with its line end: accepted, or refused with its first fault.
+pub fn verdict_line(
+    alloc: Global,
     schema: &Schema,
     rule: &RuleTable,
     fault: Option<RuleFault>,
-) -> Result<(), OutOfMemory>
+) -> Result<Vec<u8>, OutOfMemory>
     requires { IsSayable schema.now (rule_of rule.now) fault }
-    ensures { OnOk result (text.new ≡ text.old ++ rule_line schema.now (rule_of rule.now) fault) }
+    ensures { IfOk result (λ line. line.items ≡ rule_line schema.now (rule_of rule.now) fault) }
 {
+    let mut text = Text::new(alloc);
     text.put(b"rule ")?;
     text.put(rule.name.bytes())?;
-    put_verdict(text, schema, rule, fault)?;
-    text.put(b"\n")
+    put_verdict(&mut text, schema, rule, fault)?;
+    text.put(b"\n")?;
+    Ok(text.into_bytes())
 }
 
 /// The line that refuses a book for its first rule that isn't accepted, with its line end.
@@ -87,7 +87,7 @@ fn put_rule_fault(
         RuleFault::ArcSetDiffers { node, label } => put_label(text, b"arc-set ", rule, node, label),
         RuleFault::Square { node, i, j } => {
             put_label(text, b"square ", rule, node, i)?;
-            put_at(text, b" ", u64::from(j))
+            put_number(text, b" ", u64::from(j))
         }
         RuleFault::SetTwice { embed, node, other } => {
             put_embed(text, b"set-twice ", schema, embed)?;
@@ -138,16 +138,7 @@ fn put_label(
     ensures { OnOk result (text.new ≡ text.old ++ (words.now ++ node_name (rule_of rule.now) node ++ codes " " ++ decimal label)) }
 {
     put_node(text, words, rule, node)?;
-    put_at(text, b" ", u64::from(label))
-}
-
-/// Appends words and the name of an embedding.
-fn put_embed(text: &mut Text, words: &[u8], schema: &Schema, embed: u8) -> Result<(), OutOfMemory>
-    requires { embed < length schema.now.embeds }
-    ensures { OnOk result (text.new ≡ text.old ++ (words.now ++ embed_name schema.now embed)) }
-{
-    text.put(words)?;
-    text.put(schema.embeds.as_slice()[embed as usize].name.bytes())
+    put_number(text, b" ", u64::from(label))
 }
 
 fn put_side(text: &mut Text, side: Side) -> Result<(), OutOfMemory>

@@ -37,7 +37,7 @@ use Rattle.gm_run.specs.declared.standing.Open.TheVariants as opens
 use Rattle.gm_run.specs.declared.standing.Standing.{Standing}
 use Rattle.gm_run.specs.inner.Alike.{AreAlike, AreAlikeStates}
 use Rattle.gm_run.specs.inner.Progress.{IsLeft, BehindAll, WithinEach}
-use Rattle.gm_run.specs.inner.Standing.{HasLine, WasDone, WasRefused, HasOpen, HasStep, IsStopped, MayGoBack, MayRecall, Recalls, Remembers, StandsAt, entered_by, nearest, told_behind}
+use Rattle.gm_run.specs.inner.Standing.{HasLine, WasDone, WasRefused, HasOpen, HasStep, IsStopped, MayGoBack, MayRecall, Remembers, StandsAt, entered_by, nearest, told_behind}
 use Rattle.gm_run.specs.inner.Turns.{AreTallied, HasTurn, HaveTurns, StopsAtTurn, StopsWithin, counted, entered_by_turn, entered_turns, told_by, within_turns}
 use Rattle.gm_run.proofs.OneRun.{one_each_leads}
 use Rattle.gm_run.proofs.Tallies.{costs_together, cost_of, no_costs, passed_on, taken_on, turns_sound, unchanged, within_all}

@@ -5,7 +5,7 @@ use Rattle.std.proofs.lemmas.Option.{slice_get_within, get_or_from_slice_get}
 use Rattle.std.specs.List.{slice_get}
 use Rattle.gm_model.specs.declared.value.Value.{Value}
 use Rattle.gm_model.specs.declared.value.Value.TheVariants as values
-use Rattle.gm_model.specs.Applications.{Application, Cause, NoDart, Arc, Same, PreNoValue, PreFalse, FullDarts, FullNames, HasHookDarts, MeetsSteps, IsFirstBroken, IsRepeat, IsFirstRepeat, MeetsPre, IsReady, IsStaying, IsDone, IsRefused, NoHookDart, BrokenStep, Repeated, ValuelessPre, FalsePre, NoRoom, NoNames, more, reading_at}
+use Rattle.gm_model.specs.Applications.{Application, Cause, NoDart, Arc, Same, PreNoValue, PreFalse, FullDarts, FullNames, HasHookDarts, MeetsSteps, IsFirstBroken, IsFirstRepeat, MeetsPre, IsReady, IsStaying, IsDone, IsRefused, NoHookDart, BrokenStep, Repeated, ValuelessPre, FalsePre, NoRoom, NoNames, more, reading_at}
 use Rattle.gm_model.specs.Applications as causes
 use Rattle.gm_model.specs.Expressions.{HasValue, HasNoValue}
 use Rattle.gm_model.specs.Limits.{most_darts, most_names}

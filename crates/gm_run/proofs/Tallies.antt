@@ -7,7 +7,7 @@ use Rattle.gm_model.specs.declared.value.Value.{Value}
 use Rattle.gm_model.specs.Budgets.{IsLineBudget, TurnCosts, AreTurnCosts, changed_darts, done_part}
 use Rattle.gm_model.specs.Maps.{Map, IsDart}
 use Rattle.gm_model.specs.Rules.{Rule}
-use Rattle.gm_model.specs.Runs.{Turn, Taken, Passed, IsLineOutcome, AreTurns, is_done_turn, is_passed, is_refused_turn, line_at}
+use Rattle.gm_model.specs.Runs.{Turn, Taken, Passed, IsLineOutcome, AreTurns, is_done_turn, line_at}
 use Rattle.gm_model.specs.Runs as runs
 use Rattle.gm_model.specs.declared.schema.Schema.{Schema}
 use Rattle.gm_theory.specs.inner.Outcomes.{IsGoodLine, IsSoundOf}

@@ -26,11 +26,6 @@ onto start words more whole first after begun is last = last ∙ ap (λ bytes. b
 pub onward : {T E : Type 0} (result : Result T E) (start words more whole first after : List ℕ) → first ≡ start ++ words → words ++ more ≡ whole → OnOk result (after ≡ first ++ more) → OnOk result (after ≡ start ++ whole)
 onward result start words more whole first after begun is h = on_ok_weaker result (onto start words more whole first after begun is) h
 
--- the name at a place, as the code reads it from a list
-pub name_read : {A : Type 0} (name : A → List ℕ) (xs read : List A) (x : ℕ) (none : A) (bytes : List ℕ) → read ≡ xs → x < length xs → bytes ≡ name (get_or read x none) → bytes ≡ unwrap_or (option_map name (slice_get xs x)) []
-name_read name xs read x none bytes same within is =
-    is ∙ sym (ap (λ o. unwrap_or (option_map name o) []) (slice_get-get_or read x none (subst (λ ys. x < length ys) (sym same) within))) ∙ ap (λ ys. unwrap_or (option_map name (slice_get ys x)) []) same
-
 -- the name of a rule of a book, as the code reads it
 pub named_at : (rules : List RuleTable) (k : ℕ) (table : RuleTable) → k < length rules → table ≡ get_or rules k table → table.name ≡ rule_name (map rule_of rules) k
 named_at rules k table within is =

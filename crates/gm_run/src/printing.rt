@@ -11,9 +11,9 @@ ghost use Rattle.gm_run.specs.inner.Printing.{CanBePrinted, IsNamed, SpeaksOf, l
 
 use crate::done_line::put_done_line;
 use crate::outcome::{Outcome, Report};
-use crate::words::{put_number, put_outcome};
+use crate::words::put_outcome;
 use gm_model::{Book, Node, OutOfMemory, RuleTable, Script, StatRef};
-use gm_text::Text;
+use gm_text::{Text, put_number};
 use itoa::Buffer;
 use std::alloc::Global;
 

@@ -1,7 +1,7 @@
 //! The words that say what became of a statement.
 ghost use Rattle.std.specs.Prelude.{◌≡◌, ◌++◌, ◌<◌, IsSomeAnd, OnOk, codes, decimal, length, map};
 ghost use Rattle.gm_model.specs.Rules.{name_at, node_of};
-ghost use Rattle.gm_model.specs.Reports.{instance_words, embed_name};
+ghost use Rattle.gm_model.specs.Reports.{instance_words};
 ghost use Rattle.gm_model.specs.Runs as runs;
 ghost use Rattle.gm_run.specs.inner.Lines.{outcome_of, cause_of};
 ghost use Rattle.gm_run.specs.inner.Printing.{SpeaksOf, refusal_words, told_words};
@@ -9,7 +9,7 @@ ghost use Rattle.gm_run.specs.inner.Printing.{SpeaksOf, refusal_words, told_word
 use crate::outcome::Outcome;
 use gm_apply::{Applied, Refusal};
 use gm_model::{Node, OutOfMemory, Schema};
-use gm_text::Text;
+use gm_text::{Text, put_embed, put_number};
 
 /// Appends the outcome of a statement whose rule has these nodes.
 pub(crate) fn put_outcome(
@@ -136,23 +136,6 @@ fn put_node(text: &mut Text, words: &[u8], nodes: &[Node], node: u8) -> Result<(
 {
     text.put(words)?;
     text.put(nodes[node as usize].name.bytes())
-}
-
-/// Appends words and the name of an embedding.
-fn put_embed(text: &mut Text, words: &[u8], schema: &Schema, embed: u8) -> Result<(), OutOfMemory>
-    requires { embed < length schema.now.embeds }
-    ensures { OnOk result (text.new ≡ text.old ++ (words.now ++ embed_name schema.now embed)) }
-{
-    text.put(words)?;
-    text.put(schema.embeds.as_slice()[embed as usize].name.bytes())
-}
-
-/// Appends words and a number.
-pub(crate) fn put_number(text: &mut Text, words: &[u8], number: u64) -> Result<(), OutOfMemory>
-    ensures { OnOk result (text.new ≡ text.old ++ (words.now ++ decimal number)) }
-{
-    text.put(words)?;
-    text.number(number)
 }
 
 /// Appends words and a number, and then others.

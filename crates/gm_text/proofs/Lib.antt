@@ -21,6 +21,7 @@ pub mod SchemaReaders
 pub mod SchemaWhole
 pub mod SchemaSound
 pub mod Cuts
+pub mod NamesRead
 pub mod SchemaPrinted
 pub mod OneSchema
 pub mod SchemaMasks

@@ -6,6 +6,7 @@
 //! text.
 #![tactic(auto)]
 
+mod after_words;
 mod at_least;
 mod bytes;
 mod digits;
@@ -22,6 +23,7 @@ mod signed;
 mod text;
 mod writing;
 
+pub use after_words::{put_embed, put_number};
 pub use at_least::a_schema_is_read_or_has_a_first_fault;
 pub use fault::LexFault;
 pub use gm_model::{Token, TokenKind};

@@ -1,9 +1,10 @@
 //! The canonical text of a schema.
-ghost use Rattle.std.specs.Prelude.{◌≡◌, ◌<◌, ◌^◌, ◌++◌, OnOk, OnErr, decimal};
+ghost use Rattle.std.specs.Prelude.{◌≡◌, ◌<◌, ◌^◌, ◌++◌, OnOk, OnErr};
 ghost use Rattle.std.specs.List.{flat_map};
 ghost use Rattle.gm_text.specs.SchemaText.{canonical, embed_line, kind_word, labels_in, labels_text};
 ghost use Rattle.gm_text.specs.inner.SchemaPrinting.{AreParts, IsCut, IsPart};
 
+use crate::after_words::put_number;
 use crate::text::Text;
 use gm_model::{Embed, Kind, Mask, OutOfMemory, Schema};
 
@@ -61,19 +62,11 @@ pub fn print_labels(out: &mut Text, mask: Mask) -> Result<(), OutOfMemory>
     let mut gap: &'static [u8] = b"";
     for label in 0..8 {
         if mask.has(label) {
-            print_label(out, gap, label)?;
+            put_number(out, gap, u64::from(label))?;
             gap = b" ";
         }
     }
     Ok(())
-}
-
-fn print_label(out: &mut Text, gap: &[u8], label: u8) -> Result<(), OutOfMemory>
-    ensures ok { OnOk result (out.new ≡ out.old ++ (gap.now ++ decimal label)) }
-    ensures err { OnErr result (IsCut out.old (gap.now ++ decimal label) out.new) }
-{
-    out.put(gap)?;
-    out.number(u64::from(label))
 }
 
 /// The word by which a schema or a parameter names the kind.

@@ -12,9 +12,9 @@ use crate::book::refused;
 use crate::refusal::NoText;
 use crate::reply::{Reply, reply_within_limit};
 use gm_book::read_book;
-use gm_lines::{put_at, put_rule};
+use gm_lines::verdict_line;
 use gm_model::{Book, OutOfMemory, RuleFault, RuleTable, Schema};
-use gm_text::Text;
+use gm_text::{Text, put_number};
 use std::alloc::Global;
 
 /// A line for each rule of the book that a file's text stands for, and one that counts; or the line
@@ -51,7 +51,8 @@ fn lines_of(
     let mut refused = 0;
     for rule in rules {
         let fault = first_fault(schema, rule);
-        put_rule(&mut text, schema, rule, fault)?;
+        let line = verdict_line(alloc, schema, rule, fault)?;
+        text.put(line.as_slice())?;
         refused += refusals_of(fault);
     }
     Ok((text, refused))
@@ -89,8 +90,8 @@ fn refusals_of(fault: Option<RuleFault>) -> usize
 fn put_counts(text: &mut Text, rules: usize, refused: usize) -> Result<(), OutOfMemory>
     ensures { OnOk result (text.new ≡ text.old ++ counts_line rules refused) }
 {
-    put_at(text, b"rules ", rules as u64)?;
-    put_at(text, b" refused ", refused as u64)?;
+    put_number(text, b"rules ", rules as u64)?;
+    put_number(text, b" refused ", refused as u64)?;
     text.put(b"\n")
 }
 

@@ -17,11 +17,10 @@ use crate::reply::{Reply, stopped};
 use gm_arena::{Arena, Steps};
 use gm_cells::{count_cells, put_numbers};
 use gm_grid::make_grid;
-use gm_lines::put_at;
 use gm_model::{Book, OutOfMemory, Script};
 use gm_plan::Plan;
 use gm_run::{Report, count_done, run};
-use gm_text::Text;
+use gm_text::{Text, put_number};
 use gm_walk::Scratch;
 use std::alloc::Global;
 use std::sync::ledger::Ledger;
@@ -125,10 +124,10 @@ fn put_line(
 ) -> Result<(), OutOfMemory>
     ensures { OnOk result (text.new ≡ text.old ++ grid_line size done report.now.darts report.now.next cells.now) }
 {
-    put_at(text, b"grid ", u64::from(size))?;
-    put_at(text, b" applied ", done as u64)?;
-    put_at(text, b" darts ", u64::from(report.darts))?;
-    put_at(text, b" next ", u64::from(report.next))?;
+    put_number(text, b"grid ", u64::from(size))?;
+    put_number(text, b" applied ", done as u64)?;
+    put_number(text, b" darts ", u64::from(report.darts))?;
+    put_number(text, b" next ", u64::from(report.next))?;
     text.put(b" cells")?;
     put_numbers(text, cells)?;
     text.put(b"\n")

@@ -20,10 +20,9 @@ use crate::reply::{MOST_BYTES, Reply, stopped};
 use crate::running::{Loaded, Made, load_map, saved};
 use gm_arena::{Arena, Steps};
 use gm_host::Store;
-use gm_lines::put_at;
 use gm_mapfile::{MapVersion, print_map_over};
 use gm_model::{MOST_DARTS, OutOfMemory};
-use gm_text::Text;
+use gm_text::{Text, put_number};
 use std::alloc::Global;
 use std::sync::ledger::Ledger;
 
@@ -32,8 +31,8 @@ fn line_of(alloc: Global, arena: &Arena) -> Result<Vec<u8>, OutOfMemory>
     ensures { IfOk result (λ line. line.items ≡ migrated_line (listed_of arena.now)) }
 {
     let mut text = Text::new(alloc);
-    put_at(&mut text, b"migrated darts ", arena.count() as u64)?;
-    put_at(&mut text, b" next ", arena.next() as u64)?;
+    put_number(&mut text, b"migrated darts ", arena.count() as u64)?;
+    put_number(&mut text, b" next ", arena.next() as u64)?;
     text.put(b"\n")?;
     Ok(text.into_bytes())
 }

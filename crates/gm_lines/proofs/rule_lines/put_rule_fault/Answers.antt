@@ -35,12 +35,12 @@ returns-in-ArcSetDiffers c = subst (λ f. OnOk c.put_label-in-ArcSetDiffers.resu
 
 pub returns-in_ok-put_label-in-Square : goal.returns-in_ok-put_label-in-Square
 returns-in_ok-put_label-in-Square c =
-    let put = c.put_at in
+    let put = c.put_number in
     let rule = rule_of c.args.rule.now in
     let words = codes "square " ++ node_name rule c.in-Square.node ++ codes " " ++ decimal c.in-Square.i in
     let more = codes " " ++ decimal c.in-Square.j in
     subst (λ f. OnOk put.result (put.new.text ≡ c.args.text.now ++ rule_fault_words c.args.schema.now rule f)) (sym c.in-Square.is)
-    (onward put.result c.args.text.now words more _ c.put_label-in-Square.new.text put.new.text c.in_ok-put_label-in-Square.ensures (sym (append_assoc words (codes " ") (decimal c.in-Square.j))) (subst (λ n. OnOk put.result (put.new.text ≡ c.put_label-in-Square.new.text ++ (codes " " ++ decimal n))) c.from.ensures put.ensures))
+    (onward put.result c.args.text.now words more _ c.put_label-in-Square.new.text put.new.text c.in_ok-put_label-in-Square.ensures (sym (append_assoc words (codes " ") (decimal c.in-Square.j))) (subst (λ n. OnOk put.result (put.new.text ≡ c.put_label-in-Square.new.text ++ (codes " " ++ decimal n))) c.from.ensures put.ensures.ok))
 
 pub returns-in_ok-put_embed-in-SetTwice : goal.returns-in_ok-put_embed-in-SetTwice
 returns-in_ok-put_embed-in-SetTwice c =
@@ -49,7 +49,7 @@ returns-in_ok-put_embed-in-SetTwice c =
     let words = codes "set-twice " ++ embed_name c.args.schema.now c.in-SetTwice.embed in
     let more = codes " " ++ node_name rule c.in-SetTwice.node ++ codes " " ++ node_name rule c.in-SetTwice.other in
     subst (λ f. OnOk put.result (put.new.text ≡ c.args.text.now ++ rule_fault_words c.args.schema.now rule f)) (sym c.in-SetTwice.is)
-    (onward put.result c.args.text.now words more _ c.put_embed.new.text put.new.text c.in_ok-put_embed-in-SetTwice.ensures (four_more words (codes " ") (node_name rule c.in-SetTwice.node) (codes " ") (node_name rule c.in-SetTwice.other)) put.ensures)
+    (onward put.result c.args.text.now words more _ c.put_embed.new.text put.new.text c.in_ok-put_embed-in-SetTwice.ensures.ok (four_more words (codes " ") (node_name rule c.in-SetTwice.node) (codes " ") (node_name rule c.in-SetTwice.other)) put.ensures)
 
 pub returns-in_ok-put_embed-in-NoValue : goal.returns-in_ok-put_embed-in-NoValue
 returns-in_ok-put_embed-in-NoValue c =
@@ -58,7 +58,7 @@ returns-in_ok-put_embed-in-NoValue c =
     let words = codes "no-value " ++ embed_name c.args.schema.now c.in-NoValue.embed in
     let more = codes " " ++ node_name rule c.in-NoValue.node in
     subst (λ f. OnOk put.result (put.new.text ≡ c.args.text.now ++ rule_fault_words c.args.schema.now rule f)) (sym c.in-NoValue.is)
-    (onward put.result c.args.text.now words more _ c.put_embed-in-NoValue.new.text put.new.text c.in_ok-put_embed-in-NoValue.ensures (sym (append_assoc words (codes " ") (node_name rule c.in-NoValue.node))) put.ensures)
+    (onward put.result c.args.text.now words more _ c.put_embed-in-NoValue.new.text put.new.text c.in_ok-put_embed-in-NoValue.ensures.ok (sym (append_assoc words (codes " ") (node_name rule c.in-NoValue.node))) put.ensures)
 
 pub returns-in_ok-put_embed-in-Merge : goal.returns-in_ok-put_embed-in-Merge
 returns-in_ok-put_embed-in-Merge c =
@@ -67,7 +67,7 @@ returns-in_ok-put_embed-in-Merge c =
     let words = codes "merge " ++ embed_name c.args.schema.now c.in-Merge.embed in
     let more = codes " " ++ node_name rule c.in-Merge.node ++ codes " " ++ node_name rule c.in-Merge.other in
     subst (λ f. OnOk put.result (put.new.text ≡ c.args.text.now ++ rule_fault_words c.args.schema.now rule f)) (sym c.in-Merge.is)
-    (onward put.result c.args.text.now words more _ c.put_embed-in-Merge.new.text put.new.text c.in_ok-put_embed-in-Merge.ensures (four_more words (codes " ") (node_name rule c.in-Merge.node) (codes " ") (node_name rule c.in-Merge.other)) put.ensures)
+    (onward put.result c.args.text.now words more _ c.put_embed-in-Merge.new.text put.new.text c.in_ok-put_embed-in-Merge.ensures.ok (four_more words (codes " ") (node_name rule c.in-Merge.node) (codes " ") (node_name rule c.in-Merge.other)) put.ensures)
 
 pub returns-in_ok-put_embed-in-MergeAlong : goal.returns-in_ok-put_embed-in-MergeAlong
 returns-in_ok-put_embed-in-MergeAlong c =
@@ -76,4 +76,4 @@ returns-in_ok-put_embed-in-MergeAlong c =
     let words = codes "merge-along " ++ embed_name c.args.schema.now c.in-MergeAlong.embed in
     let more = codes " " ++ node_name rule c.in-MergeAlong.node ++ codes " " ++ decimal c.in-MergeAlong.place in
     subst (λ f. OnOk put.result (put.new.text ≡ c.args.text.now ++ rule_fault_words c.args.schema.now rule f)) (sym c.in-MergeAlong.is)
-    (onward put.result c.args.text.now words more _ c.put_embed-in-MergeAlong.new.text put.new.text c.in_ok-put_embed-in-MergeAlong.ensures (four_more words (codes " ") (node_name rule c.in-MergeAlong.node) (codes " ") (decimal c.in-MergeAlong.place)) put.ensures)
+    (onward put.result c.args.text.now words more _ c.put_embed-in-MergeAlong.new.text put.new.text c.in_ok-put_embed-in-MergeAlong.ensures.ok (four_more words (codes " ") (node_name rule c.in-MergeAlong.node) (codes " ") (decimal c.in-MergeAlong.place)) put.ensures)

@@ -9,5 +9,5 @@ returns c told tells =
     counts_told c.put.result told c.count_told-told.result.done c.count_told-told.result.refused c.args.darts c.args.next c.args.text.now
     c.put_count.new.text c.put_count-2.new.text c.put_number.new.text c.put_number-2.new.text c.put.new.self counts.0 counts.1
     c.in_ok-put_count.ensures c.in_ok-put_count-2.ensures
-    (subst (λ n. c.put_number.new.text ≡ c.put_count-2.new.text ++ (codes " darts " ++ decimal n)) c.from.ensures c.in_ok-put_number.ensures)
-    (subst (λ n. c.put_number-2.new.text ≡ c.put_number.new.text ++ (codes " next " ++ decimal n)) c.from-2.ensures c.in_ok-put_number-2.ensures) c.put.ensures.ok
+    (subst (λ n. c.put_number.new.text ≡ c.put_count-2.new.text ++ (codes " darts " ++ decimal n)) c.from.ensures c.in_ok-put_number.ensures.ok)
+    (subst (λ n. c.put_number-2.new.text ≡ c.put_number.new.text ++ (codes " next " ++ decimal n)) c.from-2.ensures c.in_ok-put_number-2.ensures.ok) c.put.ensures.ok

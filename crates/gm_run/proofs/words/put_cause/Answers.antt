@@ -13,7 +13,7 @@ returns-in_ok-put_instance-in-Arc c =
     let nodes = map node_of c.args.nodes.now in
     subst (λ r. OnOk put.result (put.new.text ≡ c.args.text.now ++ refusal_words c.args.schema.now nodes r)) (sym c.in-Arc.is)
     (onward put.result c.args.text.now (codes "no-match arc " ++ instance_words nodes c.in-Arc.node c.in-Arc.position) (codes " " ++ decimal c.in-Arc.label) _ c.put_instance.new.text put.new.text c.in_ok-put_instance-in-Arc.ensures (sym (append_assoc (codes "no-match arc " ++ instance_words nodes c.in-Arc.node c.in-Arc.position) (codes " ") (decimal c.in-Arc.label)))
-    (subst (λ n. OnOk put.result (put.new.text ≡ c.put_instance.new.text ++ (codes " " ++ decimal n))) c.from-in-Arc.ensures put.ensures))
+    (subst (λ n. OnOk put.result (put.new.text ≡ c.put_instance.new.text ++ (codes " " ++ decimal n))) c.from-in-Arc.ensures put.ensures.ok))
 
 pub returns-in_ok-put_instance-in-Same : goal.returns-in_ok-put_instance-in-Same
 returns-in_ok-put_instance-in-Same c =

@@ -11,4 +11,4 @@ pub returns : goal.returns
 returns c =
     let first = c.args.words.now ++ decimal c.args.number in
     let second = c.args.more_words.now ++ decimal c.args.more in
-    onward c.put_number-2.result c.args.text.now first second _ c.put_number.new.text c.put_number-2.new.text c.in_ok-put_number.ensures (sym (append_assoc first c.args.more_words.now (decimal c.args.more))) c.put_number-2.ensures
+    onward c.put_number-2.result c.args.text.now first second _ c.put_number.new.text c.put_number-2.new.text c.in_ok-put_number.ensures.ok (sym (append_assoc first c.args.more_words.now (decimal c.args.more))) c.put_number-2.ensures.ok
