@@ -2,6 +2,7 @@
 one line with the file's name. And the programs of bench answer --help, and begin no proof."""
 import io
 import os
+import re
 import shutil
 import signal
 import subprocess
@@ -93,9 +94,11 @@ def test_progress(monkeypatch: pytest.MonkeyPatch) -> None:
         monkeypatch.setattr(sys, "stderr", said)
         with progress.show_progress("mesh", is_quiet):
             progress.tell("reading a file")
-            time.sleep(0.3)
+            until = time.monotonic() + 20
+            while is_terminal and not is_quiet and not said.getvalue() and time.monotonic() < until:
+                time.sleep(0.02)
         if is_terminal and not is_quiet:
-            assert "mesh: reading a file, 0 s" in said.getvalue() and said.getvalue().endswith(" \r")
+            assert re.search(r"mesh: reading a file, \d+ s", said.getvalue()) and said.getvalue().endswith(" \r")
         else:
             assert not said.getvalue()
 
