@@ -119,7 +119,9 @@ def test_interrupt(tmp_path: Path) -> None:
     pipe = tmp_path / "waits.gbook"
     os.mkfifo(pipe)     # the command waits here for a book that nobody writes
     words: list[str | Path] = [sys.executable, TOP / "tools" / "book", "join", pipe, "--out", tmp_path / "out"]
-    with subprocess.Popen(words, stderr=subprocess.PIPE, text=True) as waiting:
+    # A gate that a shell started in the background hands on that an interrupt is ignored.
+    with subprocess.Popen(words, stderr=subprocess.PIPE, text=True,
+                          preexec_fn=lambda: signal.signal(signal.SIGINT, signal.SIG_DFL)) as waiting:
         with pipe.open("wb"):       # opens as soon as the command reads
             time.sleep(0.5)
             waiting.send_signal(signal.SIGINT)

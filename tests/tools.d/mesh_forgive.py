@@ -230,7 +230,9 @@ def test_a_script_runs_again_when_it_changes():
         model.write_bytes(CUBE.read_bytes())
         script.write_text("apply nothing 0\n")
         words = [sys.executable, TOOL, "run", model, BOOK, script, out, "--watch"]
-        watching = subprocess.Popen(words, stdout=subprocess.PIPE, stderr=subprocess.DEVNULL, text=True)
+        # A gate that a shell started in the background hands on that an interrupt is ignored.
+        watching = subprocess.Popen(words, stdout=subprocess.PIPE, stderr=subprocess.DEVNULL, text=True,
+                                    preexec_fn=lambda: signal.signal(signal.SIGINT, signal.SIG_DFL))
         try:
             assert "refused SCRIPT" in watching.stdout.readline() and not out.exists()
             script.write_text(LIFT)
